@@ -1,0 +1,3 @@
+mod Worked
+pub mod TwoDigitLemmas
+pub mod Values

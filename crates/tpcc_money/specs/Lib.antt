@@ -1,0 +1,4 @@
+pub mod Amounts
+pub mod Numerals
+pub mod Texts
+pub mod TwoDigits

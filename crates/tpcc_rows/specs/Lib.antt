@@ -1,0 +1,17 @@
+pub mod ChosenCustomer
+pub mod Conditions
+pub mod Delivery
+pub mod LastName
+pub mod Layout
+pub mod Lists
+pub mod Lookups
+pub mod Moments
+pub mod NewOrder
+pub mod Opening
+pub mod Payment
+pub mod Printable
+pub mod Ranges
+pub mod Replay
+pub mod Tables
+pub mod Turn
+pub mod WellKeyed

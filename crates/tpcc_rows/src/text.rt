@@ -1,0 +1,108 @@
+//! Short texts of printable ASCII.
+ghost use Rattle.std.specs.Prelude.{◌≡◌, ◌<◌, ◌≤◌, ◌↔◌, ◌++◌, IfOk, IsErrOf, IsTrue, length, take, true, false};
+ghost use Rattle.std.specs.List.{list_all};
+ghost use Rattle.tpcc_rows.specs.Printable.{is_printable};
+
+use std::alloc::Global;
+use std::marker::Model;
+use thiserror::Error;
+use tpcc_money::NoMemory;
+
+/// Why bytes are no text.
+#[derive(Clone, Copy, Debug, PartialEq, Eq, Error)]
+pub enum TextFault {
+    #[error("TooLong")]
+    TooLong,
+    #[error("NotAscii")]
+    NotAscii,
+    #[error("NoMemory")]
+    NoMemory,
+}
+
+/// Bytes of 32 to 126, seen as their list.
+#[derive(Debug, Drop)]
+pub struct Text {
+    bytes: Vec<u8>,
+}
+
+impl Model for Text {
+    ghost use Rattle.std.specs.Prelude.{ℕ, List, ◌≡◌, true};
+    ghost use Rattle.std.specs.List.{list_all};
+    ghost use Rattle.tpcc_rows.specs.Printable.{is_printable};
+
+    ghost Value = { List ℕ };
+
+    ghost view = { λ t. t.bytes.items };
+
+    ghost invariant = { λ t. list_all is_printable t.bytes.items ≡ true };
+}
+
+fn is_plain(byte: u8) -> bool
+    ensures { result ≡ is_printable byte }
+{
+    32 <= byte && byte <= 126
+}
+
+/// Whether all bytes may stand in a text.
+pub fn are_plain(bytes: &[u8]) -> bool
+    ensures { result ≡ list_all is_printable bytes.now }
+{
+    bytes.iter().all(|byte| is_plain(*byte))
+}
+
+impl Text {
+    /// The text of some bytes, at most so many.
+    pub fn new(alloc: Global, bytes: &[u8], bound: usize) -> Result<Text, TextFault>
+        ensures ok { IfOk result (λ t. t ≡ bytes.now) }
+        ensures too_long { IsErrOf result TextFault.TooLong ↔ (bound < length bytes.now) }
+        ensures not_ascii { IsErrOf result TextFault.NotAscii ↔ ((length bytes.now ≤ bound) × (list_all is_printable bytes.now ≡ false)) }
+        ensures memory { IsErrOf result TextFault.NoMemory → (length bytes.now ≤ bound) × (list_all is_printable bytes.now ≡ true) }
+    {
+        if bytes.len() > bound {
+            return Err(TextFault::TooLong);
+        }
+        if !are_plain(bytes) {
+            return Err(TextFault::NotAscii);
+        }
+        match Vec::from_slice(alloc, bytes) {
+            Ok(bytes) => Ok(Text { bytes }),
+            Err(_) => Err(TextFault::NoMemory),
+        }
+    }
+
+    /// The text of bytes that are all printable.
+    pub fn of(bytes: Vec<u8>) -> Text
+        requires { list_all is_printable bytes.items ≡ true }
+        ensures { result ≡ bytes.items }
+    {
+        Text { bytes }
+    }
+
+    pub fn bytes(&self) -> &[u8]
+        ensures bytes { result.now ≡ self.now }
+        ensures printable { list_all is_printable self.now ≡ true }
+    {
+        self.bytes.as_slice()
+    }
+
+    pub fn len(&self) -> usize
+        ensures { result ≡ length self.now }
+    {
+        self.bytes.len()
+    }
+
+    pub fn is_empty(&self) -> bool
+        ensures { IsTrue result ↔ (length self.now ≡ 0) }
+    {
+        self.bytes.is_empty()
+    }
+
+    pub fn duplicate(&self) -> Result<Text, NoMemory>
+        ensures { IfOk result (λ t. t ≡ self.now) }
+    {
+        match self.bytes.clone() {
+            Ok(bytes) => Ok(Text { bytes }),
+            Err(_) => Err(NoMemory),
+        }
+    }
+}
