@@ -1,12 +1,12 @@
 //! Short texts of printable ASCII.
-ghost use Rattle.std.specs.Prelude.{◌≡◌, ◌==◌, ◌<◌, ◌≤◌, ◌↔◌, IfOk, IsErrOf, IsTrue, length, true, false};
+ghost use Rattle.std.specs.Prelude.{◌≡◌, ◌==◌, ◌<◌, ◌≤◌, ◌↔◌, IfOk, IsErrOf, IsTrue, length, [], true, false};
 ghost use Rattle.std.specs.List.{list_all};
 ghost use Rattle.std.specs.Cmp.Lexicographic.{pointwise};
 ghost use Rattle.std.specs.Cmp.Rules.{comparing};
 ghost use Rattle.std.proofs.Common.{rules};
 ghost use Rattle.tpcc_rows.specs.Printable.{is_printable};
 
-use std::alloc::Global;
+use std::alloc::{Allocator, Global};
 use std::marker::Model;
 use thiserror::Error;
 use tpcc_money::NoMemory;
@@ -27,11 +27,11 @@ pub enum TextFault {
 
 /// A text of a column: bytes of 32 to 126, seen as their list.
 #[derive(Debug, Drop)]
-pub struct Text {
-    bytes: Vec<u8>,
+pub struct Text<A: Allocator = Global> {
+    bytes: Vec<u8, A>,
 }
 
-impl Model for Text {
+impl<A: Allocator> Model for Text<A> {
     ghost use Rattle.std.specs.Prelude.{ℕ, List, ◌≡◌, true};
     ghost use Rattle.std.specs.List.{list_all};
     ghost use Rattle.tpcc_rows.specs.Printable.{is_printable};
@@ -56,9 +56,9 @@ pub fn are_plain(bytes: &[u8]) -> bool
     bytes.iter().all(|byte| is_plain(*byte))
 }
 
-impl Text {
+impl<A: Allocator> Text<A> {
     /// A copy of the bytes as a text of at most `bound` bytes.
-    pub fn new(alloc: Global, bytes: &[u8], bound: usize) -> Result<Text, TextFault>
+    pub fn new(alloc: A, bytes: &[u8], bound: usize) -> Result<Text<A>, TextFault>
         ensures ok { IfOk result (λ t. t ≡ bytes.now) }
         ensures too_long { IsErrOf result TextFault.TooLong ↔ (bound < length bytes.now) }
         ensures not_ascii { IsErrOf result TextFault.NotAscii ↔ ((length bytes.now ≤ bound) × (list_all is_printable bytes.now ≡ false)) }
@@ -77,7 +77,7 @@ impl Text {
     }
 
     /// The text of bytes that are all 32 to 126; nothing is copied.
-    pub fn of(bytes: Vec<u8>) -> Text
+    pub fn of(bytes: Vec<u8, A>) -> Text<A>
         requires printable { list_all is_printable bytes.items ≡ true }
         ensures text { result ≡ bytes.items }
     {
@@ -101,13 +101,15 @@ impl Text {
 
     /// Whether the text has no byte.
     pub fn is_empty(&self) -> bool
-        ensures empty { IsTrue result ↔ (length self.now ≡ 0) }
+        ensures empty { IsTrue result ↔ (self.now ≡ []) }
     {
         self.bytes.is_empty()
     }
+}
 
+impl<A: Allocator + Clone> Text<A> {
     /// A copy of the text.
-    pub fn duplicate(&self) -> Result<Text, NoMemory>
+    pub fn duplicate(&self) -> Result<Text<A>, NoMemory>
         ensures equal { IfOk result (λ t. t ≡ self.now) }
     {
         match self.bytes.clone() {
@@ -117,7 +119,7 @@ impl Text {
     }
 }
 
-impl PartialEq for Text {
+impl<A: Allocator> PartialEq for Text<A> {
     ghost eq = { pointwise ◌==◌ };
 
     ghost laws = { Prim.search (comparing, rules) };
@@ -127,6 +129,6 @@ impl PartialEq for Text {
     }
 }
 
-impl Eq for Text {
+impl<A: Allocator> Eq for Text<A> {
     ghost laws = { Prim.search (comparing, rules) };
 }
