@@ -55,10 +55,11 @@ impl StatusQuery {
     pub fn duplicate(&self) -> Result<StatusQuery, NoMemory>
         ensures equal { IfOk result (λ copy. copy ≡ self.now) }
     {
+        let district = self.district;
         let who = self.who.duplicate()?;
         Ok(StatusQuery {
             warehouse: self.warehouse,
-            district: self.district,
+            district,
             who,
         })
     }

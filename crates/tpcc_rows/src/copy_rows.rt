@@ -33,10 +33,11 @@ impl WarehouseRow {
     pub fn duplicate(&self) -> Result<WarehouseRow, NoMemory>
         ensures equal { IfOk result (λ copy. copy ≡ self.now) }
     {
+        let id = self.id;
         let name = self.name.duplicate()?;
         let address = self.address.duplicate()?;
         Ok(WarehouseRow {
-            id: self.id,
+            id,
             name,
             address,
             tax: self.tax,

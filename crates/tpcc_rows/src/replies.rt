@@ -38,7 +38,7 @@ pub struct EnteredLine {
 /// The lines of an accepted order, seen as their list.
 #[derive(Debug, Drop)]
 pub struct EnteredLines {
-    items: Vec<EnteredLine>,
+    entered: Vec<EnteredLine>,
 }
 
 impl Model for EnteredLines {
@@ -47,7 +47,7 @@ impl Model for EnteredLines {
 
     ghost Value = { List EnteredLine };
 
-    ghost view = { λ l. l.items.items };
+    ghost view = { λ l. l.entered.items };
 }
 
 impl EnteredLines {
@@ -55,29 +55,29 @@ impl EnteredLines {
     pub fn new(items: Vec<EnteredLine>) -> EnteredLines
         ensures lines { result ≡ items.items }
     {
-        EnteredLines { items }
+        EnteredLines { entered: items }
     }
 
     /// The lines, in their order.
     pub fn as_slice(&self) -> &[EnteredLine]
         ensures lines { result.now ≡ self.now }
     {
-        self.items.as_slice()
+        self.entered.as_slice()
     }
 
     /// A copy of the lines.
     pub fn duplicate(&self) -> Result<EnteredLines, NoMemory>
         ensures equal { IfOk result (λ copy. copy ≡ self.now) }
     {
-        let mut items = Vec::new(*self.items.allocator());
-        for line in self.items.as_slice() {
+        let mut items = Vec::new(*self.entered.allocator());
+        for line in self.as_slice() {
             let copy = line.duplicate()?;
             match items.push(copy) {
                 Ok(()) => {}
                 Err(_) => return Err(NoMemory),
             }
         }
-        Ok(EnteredLines { items })
+        Ok(EnteredLines { entered: items })
     }
 }
 
@@ -89,7 +89,7 @@ impl PartialEq for EnteredLines {
     ghost laws = { lists_per laws-law };
 
     fn eq(&self, other: &Self) -> bool {
-        self.items.as_slice() == other.items.as_slice()
+        self.as_slice() == other.as_slice()
     }
 }
 
@@ -178,7 +178,7 @@ pub struct StatusLine {
 /// The lines of a customer's last order, seen as their list.
 #[derive(Debug, Drop)]
 pub struct StatusLines {
-    items: Vec<StatusLine>,
+    shown: Vec<StatusLine>,
 }
 
 impl Model for StatusLines {
@@ -187,7 +187,7 @@ impl Model for StatusLines {
 
     ghost Value = { List StatusLine };
 
-    ghost view = { λ l. l.items.items };
+    ghost view = { λ l. l.shown.items };
 }
 
 impl StatusLines {
@@ -195,22 +195,22 @@ impl StatusLines {
     pub fn new(items: Vec<StatusLine>) -> StatusLines
         ensures lines { result ≡ items.items }
     {
-        StatusLines { items }
+        StatusLines { shown: items }
     }
 
     /// The lines, in their order.
     pub fn as_slice(&self) -> &[StatusLine]
         ensures lines { result.now ≡ self.now }
     {
-        self.items.as_slice()
+        self.shown.as_slice()
     }
 
     /// A copy of the lines.
     pub fn duplicate(&self) -> Result<StatusLines, NoMemory>
         ensures equal { IfOk result (λ copy. copy ≡ self.now) }
     {
-        match self.items.clone() {
-            Ok(items) => Ok(StatusLines { items }),
+        match self.shown.clone() {
+            Ok(copy) => Ok(StatusLines { shown: copy }),
             Err(_) => Err(NoMemory),
         }
     }
@@ -224,7 +224,7 @@ impl PartialEq for StatusLines {
     ghost laws = { lists_per laws-law };
 
     fn eq(&self, other: &Self) -> bool {
-        self.items.as_slice() == other.items.as_slice()
+        self.as_slice() == other.as_slice()
     }
 }
 

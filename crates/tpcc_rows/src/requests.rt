@@ -62,7 +62,7 @@ impl Lines {
         ensures equal { IfOk result (λ copy. copy ≡ self.now) }
     {
         match self.items.clone() {
-            Ok(items) => Ok(Lines { items }),
+            Ok(copy) => Ok(Lines { items: copy }),
             Err(_) => Err(NoMemory),
         }
     }
@@ -76,7 +76,7 @@ impl PartialEq for Lines {
     ghost laws = { lists_per laws-law };
 
     fn eq(&self, other: &Self) -> bool {
-        self.items.as_slice() == other.items.as_slice()
+        self.as_slice() == other.as_slice()
     }
 }
 

@@ -220,10 +220,11 @@ impl NewOrderRow {
         ensures district { result.district ≡ self.now.district }
         ensures order { result.order ≡ self.now.order }
     {
+        let order = self.order;
         NewOrderKey {
             warehouse: self.warehouse,
             district: self.district,
-            order: self.order,
+            order,
         }
     }
 }

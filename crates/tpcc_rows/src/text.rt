@@ -113,7 +113,7 @@ impl<A: Allocator + Clone> Text<A> {
         ensures equal { IfOk result (λ t. t ≡ self.now) }
     {
         match self.bytes.clone() {
-            Ok(bytes) => Ok(Text { bytes }),
+            Ok(copy) => Ok(Text { bytes: copy }),
             Err(_) => Err(NoMemory),
         }
     }
@@ -125,7 +125,7 @@ impl<A: Allocator> PartialEq for Text<A> {
     ghost laws = { Prim.search (comparing, rules) };
 
     fn eq(&self, other: &Self) -> bool {
-        self.bytes.as_slice() == other.bytes.as_slice()
+        self.bytes() == other.bytes()
     }
 }
 
