@@ -69,6 +69,7 @@ impl RolledBackOrder {
     pub fn duplicate(&self) -> Result<RolledBackOrder, NoMemory>
         ensures equal { IfOk result (λ copy. copy ≡ self.now) }
     {
+        let order = self.order;
         let last = self.last.duplicate()?;
         let credit = self.credit.duplicate()?;
         Ok(RolledBackOrder {
@@ -77,7 +78,7 @@ impl RolledBackOrder {
             customer: self.customer,
             last,
             credit,
-            order: self.order,
+            order,
         })
     }
 }
