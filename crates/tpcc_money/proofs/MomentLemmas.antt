@@ -1,8 +1,8 @@
 -- The civil date of a moment is the calendar's.
-use Rattle.std.proofs.Common.{◌≡◌, ◌∙◌, sym, refl, ap, ℕ, zero, suc, ◌+◌, ◌*◌, ◌-◌, ◌/◌, ◌%◌, ◌<◌, ◌≤◌, ◌++◌, ◌∷◌, Bool, true, false, cond, nat_lt, arith}
-use Rattle.std.specs.Prelude.{ℤ, pos, neg_ℤ, ◌+ℤ◌, ◌≤ℤ◌}
+use Rattle.std.proofs.Common.{◌≡◌, sym, refl, ℕ, zero, suc, ◌+◌, ◌*◌, ◌-◌, ◌/◌, ◌%◌, ◌<◌, ◌≤◌, ◌++◌, ◌∷◌, Bool, true, false, cond, nat_lt, arith}
+use Rattle.std.specs.Prelude.{pos, ◌+ℤ◌}
 use Rattle.std.proofs.lemmas.Bool.Decides.{nat_tests}
-use Rattle.jiff_core.specs.Calendar.{days_in_month, days_in_year, days_from_civil, day_count}
+use Rattle.jiff_core.specs.Calendar.{days_in_month, days_in_year, day_count}
 use Rattle.jiff_core.specs.Date.{epoch_day}
 use Rattle.jiff_core.specs.DateTime.{civil_nanos}
 use Rattle.jiff_core.specs.Time.{time_nanos}
@@ -102,8 +102,21 @@ text_by : (civil : DateTime) (year month day seconds : ℕ) → civil.date.year 
     → civil.time.hour ≡ seconds / 3600 → civil.time.minute ≡ seconds / 60 % 60 → civil.time.second ≡ seconds % 60 → civil.time.subsec_nanosecond ≡ 0
     → year ≤ 9999 → month ≤ 12 → day ≤ 31 → seconds < 86400 → iso_datetime_text civil ≡ date_text year month day ++ 84 ∷ time_text seconds
 text_by civil year month day seconds y mo d h mi s sub ys ms ds ss =
-    rw (padded_four year (omega (arith, ys)), padded_two month (omega (arith, ms)), padded_two day (omega (arith, ds)),
-        padded_two (seconds / 3600) (omega (arith, ss)), padded_two (seconds / 60 % 60) (omega arith), padded_two (seconds % 60) (omega arith), y, mo, d, h, mi, s, sub) refl
+    rw (
+      padded_four year (omega (arith, ys)),
+      padded_two month (omega (arith, ms)),
+      padded_two day (omega (arith, ds)),
+      padded_two (seconds / 3600) (omega (arith, ss)),
+      padded_two (seconds / 60 % 60) (omega arith),
+      padded_two (seconds % 60) (omega arith),
+      y,
+      mo,
+      d,
+      h,
+      mi,
+      s,
+      sub,
+    ) refl
 
 -- and the text of that moment
 pub text_is : (civil : DateTime) (s : ℕ) → s < 4102444800 → civil_nanos civil ≡ pos (s * 1000000000) → iso_datetime_text civil ≡ moment_text s

@@ -39,7 +39,7 @@ impl Cents {
         ensures sum { IfSome result (λ c. c ≡ self +ℤ other) }
         ensures fits { IsSome result ↔ FitsSigned w64 (self +ℤ other) }
     {
-        self.0.checked_add(other.0).map(Cents::new)
+        self.value().checked_add(other.value()).map(Cents::new)
     }
 
     /// The sum, where 64 bits hold it.
@@ -47,7 +47,7 @@ impl Cents {
         requires { FitsSigned w64 (self +ℤ other) }
         ensures { result ≡ self +ℤ other }
     {
-        Cents(self.0 + other.0)
+        Cents(self.value() + other.value())
     }
 
     /// The difference, where 64 bits hold it.
@@ -55,7 +55,7 @@ impl Cents {
         requires { FitsSigned w64 (self -ℤ other) }
         ensures { result ≡ self -ℤ other }
     {
-        Cents(self.0 - other.0)
+        Cents(self.value() - other.value())
     }
 }
 
@@ -67,8 +67,8 @@ impl fmt::Display for Cents {
     ghost output = { λ c. Some (amount_text c) };
 
     fn fmt<W: fmt::Write>(&self, f: &mut fmt::Formatter<W>) -> fmt::Result {
-        let sign = if self.0 < 0 { "-" } else { "" };
-        let size = self.0.unsigned_abs();
+        let sign = if self.value() < 0 { "-" } else { "" };
+        let size = self.value().unsigned_abs();
         let (units, cents) = (size / 100, size % 100);
         write!(f, "{sign}{units}.{cents:02}")
     }

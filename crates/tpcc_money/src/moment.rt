@@ -57,7 +57,7 @@ impl Moment {
         ensures instant { civil_nanos result ≡ pos (self * 1000000000) }
         ensures range { self < 4102444800 }
     {
-        let since_1970 = Timestamp::from_second(i64::from(self.0)).unwrap();
+        let since_1970 = Timestamp::from_second(i64::from(self.seconds())).unwrap();
         Offset::UTC.to_datetime(since_1970)
     }
 }

@@ -46,6 +46,6 @@ impl fmt::Display for Rate {
     ghost output = { λ r. Some (rate_text r) };
 
     fn fmt<W: fmt::Write>(&self, f: &mut fmt::Formatter<W>) -> fmt::Result {
-        write!(f, "0.{:04}", self.0)
+        write!(f, "0.{:04}", self.value())
     }
 }

@@ -13,7 +13,11 @@ fn amounts_are_added_until_64_bits_are_full(rt: HostRuntime) {
         (i64::MIN, -1, None),
     ] {
         let found = Cents::new(left).checked_add(Cents::new(right));
-        assert_eq!(rt; found, sum.map(|cents| Cents::new(cents)), "{left} and {right}");
+        assert_eq!(rt;
+            found,
+            sum.map(|cents| Cents::new(cents)),
+            "{left} and {right}"
+        );
     }
 }
 
@@ -80,12 +84,48 @@ fn lines_and_totals(rt: HostRuntime) {
     assert_eq!(rt; line_amount(Cents::new(119), 10), Cents::new(1190));
     assert_eq!(rt; line_amount(Cents::new(99_999), 10), Cents::new(999_990));
     for (sum, discount, warehouse_tax, district_tax, total) in [
-        (Cents::new(5000), Rate::new(100), Rate::new(1000), Rate::new(100), 5495),
-        (Cents::new(1500), Rate::new(100), Rate::new(1000), Rate::new(100), 1648),
-        (Cents::new(510), Rate::new(100), Rate::new(1000), Rate::new(100), 560),
-        (Cents::new(718), Rate::new(100), Rate::new(1000), Rate::new(100), 789),
-        (Cents::new(0), Rate::new(0), Rate::new(2000), Rate::new(2000), 0),
-        (Cents::new(15_000_000), Rate::new(0), Rate::new(2000), Rate::new(2000), 21_000_000),
+        (
+            Cents::new(5000),
+            Rate::new(100),
+            Rate::new(1000),
+            Rate::new(100),
+            5495,
+        ),
+        (
+            Cents::new(1500),
+            Rate::new(100),
+            Rate::new(1000),
+            Rate::new(100),
+            1648,
+        ),
+        (
+            Cents::new(510),
+            Rate::new(100),
+            Rate::new(1000),
+            Rate::new(100),
+            560,
+        ),
+        (
+            Cents::new(718),
+            Rate::new(100),
+            Rate::new(1000),
+            Rate::new(100),
+            789,
+        ),
+        (
+            Cents::new(0),
+            Rate::new(0),
+            Rate::new(2000),
+            Rate::new(2000),
+            0,
+        ),
+        (
+            Cents::new(15_000_000),
+            Rate::new(0),
+            Rate::new(2000),
+            Rate::new(2000),
+            21_000_000,
+        ),
     ] {
         let found = order_total(sum, discount, warehouse_tax, district_tax);
         assert_eq!(rt; found.value(), total);
@@ -105,7 +145,11 @@ fn numbers_are_read(rt: HostRuntime) {
         ("7 ", None),
         ("", None),
     ] {
-        assert_eq!(rt; parse_number(text.as_bytes(), 4_294_967_295), number, "{text}");
+        assert_eq!(rt;
+            parse_number(text.as_bytes(), 4_294_967_295),
+            number,
+            "{text}"
+        );
     }
 }
 
@@ -117,7 +161,11 @@ fn amounts_are_read(rt: HostRuntime) {
         ("5000.01", 500_001),
         ("9999999999.99", 999_999_999_999),
     ] {
-        assert_eq!(rt; parse_amount(text.as_bytes()), Ok(Cents::new(cents)), "{text}");
+        assert_eq!(rt;
+            parse_amount(text.as_bytes()),
+            Ok(Cents::new(cents)),
+            "{text}"
+        );
     }
     for (text, fault) in [
         ("10000000000.00", AmountFault::Range),
