@@ -1,3 +1,5 @@
 mod Worked
-pub mod TwoDigitLemmas
 pub mod Values
+pub mod DigitLemmas
+pub mod TotalLemmas
+pub mod MomentLemmas

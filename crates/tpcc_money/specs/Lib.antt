@@ -1,4 +1,3 @@
 pub mod Amounts
 pub mod Numerals
 pub mod Texts
-pub mod TwoDigits

@@ -1,0 +1,63 @@
+//! Points in time.
+ghost use Rattle.std.specs.Prelude.{◌≡◌, ◌<◌, ◌*◌, pos, IfOk};
+ghost use Rattle.jiff.specs.Words.{civil_nanos};
+ghost use Rattle.tpcc_money.specs.Texts.{moment_text};
+
+use crate::memory::NoMemory;
+use jiff::Timestamp;
+use jiff::civil::DateTime;
+use jiff::tz::Offset;
+use std::alloc::Global;
+use std::marker::Model;
+
+/// A moment in whole seconds since the start of 1970 in UTC, before the year 2100.
+#[derive(Clone, Copy, Debug, PartialEq, Eq, PartialOrd, Ord)]
+pub struct Moment(u32);
+
+impl Model for Moment {
+    ghost use Rattle.std.specs.Prelude.{ℕ, ◌<◌};
+
+    ghost Value = { ℕ };
+
+    ghost view = { λ m. m.0 };
+
+    ghost inverse = { λ n. record { 0 = n } };
+
+    ghost invariant = { λ m. m.0 < 4102444800 };
+}
+
+impl Moment {
+    /// So many seconds after the start of 1970.
+    pub fn new(seconds: u32) -> Self
+        requires { seconds < 4102444800 }
+        ensures { result ≡ seconds }
+    {
+        Moment(seconds)
+    }
+
+    /// The seconds since the start of 1970.
+    pub fn seconds(self) -> u32
+        ensures value { result ≡ self }
+        ensures range { self < 4102444800 }
+    {
+        self.0
+    }
+
+    /// The civil date and time in UTC, as `1970-01-01T00:00:00`; refused only for want of memory.
+    pub fn text(self, alloc: Global) -> Result<Vec<u8>, NoMemory>
+        ensures { IfOk result (λ text. text.items ≡ moment_text self) }
+    {
+        match self.civil().to_string(alloc) {
+            Ok(text) => Ok(text.into_bytes()),
+            Err(_) => Err(NoMemory),
+        }
+    }
+
+    fn civil(self) -> DateTime
+        ensures instant { civil_nanos result ≡ pos (self * 1000000000) }
+        ensures range { self < 4102444800 }
+    {
+        let since_1970 = Timestamp::from_second(i64::from(self.seconds())).unwrap();
+        Offset::UTC.to_datetime(since_1970)
+    }
+}
