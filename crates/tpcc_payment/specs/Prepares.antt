@@ -14,11 +14,11 @@ use Rattle.tpcc_rows.specs.Tables.{Rows, find_warehouse, find_district}
 use Rattle.tpcc_rows.specs.ChosenCustomer.{chosen_customer}
 use Rattle.tpcc_rows.specs.Payment.{payment_refusal, payment_reply, payment_note, after_payment, has_bad_credit}
 use Rattle.tpcc_tables.specs.Writes.{with_payment, IsPaymentOf}
-use Rattle.tpcc_payment.specs.declared.Named.{Named}
-use Rattle.tpcc_payment.specs.declared.Prepared.{Prepared}
+use Rattle.tpcc_payment.specs.declared.named.NamedRows.{NamedRows}
+use Rattle.tpcc_payment.specs.declared.transaction.Prepared.{Prepared}
 
 -- the three rows of a payment that nothing refuses
-pub record IsNamed (rows : Rows) (payment : Payment) (named : Named) : Type 0 where
+pub record IsNamed (rows : Rows) (payment : Payment) (named : NamedRows) : Type 0 where
   pub accepted : payment_refusal rows payment ≡ None
   pub warehouse : find_warehouse rows payment.warehouse ≡ Some named.warehouse.now
   pub district : find_district rows payment.warehouse payment.district ≡ Some named.district.now
