@@ -1,10 +1,11 @@
 //! The tables as one value.
 ghost use Rattle.std.specs.Prelude.{◌≡◌, ◌<◌, ◌≤◌, ◌+◌, OnOk, OnErr, IsOk, [], ◌∷◌, ◌++◌};
 ghost use Rattle.std.specs.Option.{option_copied};
-ghost use Rattle.tpcc_rows.specs.Tables.{find_warehouse, find_district, find_customer, find_order, find_item, find_stock};
+ghost use Rattle.tpcc_rows.specs.Tables.{find_warehouse, find_district, find_customer, find_order, find_new_order, find_item, find_stock};
 ghost use Rattle.tpcc_rows.specs.declared.requests.Who.TheVariants.{Name};
 ghost use Rattle.tpcc_rows.specs.ChosenCustomer.{chosen_customer};
 ghost use Rattle.tpcc_rows.specs.WellKeyed.{IsWellKeyed};
+ghost use Rattle.tpcc_tables.specs.Loads.{find_order_line};
 ghost use Rattle.tpcc_tables.specs.Writes.{with_payment, IsPayment};
 
 use crate::{find, named, place};
@@ -102,6 +103,32 @@ impl Tables {
         ensures { option_copied result ≡ find_order self.now.rows warehouse district order }
     {
         find::order(self.orders.as_slice(), warehouse, district, order)
+    }
+
+    /// The ORDER-LINE row of a key.
+    pub fn line(
+        &self,
+        warehouse: u32,
+        district: u32,
+        order: u32,
+        number: u32,
+    ) -> Option<&OrderLineRow>
+        ensures { option_copied result ≡ find_order_line self.now.rows warehouse district order number }
+    {
+        find::line(
+            self.order_lines.as_slice(),
+            warehouse,
+            district,
+            order,
+            number,
+        )
+    }
+
+    /// The NEW-ORDER row of a key.
+    pub fn new_order(&self, warehouse: u32, district: u32, order: u32) -> Option<NewOrderRow>
+        ensures { result ≡ find_new_order self.now.rows warehouse district order }
+    {
+        find::new_order(self.new_orders.as_slice(), warehouse, district, order)
     }
 
     pub fn item(&self, item: u32) -> Option<&ItemRow>
