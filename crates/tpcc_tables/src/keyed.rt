@@ -1,5 +1,5 @@
 //! Rows with a primary key, in ascending order of their keys.
-ghost use Rattle.std.specs.Prelude.{◌≡◌, ◌<◌, ◌≤◌, not, true, OnOk, OnErr, IfErr, IsOk, vec_len, vec_capacity};
+ghost use Rattle.std.specs.Prelude.{[], ◌∷◌, ◌++◌, ◌≡◌, ◌<◌, ◌≤◌, not, true, OnOk, OnErr, IfErr, IsOk, vec_len, vec_capacity};
 ghost use Rattle.std.specs.List.{prefix_len};
 ghost use Rattle.tpcc_rows.specs.Lists.{by_key, key_before, inserted, is_ascending};
 
@@ -118,6 +118,20 @@ pub fn insert<T: Keyed>(rows: &mut Vec<T>, added: T) -> Result<(), T>
 {
     let place = place_for(rows.as_slice(), &added);
     match rows.insert(place, added) {
+        Ok(()) => Ok(()),
+        Err(failed) => Err(failed.value),
+    }
+}
+
+/// Appends a row, or gives it back where there is no memory for it.
+pub fn push<T>(rows: &mut Vec<T>, added: T) -> Result<(), T>
+    ensures appended { OnOk result (rows.new.items ≡ rows.old.items ++ added ∷ []) }
+    ensures same { OnErr result (rows.new.items ≡ rows.old.items) }
+    ensures given_back { IfErr result (λ row. row ≡ added) }
+    ensures capacity { vec_capacity rows.old ≤ vec_capacity rows.new }
+    ensures succeeds { vec_len rows.old < vec_capacity rows.old → IsOk result }
+{
+    match rows.push(added) {
         Ok(()) => Ok(()),
         Err(failed) => Err(failed.value),
     }

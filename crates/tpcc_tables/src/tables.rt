@@ -8,6 +8,8 @@ ghost use Rattle.tpcc_rows.specs.WellKeyed.{IsWellKeyed};
 ghost use Rattle.tpcc_tables.specs.Loads.{find_order_line};
 ghost use Rattle.tpcc_tables.specs.Writes.{with_payment, IsPayment};
 
+mod load;
+
 use crate::{find, named, place};
 use std::alloc::Global;
 use std::marker::Model;
