@@ -1,6 +1,9 @@
 //! Short texts of printable ASCII.
-ghost use Rattle.std.specs.Prelude.{◌≡◌, ◌<◌, ◌≤◌, ◌↔◌, ◌++◌, IfOk, IsErrOf, IsTrue, length, take, true, false};
+ghost use Rattle.std.specs.Prelude.{◌≡◌, ◌==◌, ◌<◌, ◌≤◌, ◌↔◌, IfOk, IsErrOf, IsTrue, length, true, false};
 ghost use Rattle.std.specs.List.{list_all};
+ghost use Rattle.std.specs.Cmp.Lexicographic.{pointwise};
+ghost use Rattle.std.specs.Cmp.Rules.{comparing};
+ghost use Rattle.std.proofs.Common.{rules};
 ghost use Rattle.tpcc_rows.specs.Printable.{is_printable};
 
 use std::alloc::Global;
@@ -8,18 +11,21 @@ use std::marker::Model;
 use thiserror::Error;
 use tpcc_money::NoMemory;
 
-/// Why bytes are no text.
+/// Why bytes are no text, in the order of the tests.
 #[derive(Clone, Copy, Debug, PartialEq, Eq, Error)]
 pub enum TextFault {
+    /// More bytes than the bound.
     #[error("TooLong")]
     TooLong,
+    /// A byte outside 32 to 126.
     #[error("NotAscii")]
     NotAscii,
+    /// A growth was refused.
     #[error("NoMemory")]
     NoMemory,
 }
 
-/// Bytes of 32 to 126, seen as their list.
+/// A text of a column: bytes of 32 to 126, seen as their list.
 #[derive(Debug, Drop)]
 pub struct Text {
     bytes: Vec<u8>,
@@ -45,13 +51,13 @@ fn is_plain(byte: u8) -> bool
 
 /// Whether all bytes may stand in a text.
 pub fn are_plain(bytes: &[u8]) -> bool
-    ensures { result ≡ list_all is_printable bytes.now }
+    ensures plain { result ≡ list_all is_printable bytes.now }
 {
     bytes.iter().all(|byte| is_plain(*byte))
 }
 
 impl Text {
-    /// The text of some bytes, at most so many.
+    /// A copy of the bytes as a text of at most `bound` bytes.
     pub fn new(alloc: Global, bytes: &[u8], bound: usize) -> Result<Text, TextFault>
         ensures ok { IfOk result (λ t. t ≡ bytes.now) }
         ensures too_long { IsErrOf result TextFault.TooLong ↔ (bound < length bytes.now) }
@@ -70,14 +76,15 @@ impl Text {
         }
     }
 
-    /// The text of bytes that are all printable.
+    /// The text of bytes that are all 32 to 126; nothing is copied.
     pub fn of(bytes: Vec<u8>) -> Text
-        requires { list_all is_printable bytes.items ≡ true }
-        ensures { result ≡ bytes.items }
+        requires printable { list_all is_printable bytes.items ≡ true }
+        ensures text { result ≡ bytes.items }
     {
         Text { bytes }
     }
 
+    /// The bytes of the text.
     pub fn bytes(&self) -> &[u8]
         ensures bytes { result.now ≡ self.now }
         ensures printable { list_all is_printable self.now ≡ true }
@@ -85,24 +92,41 @@ impl Text {
         self.bytes.as_slice()
     }
 
+    /// How many bytes the text has.
     pub fn len(&self) -> usize
-        ensures { result ≡ length self.now }
+        ensures length { result ≡ length self.now }
     {
         self.bytes.len()
     }
 
+    /// Whether the text has no byte.
     pub fn is_empty(&self) -> bool
-        ensures { IsTrue result ↔ (length self.now ≡ 0) }
+        ensures empty { IsTrue result ↔ (length self.now ≡ 0) }
     {
         self.bytes.is_empty()
     }
 
+    /// A copy of the text.
     pub fn duplicate(&self) -> Result<Text, NoMemory>
-        ensures { IfOk result (λ t. t ≡ self.now) }
+        ensures equal { IfOk result (λ t. t ≡ self.now) }
     {
         match self.bytes.clone() {
             Ok(bytes) => Ok(Text { bytes }),
             Err(_) => Err(NoMemory),
         }
     }
+}
+
+impl PartialEq for Text {
+    ghost eq = { pointwise ◌==◌ };
+
+    ghost laws = { Prim.search (comparing, rules) };
+
+    fn eq(&self, other: &Self) -> bool {
+        self.bytes.as_slice() == other.bytes.as_slice()
+    }
+}
+
+impl Eq for Text {
+    ghost laws = { Prim.search (comparing, rules) };
 }
