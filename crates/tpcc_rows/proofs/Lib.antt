@@ -27,6 +27,7 @@ pub mod ChosenRow
 pub mod Numbers
 pub mod PaymentFacts
 pub mod PrintableTexts
+pub mod PaidLemmas
 pub mod PaymentRanges
 pub mod MiddleLemmas
 pub mod DeliveryRanges

@@ -2,7 +2,9 @@
 //!
 //! Every number is a plain `u32`: a request may name rows that do not exist or
 //! be out of range, and is then refused (`refusals`).
-ghost use Rattle.std.specs.Prelude.{◌≡◌, IfOk};
+ghost use Rattle.std.specs.Prelude.{◌≡◌, IfOk, true};
+ghost use Rattle.tpcc_rows.specs.Moments.{has_moment_in_range};
+ghost use Rattle.tpcc_rows.specs.Replay.{paid_by_request};
 ghost use Rattle.std.specs.Cmp.Lexicographic.{pointwise, lists_equiv, lists_per};
 
 use crate::text::Text;
@@ -154,4 +156,29 @@ pub enum Request {
     Delivery(Ticket),
     /// Run the next district of the first ticket, at that moment.
     Deliver(Moment),
+}
+
+impl Request {
+    /// What the request pays: H_AMOUNT of a Payment, 0.00 of any other.
+    pub fn paid(&self) -> Cents
+        ensures paid { result ≡ paid_by_request self.now }
+    {
+        match self {
+            Request::Payment(payment) => payment.amount,
+            _ => Cents::new(0),
+        }
+    }
+
+    /// The request's moment is in its range, as each [`Moment`] is.
+    pub fn moment_in_range(&self)
+        ensures moment { has_moment_in_range self.now ≡ true }
+    {
+        let _seconds = match self {
+            Request::NewOrder(order) => order.moment.seconds(),
+            Request::Payment(payment) => payment.moment.seconds(),
+            Request::Delivery(ticket) => ticket.queued.seconds(),
+            Request::Deliver(at) => at.seconds(),
+            Request::Status(_) | Request::Stock(_) => 0,
+        };
+    }
 }

@@ -1,0 +1,9 @@
+//! The initial population of the tables (4.3.3): its scale, both openings and their rows.
+#![tactic(auto)]
+
+mod fill;
+mod opening;
+mod scale;
+
+pub use opening::{Opening, opening_is_sound};
+pub use scale::{Scale, ScaleFault};

@@ -1,0 +1,46 @@
+//! The openings: the rows that the tables start with.
+ghost use Rattle.tpcc_population.specs.Opening.{opening_rows, opening_scale, seeded_rows, IsSoundOpening};
+ghost use Rattle.tpcc_rows.specs.Opening.{plain_rows};
+
+use crate::scale::Scale;
+use tpcc_money::Moment;
+
+/// How the tables start: each row by its numbers alone, or drawn from its own stream.
+#[derive(Clone, Copy)]
+pub enum Opening {
+    Plain {
+        scale: Scale,
+    },
+    Seeded {
+        scale: Scale,
+        seed: u64,
+        moment: Moment,
+    },
+}
+
+/// Each opening is well-keyed, stocked and consistent, at every scale.
+pub fn opening_is_sound(opening: Opening)
+    ensures { IsSoundOpening (opening_scale opening).customers (opening_rows opening) }
+{
+    match opening {
+        Opening::Plain { scale } => plain_is_sound(scale),
+        Opening::Seeded {
+            scale,
+            seed,
+            moment,
+        } => seeded_is_sound(scale, seed, moment),
+    }
+}
+
+fn plain_is_sound(scale: Scale)
+    ensures { IsSoundOpening scale.customers (plain_rows scale) }
+{
+    let _ = scale.customers();
+}
+
+fn seeded_is_sound(scale: Scale, seed: u64, moment: Moment)
+    ensures { IsSoundOpening scale.customers (seeded_rows (record { scale = scale; seed = seed; moment = moment })) }
+{
+    let _ = scale.customers();
+    let _ = moment.seconds();
+}

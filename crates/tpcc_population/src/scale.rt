@@ -1,0 +1,68 @@
+//! How large the tables start.
+ghost use Rattle.std.specs.Prelude.{◌≡◌, ◌↔◌, IfOk, IsErrOf, true, false};
+ghost use Rattle.tpcc_population.specs.Regular.{IsScale, are_customers};
+ghost use Rattle.tpcc_rows.specs.Ranges.{is_within};
+
+use std::marker::Model;
+
+/// Why there is no such scale.
+#[derive(Clone, Copy, Debug, PartialEq, Eq)]
+pub enum ScaleFault {
+    Warehouses,
+    Customers,
+    Items,
+}
+
+/// Warehouses, customers of each district and items.
+#[derive(Clone, Copy, Debug)]
+pub struct Scale {
+    warehouses: u32,
+    customers: u32,
+    items: u32,
+}
+
+impl Model for Scale {
+    ghost use Rattle.tpcc_rows.specs.Layout.{Scale as Sizes};
+    ghost use Rattle.tpcc_population.specs.Regular.{IsScale};
+
+    ghost Value = { Sizes };
+
+    ghost view = { λ s. record { warehouses = s.warehouses; customers = s.customers; items = s.items } };
+
+    ghost inverse = { λ v. record { warehouses = v.warehouses; customers = v.customers; items = v.items } };
+
+    ghost invariant = { λ s. IsScale (record { warehouses = s.warehouses; customers = s.customers; items = s.items }) };
+}
+
+impl Scale {
+    /// A scale of 1 to 100 warehouses, 10 to 3,000 customers by tens, 100 to 100,000 items.
+    pub fn new(warehouses: u32, customers: u32, items: u32) -> Result<Scale, ScaleFault>
+        ensures ok { IfOk result (λ s. s ≡ record { warehouses = warehouses; customers = customers; items = items }) }
+        ensures warehouses { IsErrOf result ScaleFault.Warehouses ↔ (is_within 1 100 warehouses ≡ false) }
+        ensures customers { IsErrOf result ScaleFault.Customers ↔ ((is_within 1 100 warehouses ≡ true) × (are_customers customers ≡ false)) }
+        ensures items { IsErrOf result ScaleFault.Items ↔ ((is_within 1 100 warehouses ≡ true) × (are_customers customers ≡ true) × (is_within 100 100000 items ≡ false)) }
+    {
+        if warehouses < 1 || warehouses > 100 {
+            return Err(ScaleFault::Warehouses);
+        }
+        if customers < 10 || customers > 3000 || customers % 10 != 0 {
+            return Err(ScaleFault::Customers);
+        }
+        if items < 100 || items > 100_000 {
+            return Err(ScaleFault::Items);
+        }
+        Ok(Scale {
+            warehouses,
+            customers,
+            items,
+        })
+    }
+
+    /// The customers of each district.
+    pub fn customers(&self) -> u32
+        ensures value { result ≡ self.now.customers }
+        ensures scale { IsScale self.now }
+    {
+        self.customers
+    }
+}
