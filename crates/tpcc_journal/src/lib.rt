@@ -1,9 +1,7 @@
-//! The journal of a book: each accepted request with its reply, and the delivery result log.
+//! The journal of a book: each accepted request with its reply.
 #![tactic(auto)]
 
 mod journal;
-mod results;
 
 pub use journal::Journal;
-pub use results::results;
 pub use tpcc_rows::{Delivered, Entry, Reply, Request};
