@@ -1,4 +1,4 @@
--- The rule of the table: what each mailbox is in, and what each seat knows of it.
+-- The rule of the table: what each mailbox is in, and what each seat knows of it. Words: 0 free, 1 posted, 2 taken, 3 answered.
 use Rattle.std.specs.Prelude.{◌≡◌, ℕ, ◌+◌, ◌-◌, ◌^◌, ◌<◌, ◌≤◌, Bool, true, false, List, [], ◌∷◌, ◌++◌, map, length, slice_index, Option, Some, None}
 use mathlib.Core.Option.{some}
 use mathlib.Core.Option as maybe
@@ -18,9 +18,11 @@ abbrev pub Found : Type 0 → Type 0 → Type 0
 Found J A = maybe.Option (maybe.Option (Option (Mail J A)))
 
 module _ {J : Type 0} where
+  -- the view of a seat of one role
   abbrev pub view_with : Role J → Bool → View J
   view_with r c = record { roles = r ∷ []; closed = c }
 
+  -- the first seat: it opens all mailboxes and has the whole right to serve
   abbrev pub opener : View J
   opener = view_with (Opening 0) false
 
@@ -30,6 +32,7 @@ module _ {J : Type 0} where
   splits_in (Holder d _ _ ∷ _) = d
   splits_in _ = 0
 
+  -- the mailbox and the letter in a server's hand
   abbrev pub hand_in : List (Role J) → Option (ℕ × J)
   hand_in (Holder _ k j ∷ _) = Some (k, j)
   hand_in _ = None
@@ -37,7 +40,6 @@ module _ {J : Type 0} where
   abbrev pub splits_of : View J → ℕ
   splits_of v = splits_in v.roles
 
-  -- the mailbox and the letter that a server has in hand
   abbrev pub hand_of : View J → Option (ℕ × J)
   hand_of v = hand_in v.roles
 
@@ -46,22 +48,25 @@ module _ {J : Type 0} where
   hand_bound None = 0
   hand_bound (Some w) = w.0 + 1
 
+  -- the role of a server with this hand, whose right was split so often
   abbrev pub serving_role : ℕ → Option (ℕ × J) → Role J
   serving_role d None = Server d
   serving_role d (Some w) = Holder d w.0 w.1
 
+  -- the role once its right was split
   abbrev pub halved : Role J → Role J
   halved (Server d) = Server (d + 1)
   halved (Holder d k j) = Holder (d + 1) k j
   halved r = r
 
-  -- a server's right is cut in two halves; what it has in hand stays
+  -- a server's right is cut in two halves: what it has in hand stays, and the new server's hand is empty
   abbrev pub half : View J → View J
   half v = record { roles = map halved v.roles; closed = v.closed }
 
   abbrev pub other_half : View J → View J
   other_half v = view_with (Server (splits_of v + 1)) v.closed
 
+  -- the first mailbox that the opener has not opened yet
   abbrev pub opening_in : List (Role J) → ℕ
   opening_in (Opening m ∷ _) = m
   opening_in _ = 0
@@ -88,6 +93,7 @@ module _ {J : Type 0} where
   spent = record { roles = []; closed = false }
 
 module _ {J A : Type 0} where
+  -- a server has the slot of the letter in its hand
   abbrev pub serving_slots : Option (ℕ × J) → List (ℕ × Option (Mail J A))
   serving_slots None = []
   serving_slots (Some w) = (w.0, None) ∷ []
@@ -96,6 +102,7 @@ module _ {J A : Type 0} where
   abbrev pub seat_with : Seat (Option (Mail J A)) (View J) → Role J → List (ℕ × Option (Mail J A)) → Seat (Option (Mail J A)) (View J)
   seat_with s r slots = record s { me = (view_with r s.me.0.closed, slots) }
 
+  -- the seat of a server
   abbrev pub server_seat : Seat (Option (Mail J A)) (View J) → ℕ → Option (ℕ × J) → Seat (Option (Mail J A)) (View J)
   server_seat s d w = seat_with s (serving_role d w) (serving_slots w)
 
@@ -106,6 +113,7 @@ module _ {J A : Type 0} (fits : J → A → Type 0) where
     pub answered : w ≡ 3 → (a : A) × (slot ≡ some (some (Some (Reply a)))) × fits j a
     pub used : (0 < w) × (w < 4)
 
+  -- what the word and the slot of a mailbox are in each phase; of a slot that is out nothing is said
   abbrev pub MailboxOk : Phase J → ℕ → Found J A → Type 0
   MailboxOk Fresh w slot = (w ≡ 3) × (slot ≡ some (some None))
   MailboxOk Free w slot = w ≡ 0
@@ -129,7 +137,7 @@ module _ {J : Type 0} where
     pub here : get_elem? views i ≡ some seat
     pub holds : get_elem? seat.roles place ≡ some (Holder splits k letter)
 
-  -- the shares of the right to serve, by how often each was split
+  -- the share of a role in the right to serve, in parts of 1 / 2 ^ top
   abbrev pub share_of : ℕ → Role J → ℕ
   share_of top (Opening _) = 2 ^ top
   share_of top (Client _ _) = 0
@@ -144,17 +152,19 @@ module _ {J : Type 0} where
   all_shares top [] = 0
   all_shares top (v ∷ vs) = shares_of top v.roles + all_shares top vs
 
+  -- how often the right of a role was split
   abbrev pub splits_of_role : Role J → ℕ
   splits_of_role (Server d) = d
   splits_of_role (Holder d _ _) = d
   splits_of_role _ = 0
 
-  -- the shares of all seats are the whole
+  -- the shares of all seats add up to the whole
   pub record Whole (views : List (View J)) : Type 0 where
     pub top : ℕ
     pub within : (i : ℕ) (v : View J) → get_elem? views i ≡ some v → (q : ℕ) (r : Role J) → get_elem? v.roles q ≡ some r → splits_of_role r ≤ top
     pub whole : all_shares top views ≡ 2 ^ top
 
+-- the rule
 pub record Ruled {J A : Type 0} (fits : J → A → Type 0) (s : State (Option (Mail J A)) (View J)) : Type 0 where
   pub n : ℕ
   pub phase : ℕ → Phase J
@@ -162,10 +172,16 @@ pub record Ruled {J A : Type 0} (fits : J → A → Type 0) (s : State (Option (
   pub client : ℕ → ℕ
   pub place : ℕ → ℕ
   pub server : ℕ → ℕ
+  -- a word for each mailbox and the closed flag, and a slot for each mailbox
   pub word_count : length s.words ≡ n + 1
   pub slot_count : length s.homes ≡ n
+  -- each mailbox is as its phase says
   pub mailboxes : (k : ℕ) → k < n → MailboxOk fits (phase k) (slice_index s.words k) (get_elem? s.homes k)
+  -- a letter that is taken is held by a seat
   pub holders : (k : ℕ) → k < n → slice_index s.words k ≡ 2 → IsHeld k (server k) s.views
+  -- what each seat knows is so
   pub seats : (i : ℕ) (v : View J) → get_elem? s.views i ≡ some v → (q : ℕ) (r : Role J) → get_elem? v.roles q ≡ some r → Knows n s.words phase client place server i q r
+  -- a seat that has closed or has seen it finds the flag up
   pub closings : (i : ℕ) (v : View J) → get_elem? s.views i ≡ some v → v.closed ≡ true → slice_index s.words n ≡ 1
+  -- no share of the right to serve is lost or made
   pub shared : Whole s.views
