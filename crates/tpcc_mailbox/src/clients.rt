@@ -1,5 +1,5 @@
 //! What a client does with its mailbox.
-ghost use Rattle.std.specs.Prelude.{◌≡◌, ◌+◌, ◌<◌, ◌≤◌, true, IfOk, MatchResult};
+ghost use Rattle.std.specs.Prelude.{◌≡◌, ◌+◌, ◌<◌, ◌≤◌, true, IfOk, IfErr};
 ghost use Rattle.tpcc_mailbox.specs.Tokens.{identity, idle_origin, idle_mailbox, idle_saw_closed, waiting_origin, waiting_mailbox, waiting_letter, waiting_saw_closed};
 
 use crate::answers::Answers;
@@ -36,7 +36,8 @@ impl<J, A: Answers<J>> Mailboxes<J, A> {
     pub fn collect(&self, waiting: Waiting<J, A>) -> Result<(Idle<J, A>, A), Waiting<J, A>>
         requires origin { waiting_origin waiting ≡ identity self.now }
         // The answer fits the very letter that was posted.
-        ensures fits { MatchResult result (λ r. A.fits (A.label (waiting_letter waiting)) r.1) (λ w. w ≡ waiting) }
+        ensures fits { IfOk result (λ r. A.fits (A.label (waiting_letter waiting)) r.1) }
+        ensures back { IfErr result (λ w. w ≡ waiting) }
         ensures origin { IfOk result (λ r. idle_origin r.0 ≡ waiting_origin waiting) }
         ensures mailbox { IfOk result (λ r. idle_mailbox r.0 ≡ waiting_mailbox waiting) }
         ensures closed { IfOk result (λ r. idle_saw_closed r.0 ≡ waiting_saw_closed waiting) }

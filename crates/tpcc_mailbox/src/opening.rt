@@ -18,7 +18,8 @@ impl<J, A: Answers<J>> Mailboxes<J, A> {
     ) -> Result<(Mailboxes<J, A>, Vec<Idle<J, A>>, Serving<J, A>), AllocError>
         requires count { (1 ≤ n) × (n ≤ 1000) }
         ensures count { IfOk result (λ r. mailbox_count r.0 ≡ n) }
-        ensures idles { IfOk result (λ r. (vec_len r.1 ≡ n) × All (λ x. idle_origin x ≡ identity r.0) r.1.items) }
+        ensures one_each { IfOk result (λ r. vec_len r.1 ≡ n) }
+        ensures idles { IfOk result (λ r. All (λ x. idle_origin x ≡ identity r.0) r.1.items) }
         // The k-th has the mailbox k, and none has seen the mailboxes closed.
         ensures numbers { IfOk result (λ r. AreNewIdles (identity r.0) r.1.items) }
         ensures origin { IfOk result (λ r. serving_origin r.2 ≡ identity r.0) }

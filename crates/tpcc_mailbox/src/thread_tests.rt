@@ -68,8 +68,14 @@ fn serve_round(
     server: u64,
     answered: &[AtomicU64],
 )
-    requires { (serving_origin serving.old ≡ identity boxes.now) × (serving_hand serving.old ≡ None) }
-    ensures { (serving_origin serving.new ≡ serving_origin serving.old) × (serving_hand serving.new ≡ None) }
+    requires {
+        (serving_origin serving.old ≡ identity boxes.now)
+        × (serving_hand serving.old ≡ None)
+    }
+    ensures {
+        (serving_origin serving.new ≡ serving_origin serving.old)
+        × (serving_hand serving.new ≡ None)
+    }
 {
     for k in 0..boxes.len() {
         if let Some((taken, letter)) = boxes.take(serving, k) {
@@ -130,7 +136,11 @@ struct Four {
     two: Idle<u64, Served>,
     three: Idle<u64, Served>,
     four: Idle<u64, Served>,
-    ghost same: { (idle_origin two ≡ idle_origin one) × (idle_origin three ≡ idle_origin one) × (idle_origin four ≡ idle_origin one) },
+    ghost same: {
+        (idle_origin two ≡ idle_origin one)
+        × (idle_origin three ≡ idle_origin one)
+        × (idle_origin four ≡ idle_origin one)
+    },
 }
 
 fn next_idle(
@@ -167,7 +177,10 @@ fn four_clients<R: Threads + Wait + Sync>(
     idles: Four,
     closer: Serving<u64, Served>,
 ) -> u64
-    requires { (idle_origin idles.one ≡ identity boxes.now) × (serving_origin closer ≡ identity boxes.now) }
+    requires {
+        (idle_origin idles.one ≡ identity boxes.now)
+        × (serving_origin closer ≡ identity boxes.now)
+    }
 {
     let Four {
         one,
@@ -179,10 +192,18 @@ fn four_clients<R: Threads + Wait + Sync>(
     let (a, b) = join(
         rt,
         || -> u64
-            requires { IsSync R.row × (idle_origin one ≡ identity boxes.now) × (idle_origin two ≡ identity boxes.now) }
+            requires {
+                IsSync R.row
+                × (idle_origin one ≡ identity boxes.now)
+                × (idle_origin two ≡ identity boxes.now)
+            }
         { two_clients(rt, boxes, one, two, 0) },
         || -> u64
-            requires { IsSync R.row × (idle_origin three ≡ identity boxes.now) × (idle_origin four ≡ identity boxes.now) }
+            requires {
+                IsSync R.row
+                × (idle_origin three ≡ identity boxes.now)
+                × (idle_origin four ≡ identity boxes.now)
+            }
         { two_clients(rt, boxes, three, four, 2 * LETTERS) },
     );
     boxes.close(&mut closer);
@@ -196,15 +217,28 @@ fn two_servers<R: Threads + Wait + Sync>(
     two: Serving<u64, Served>,
     answered: &[AtomicU64],
 )
-    requires { (serving_origin one ≡ identity boxes.now) × (serving_hand one ≡ None) × (serving_origin two ≡ identity boxes.now) × (serving_hand two ≡ None) }
+    requires {
+        (serving_origin one ≡ identity boxes.now)
+        × (serving_hand one ≡ None)
+        × (serving_origin two ≡ identity boxes.now)
+        × (serving_hand two ≡ None)
+    }
 {
     join(
         rt,
         ||
-            requires { IsSync R.row × (serving_origin one ≡ identity boxes.now) × (serving_hand one ≡ None) }
+            requires {
+                IsSync R.row
+                × (serving_origin one ≡ identity boxes.now)
+                × (serving_hand one ≡ None)
+            }
         { serve_all(rt, boxes, one, 1, answered) },
         ||
-            requires { IsSync R.row × (serving_origin two ≡ identity boxes.now) × (serving_hand two ≡ None) }
+            requires {
+                IsSync R.row
+                × (serving_origin two ≡ identity boxes.now)
+                × (serving_hand two ≡ None)
+            }
         { serve_all(rt, boxes, two, 2, answered) },
     );
 }
@@ -223,10 +257,20 @@ fn three_servers<R: Threads + Wait + Sync>(
     join(
         rt,
         ||
-            requires { IsSync R.row × (serving_origin one ≡ identity boxes.now) × (serving_hand one ≡ None) × (serving_origin two ≡ identity boxes.now) × (serving_hand two ≡ None) }
+            requires {
+                IsSync R.row
+                × (serving_origin one ≡ identity boxes.now)
+                × (serving_hand one ≡ None)
+                × (serving_origin two ≡ identity boxes.now)
+                × (serving_hand two ≡ None)
+            }
         { two_servers(rt, boxes, one, two, answered) },
         ||
-            requires { IsSync R.row × (serving_origin three ≡ identity boxes.now) × (serving_hand three ≡ None) }
+            requires {
+                IsSync R.row
+                × (serving_origin three ≡ identity boxes.now)
+                × (serving_hand three ≡ None)
+            }
         { serve_all(rt, boxes, three, 3, answered) },
     );
 }
@@ -240,15 +284,28 @@ fn clients_and_servers<R: Threads + Wait + Sync>(
     serving: Serving<u64, Served>,
     answered: &[AtomicU64],
 ) -> u64
-    requires { (idle_origin idles.one ≡ identity boxes.now) × (serving_origin closer ≡ identity boxes.now) × (serving_origin serving ≡ identity boxes.now) × (serving_hand serving ≡ None) }
+    requires {
+        (idle_origin idles.one ≡ identity boxes.now)
+        × (serving_origin closer ≡ identity boxes.now)
+        × (serving_origin serving ≡ identity boxes.now)
+        × (serving_hand serving ≡ None)
+    }
 {
     let (fitting, _) = join(
         rt,
         || -> u64
-            requires { IsSync R.row × (idle_origin idles.one ≡ identity boxes.now) × (serving_origin closer ≡ identity boxes.now) }
+            requires {
+                IsSync R.row
+                × (idle_origin idles.one ≡ identity boxes.now)
+                × (serving_origin closer ≡ identity boxes.now)
+            }
         { four_clients(rt, boxes, idles, closer) },
         ||
-            requires { IsSync R.row × (serving_origin serving ≡ identity boxes.now) × (serving_hand serving ≡ None) }
+            requires {
+                IsSync R.row
+                × (serving_origin serving ≡ identity boxes.now)
+                × (serving_hand serving ≡ None)
+            }
         { three_servers(rt, boxes, serving, answered) },
     );
     fitting

@@ -48,8 +48,11 @@ invariant_of-result g c = let is = c.split_seat-seat-2.ensures.4 in record {
   serves = seated_server _ _ (ap (λ m. m.0.roles) is) (ap (λ m. m.1) is);
 }
 
+pub returns-clause-one_each : goal.returns-clause-one_each
+returns-clause-one_each g c = grind (arith, common_steps)
+
 pub returns-clause-idles : goal.returns-clause-idles
-returns-clause-idles g c = (grind (arith, common_steps), all_to (λ x. x.seat.table_id ≡ c.in_ok-table.table.shared.table_id) c.loop-k.idles.items (λ k x e. (c.loop-k.invariant.4 k x e).0))
+returns-clause-idles g c = all_to (λ x. x.seat.table_id ≡ c.in_ok-table.table.shared.table_id) c.loop-k.idles.items (λ k x e. (c.loop-k.invariant.4 k x e).0)
 
 pub returns-clause-numbers : goal.returns-clause-numbers
 returns-clause-numbers g c = c.loop-k.invariant.4
