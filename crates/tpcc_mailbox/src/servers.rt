@@ -94,21 +94,15 @@ impl<J, A: Answers<J>> Serving<J, A> {
     /// Makes one more server, whose hand is empty. Both have seen of the closed flag what this one had.
     pub fn split(&mut self, mailboxes: &Mailboxes<J, A>) -> Serving<J, A>
         requires origin { serving_origin self.old ≡ identity mailboxes.now }
-        ensures origin {
-            (serving_origin self.new ≡ serving_origin self.old)
-            × (serving_origin result ≡ serving_origin self.old)
-        }
+        ensures origin { (serving_origin self.new ≡ serving_origin self.old)
+            × (serving_origin result ≡ serving_origin self.old) }
         ensures hand { serving_hand self.new ≡ serving_hand self.old }
         ensures free { serving_hand result ≡ None }
         // Each has half the share of the right to serve that this one had.
-        ensures splits {
-            (serving_splits self.new ≡ serving_splits self.old + 1)
-            × (serving_splits result ≡ serving_splits self.old + 1)
-        }
-        ensures closed {
-            (serving_saw_closed self.new ≡ serving_saw_closed self.old)
-            × (serving_saw_closed result ≡ serving_saw_closed self.old)
-        }
+        ensures splits { (serving_splits self.new ≡ serving_splits self.old + 1)
+            × (serving_splits result ≡ serving_splits self.old + 1) }
+        ensures closed { (serving_saw_closed self.new ≡ serving_saw_closed self.old)
+            × (serving_saw_closed result ≡ serving_saw_closed self.old) }
     {
         Serving {
             seat: mailboxes

@@ -19,8 +19,6 @@ pub struct Mailboxes<J, A: Answers<J>> {
     pub(crate) table: MailboxTable<J, A>,
     pub(crate) count: usize,
     pub(crate) alloc: Global,
-    ghost sized: {
-        (table.shared.table_id.slots ≡ count)
-        × (table.shared.table_id.words ≡ count + 1)
-    },
+    ghost sized: { (table.shared.table_id.slots ≡ count)
+        × (table.shared.table_id.words ≡ count + 1) },
 }

@@ -68,14 +68,10 @@ fn serve_round(
     server: u64,
     answered: &[AtomicU64],
 )
-    requires {
-        (serving_origin serving.old ≡ identity boxes.now)
-        × (serving_hand serving.old ≡ None)
-    }
-    ensures {
-        (serving_origin serving.new ≡ serving_origin serving.old)
-        × (serving_hand serving.new ≡ None)
-    }
+    requires { (serving_origin serving.old ≡ identity boxes.now)
+        × (serving_hand serving.old ≡ None) }
+    ensures { (serving_origin serving.new ≡ serving_origin serving.old)
+        × (serving_hand serving.new ≡ None) }
 {
     for k in 0..boxes.len() {
         if let Some((taken, letter)) = boxes.take(serving, k) {
@@ -136,11 +132,9 @@ struct Four {
     two: Idle<u64, Served>,
     three: Idle<u64, Served>,
     four: Idle<u64, Served>,
-    ghost same: {
-        (idle_origin two ≡ idle_origin one)
+    ghost same: { (idle_origin two ≡ idle_origin one)
         × (idle_origin three ≡ idle_origin one)
-        × (idle_origin four ≡ idle_origin one)
-    },
+        × (idle_origin four ≡ idle_origin one) },
 }
 
 fn next_idle(
@@ -177,10 +171,8 @@ fn four_clients<R: Threads + Wait + Sync>(
     idles: Four,
     closer: Serving<u64, Served>,
 ) -> u64
-    requires {
-        (idle_origin idles.one ≡ identity boxes.now)
-        × (serving_origin closer ≡ identity boxes.now)
-    }
+    requires { (idle_origin idles.one ≡ identity boxes.now)
+        × (serving_origin closer ≡ identity boxes.now) }
 {
     let Four {
         one,
@@ -192,18 +184,14 @@ fn four_clients<R: Threads + Wait + Sync>(
     let (a, b) = join(
         rt,
         || -> u64
-            requires {
-                IsSync R.row
+            requires { IsSync R.row
                 × (idle_origin one ≡ identity boxes.now)
-                × (idle_origin two ≡ identity boxes.now)
-            }
+                × (idle_origin two ≡ identity boxes.now) }
         { two_clients(rt, boxes, one, two, 0) },
         || -> u64
-            requires {
-                IsSync R.row
+            requires { IsSync R.row
                 × (idle_origin three ≡ identity boxes.now)
-                × (idle_origin four ≡ identity boxes.now)
-            }
+                × (idle_origin four ≡ identity boxes.now) }
         { two_clients(rt, boxes, three, four, 2 * LETTERS) },
     );
     boxes.close(&mut closer);
@@ -217,28 +205,22 @@ fn two_servers<R: Threads + Wait + Sync>(
     two: Serving<u64, Served>,
     answered: &[AtomicU64],
 )
-    requires {
-        (serving_origin one ≡ identity boxes.now)
+    requires { (serving_origin one ≡ identity boxes.now)
         × (serving_hand one ≡ None)
         × (serving_origin two ≡ identity boxes.now)
-        × (serving_hand two ≡ None)
-    }
+        × (serving_hand two ≡ None) }
 {
     join(
         rt,
         ||
-            requires {
-                IsSync R.row
+            requires { IsSync R.row
                 × (serving_origin one ≡ identity boxes.now)
-                × (serving_hand one ≡ None)
-            }
+                × (serving_hand one ≡ None) }
         { serve_all(rt, boxes, one, 1, answered) },
         ||
-            requires {
-                IsSync R.row
+            requires { IsSync R.row
                 × (serving_origin two ≡ identity boxes.now)
-                × (serving_hand two ≡ None)
-            }
+                × (serving_hand two ≡ None) }
         { serve_all(rt, boxes, two, 2, answered) },
     );
 }
@@ -257,20 +239,16 @@ fn three_servers<R: Threads + Wait + Sync>(
     join(
         rt,
         ||
-            requires {
-                IsSync R.row
+            requires { IsSync R.row
                 × (serving_origin one ≡ identity boxes.now)
                 × (serving_hand one ≡ None)
                 × (serving_origin two ≡ identity boxes.now)
-                × (serving_hand two ≡ None)
-            }
+                × (serving_hand two ≡ None) }
         { two_servers(rt, boxes, one, two, answered) },
         ||
-            requires {
-                IsSync R.row
+            requires { IsSync R.row
                 × (serving_origin three ≡ identity boxes.now)
-                × (serving_hand three ≡ None)
-            }
+                × (serving_hand three ≡ None) }
         { serve_all(rt, boxes, three, 3, answered) },
     );
 }
@@ -284,28 +262,22 @@ fn clients_and_servers<R: Threads + Wait + Sync>(
     serving: Serving<u64, Served>,
     answered: &[AtomicU64],
 ) -> u64
-    requires {
-        (idle_origin idles.one ≡ identity boxes.now)
+    requires { (idle_origin idles.one ≡ identity boxes.now)
         × (serving_origin closer ≡ identity boxes.now)
         × (serving_origin serving ≡ identity boxes.now)
-        × (serving_hand serving ≡ None)
-    }
+        × (serving_hand serving ≡ None) }
 {
     let (fitting, _) = join(
         rt,
         || -> u64
-            requires {
-                IsSync R.row
+            requires { IsSync R.row
                 × (idle_origin idles.one ≡ identity boxes.now)
-                × (serving_origin closer ≡ identity boxes.now)
-            }
+                × (serving_origin closer ≡ identity boxes.now) }
         { four_clients(rt, boxes, idles, closer) },
         ||
-            requires {
-                IsSync R.row
+            requires { IsSync R.row
                 × (serving_origin serving ≡ identity boxes.now)
-                × (serving_hand serving ≡ None)
-            }
+                × (serving_hand serving ≡ None) }
         { three_servers(rt, boxes, serving, answered) },
     );
     fitting
