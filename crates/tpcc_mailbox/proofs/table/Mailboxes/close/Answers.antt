@@ -1,0 +1,15 @@
+use Rattle.std.proofs.Common.{rules, ap, sym, subst, ◌≤◌}
+use Rattle.tpcc_mailbox.specs.Rule.{hand_bound, hand_in}
+use Rattle.tpcc_mailbox.proofs.Keeps.{reseated}
+use Rattle.tpcc_mailbox.proofs.Flags.{shuts}
+use Rattle.tpcc_mailbox.proofs.table.Mailboxes.close.Goals as goal
+
+pub store-requires : goal.store-requires
+store-requires g c = (search rules, search rules, shuts (λ j a. g.A.Answers.fits (g.A.Answers.label j) a) _ _ _ _ (search rules))
+
+pub invariant_of-serving : goal.invariant_of-serving
+invariant_of-serving g c = let did = c.store.ensures.2 in record {
+  sized = search rules;
+  inside = subst (λ l. hand_bound (hand_in l) ≤ c.store.new.seat.table_id.slots) (sym (ap (λ m. m.0.roles) did)) (search rules);
+  serves = reseated _ _ _ c.args.serving.now.serves did;
+}

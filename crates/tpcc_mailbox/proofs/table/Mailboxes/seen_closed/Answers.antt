@@ -1,0 +1,13 @@
+use Rattle.std.proofs.Common.{rules, ap, ◌∙◌}
+use Rattle.tpcc_mailbox.proofs.Keeps.{is_seat_with}
+use Rattle.tpcc_mailbox.proofs.Flags.{looks}
+use Rattle.tpcc_mailbox.proofs.table.Mailboxes.seen_closed.Goals as goal
+
+pub load-requires : goal.load-requires
+load-requires g c = (search rules, search rules, looks (λ j a. g.A.Answers.fits (g.A.Answers.label j) a) _ _ _ _ (search rules))
+
+pub invariant_of-waiting : goal.invariant_of-waiting
+invariant_of-waiting g c = let did = c.load.ensures.2.0 in record {
+  sized = search rules;
+  sent = is_seat_with _ _ _ (ap (λ m. m.0.roles) did ∙ ap (λ s. s.me.0.roles) c.args.waiting.now.sent) (ap (λ m. m.1) did ∙ ap (λ s. s.me.1) c.args.waiting.now.sent);
+}

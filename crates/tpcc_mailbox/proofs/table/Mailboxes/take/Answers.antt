@@ -1,0 +1,28 @@
+use Rattle.std.proofs.Common.{rules, sym, ap, ◌∙◌, ◌∷◌, ◌≤◌, subst, Some}
+use Rattle.tpcc_mailbox.specs.Rule.{hand_bound, hand_in}
+use Rattle.atomic_table.specs.Table.{rest}
+use Rattle.tpcc_mailbox.specs.declared.rule.Mail.TheVariants.{Letter}
+use Rattle.tpcc_mailbox.proofs.Keeps.{takes_letter, filled, free_server, seated_server, seated_holder}
+use Rattle.tpcc_mailbox.proofs.table.Mailboxes.take.Goals as goal
+
+pub compare_exchange-requires : goal.compare_exchange-requires
+compare_exchange-requires g c = let was = free_server _ c.args.serving.now.serves c.requires.free in (search rules, search rules, takes_letter (λ j a. g.A.Answers.fits (g.A.Answers.label j) a) _ _ _ _ _ (search rules) was.0)
+
+pub invariant_of-serving : goal.invariant_of-serving
+invariant_of-serving g c = let was = free_server _ c.args.serving.now.serves c.requires.free in let same = (c.compare_exchange.ensures.2 _ was.0).1 (search rules) in record {
+  sized = search rules;
+  inside = subst (λ l. hand_bound (hand_in l) ≤ c.compare_exchange.new.seat.table_id.slots) (sym (ap (λ m. m.0.roles) same ∙ was.0)) (search rules);
+  serves = seated_server _ _ (ap (λ m. m.0.roles) same ∙ was.0) (ap (λ m. m.1) same ∙ was.1);
+}
+
+pub exchange-found-requires : goal.exchange-found-requires
+exchange-found-requires g c = let was = free_server _ c.args.serving.now.serves c.requires.free in let got = (c.compare_exchange.ensures.2 _ was.0).0 (search rules) in
+    (search rules, (Some (Letter got.0), ap (λ m. m.1) got.1 ∙ ap (λ l. (c.args.k, Some (Letter got.0)) ∷ rest l) (sym (ap (λ m. m.1) got.1))))
+
+pub invariant_of-serving-2 : goal.invariant_of-serving-2
+invariant_of-serving-2 g c = let was = free_server _ c.args.serving.now.serves c.requires.free in let got = (c.compare_exchange.ensures.2 _ was.0).0 (search rules) in
+    let took = filled _ _ _ _ (Some (Letter got.0)) _ (ap (λ m. m.0.roles) got.1) (ap (λ m. m.1) got.1 ∙ ap (λ l. (c.args.k, Some (Letter got.0)) ∷ l) was.1) c.exchange-found.ensures.3 in record {
+      sized = search rules;
+      inside = subst (λ l. hand_bound (hand_in l) ≤ c.exchange-found.new.seat.table_id.slots) (sym took.0) (search rules);
+      serves = seated_holder _ _ _ _ took.0 took.1;
+    }

@@ -1,0 +1,80 @@
+//! What a client does with its mailbox.
+ghost use Rattle.std.specs.Prelude.{◌≡◌, ◌+◌, ◌<◌, ◌≤◌, true, IfOk, IfErr};
+ghost use Rattle.tpcc_mailbox.specs.Tokens.{identity, idle_origin, idle_mailbox, idle_saw_closed, waiting_origin, waiting_mailbox, waiting_letter, waiting_saw_closed};
+
+use crate::answers::Answers;
+use crate::rule::Mail;
+use crate::steps::{Collecting, Posting, Reading};
+use crate::table::Mailboxes;
+use crate::tokens::{Idle, Waiting};
+use std::snapshot::Snapshot;
+
+impl<J, A: Answers<J>> Mailboxes<J, A> {
+    /// Puts a letter into the client's mailbox, also where the mailboxes are closed.
+    pub fn post(&self, idle: Idle<J, A>, letter: J) -> Waiting<J, A>
+        requires origin { idle_origin idle ≡ identity self.now }
+        ensures origin { waiting_origin result ≡ idle_origin idle }
+        ensures mailbox { waiting_mailbox result ≡ idle_mailbox idle }
+        ensures letter { waiting_letter result ≡ letter }
+        ensures closed { waiting_saw_closed result ≡ idle_saw_closed idle }
+    {
+        let Idle { mut seat, mailbox } = idle;
+        let shared = &self.table.shared;
+        let kept = Snapshot::of(&letter);
+        let was = shared.exchange(&mut seat, mailbox, Some(Mail::Letter(letter)));
+        let None = was else { unreachable!() };
+        shared.compare_exchange::<Posting>(&mut seat, mailbox, 0, 1);
+        Waiting {
+            seat,
+            mailbox,
+            letter: kept,
+        }
+    }
+
+    /// Takes the answer out of the client's mailbox, which is free then. While there is no answer the
+    /// token comes back unchanged.
+    pub fn collect(&self, waiting: Waiting<J, A>) -> Result<(Idle<J, A>, A), Waiting<J, A>>
+        requires origin { waiting_origin waiting ≡ identity self.now }
+        // The answer fits the very letter that was posted.
+        ensures fits { IfOk result (λ r. A.fits (A.label (waiting_letter waiting)) r.1) }
+        ensures back { IfErr result (λ w. w ≡ waiting) }
+        ensures origin { IfOk result (λ r. idle_origin r.0 ≡ waiting_origin waiting) }
+        ensures mailbox { IfOk result (λ r. idle_mailbox r.0 ≡ waiting_mailbox waiting) }
+        ensures closed { IfOk result (λ r. idle_saw_closed r.0 ≡ waiting_saw_closed waiting) }
+    {
+        let Waiting {
+            mut seat,
+            mailbox,
+            letter,
+        } = waiting;
+        let shared = &self.table.shared;
+        if shared.compare_exchange::<Collecting>(&mut seat, mailbox, 3, 0) != 3 {
+            return Err(Waiting {
+                seat,
+                mailbox,
+                letter,
+            });
+        }
+        let found = shared.exchange(&mut seat, mailbox, None);
+        let Some(Mail::Reply(answer)) = found else {
+            unreachable!()
+        };
+        Ok((Idle { seat, mailbox }, answer))
+    }
+
+    /// Whether the mailboxes are closed, as a client asks it. True is answered only where the flag was
+    /// read as up, and always once this token has seen it up.
+    pub fn seen_closed(&self, waiting: &mut Waiting<J, A>) -> bool
+        requires origin { waiting_origin waiting.old ≡ identity self.now }
+        ensures origin { waiting_origin waiting.new ≡ waiting_origin waiting.old }
+        ensures mailbox { waiting_mailbox waiting.new ≡ waiting_mailbox waiting.old }
+        ensures letter { waiting_letter waiting.new ≡ waiting_letter waiting.old }
+        ensures closed { waiting_saw_closed waiting.new ≡ result }
+        ensures again { waiting_saw_closed waiting.old ≡ true → result ≡ true }
+    {
+        self.table
+            .shared
+            .load::<Reading>(&mut waiting.seat, self.count)
+            == 1
+    }
+}

@@ -1,0 +1,63 @@
+//! Mailboxes that are made.
+ghost use Rattle.std.specs.Prelude.{◌≡◌, ◌+◌, ◌<◌, ◌≤◌, false, vec_len, All, IfOk, None};
+ghost use Rattle.tpcc_mailbox.specs.Tokens.{identity, mailbox_count, AreNewIdles, idle_origin, serving_origin, serving_hand, serving_splits, serving_saw_closed};
+
+use crate::answers::Answers;
+use crate::steps::{FirstCollecting, MakingClient, MakingServer};
+use crate::table::{MailboxSeat, MailboxTable, Mailboxes};
+use crate::tokens::{Idle, Serving};
+use atomic_table::Table;
+use std::alloc::{AllocError, Global};
+
+impl<J, A: Answers<J>> Mailboxes<J, A> {
+    /// Makes `n` free mailboxes, 1 to 1,000, with the token of each in order and the first server.
+    /// Nothing of it is left where memory is refused, which is the only error.
+    pub fn new(
+        alloc: Global,
+        n: usize,
+    ) -> Result<(Mailboxes<J, A>, Vec<Idle<J, A>>, Serving<J, A>), AllocError>
+        requires count { (1 ≤ n) × (n ≤ 1000) }
+        ensures count { IfOk result (λ r. mailbox_count r.0 ≡ n) }
+        ensures one_each { IfOk result (λ r. vec_len r.1 ≡ n) }
+        ensures idles { IfOk result (λ r. All (λ x. idle_origin x ≡ identity r.0) r.1.items) }
+        // The k-th has the mailbox k, and none has seen the mailboxes closed.
+        ensures numbers { IfOk result (λ r. AreNewIdles (identity r.0) r.1.items) }
+        ensures origin { IfOk result (λ r. serving_origin r.2 ≡ identity r.0) }
+        // The first server has the whole right to serve.
+        ensures serving { IfOk result (λ r. (serving_hand r.2 ≡ None) × (serving_splits r.2 ≡ 0)) }
+        ensures open { IfOk result (λ r. serving_saw_closed r.2 ≡ false) }
+    {
+        // Each mailbox starts as answered with an empty slot, which its client then collects.
+        let mut words = Vec::from_elem(alloc, 3u64, n + 1)?;
+        words[n] = 0;
+        let mut idles = Vec::with_capacity(alloc, n)?;
+        let (table, mut first): (MailboxTable<J, A>, MailboxSeat<J, A>) = Table::vacant(
+            alloc,
+            words.as_slice(),
+            n,
+            &(),
+        )?;
+        for k in 0..n {
+            let mut seat = table.shared.split_seat::<MakingClient>(&mut first);
+            table
+                .shared
+                .compare_exchange::<FirstCollecting>(&mut seat, k, 3, 0);
+            idles.push_reserved(Idle { seat, mailbox: k });
+        }
+        let seat = table.shared.split_seat::<MakingServer>(&mut first);
+        let mailboxes = Mailboxes {
+            table,
+            count: n,
+            alloc,
+        };
+        Ok((mailboxes, idles, Serving { seat }))
+    }
+
+    /// How many mailboxes there are.
+    pub fn len(&self) -> usize
+        ensures count { result ≡ mailbox_count self.now }
+    {
+        let Mailboxes { count, .. } = self;
+        *count
+    }
+}

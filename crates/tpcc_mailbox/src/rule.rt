@@ -1,0 +1,58 @@
+//! The rule of the table that clients and servers share.
+//!
+//! Word k is the state of mailbox k: 0 free, 1 posted, 2 taken, 3 answered. The last word is 1 once the
+//! mailboxes are closed, before that 0. Slot k holds what lies in mailbox k. The slot of a free mailbox is
+//! with the seat of its client, that of a taken one with the seat of the server that took the letter.
+
+use crate::answers::Answers;
+use atomic_table::TableRule;
+use std::collections::LinkedList;
+use std::marker::PhantomData;
+
+/// What lies in the slot of a mailbox.
+#[derive(Drop)]
+pub enum Mail<J, A> {
+    Letter(J),
+    Reply(A),
+}
+
+/// What the client of a mailbox knows of it. No value of it is made.
+pub enum Phase<J> {
+    /// The client hasn't fetched its empty slot yet.
+    Fresh,
+    Free,
+    /// This letter was posted and its answer not collected.
+    Sent(J),
+}
+
+/// One thing that a seat is at the table for. No value of it is made.
+pub enum Role<J> {
+    /// It opens the mailboxes from this number on.
+    Opening(u64),
+    /// The client of the mailbox of this number.
+    Client(u64, Phase<J>),
+    /// A server with an empty hand, and how often its right to serve was split.
+    Server(u64),
+    /// A server whose right was split so often, the mailbox that it took a letter from, and the letter.
+    Holder(u64, u64, J),
+}
+
+/// What a seat knows: its roles, behind one another where other seats were joined into it, and whether
+/// it has closed the mailboxes or seen them closed. No value of it is made.
+pub struct View<J> {
+    pub roles: LinkedList<Role<J>>,
+    pub closed: bool,
+}
+
+/// The rule by which words, slots and views stand to one another.
+pub struct MailboxRule<A> {
+    answers: PhantomData<A>,
+}
+
+impl<J, A: Answers<J>> TableRule<Option<Mail<J, A>>, View<J>, ()> for MailboxRule<A> {
+    ghost use Rattle.tpcc_mailbox.specs.Rule.{Ruled, opener};
+
+    ghost holds = { λ _. Ruled (λ j a. A.fits (A.label j) a) };
+
+    ghost first = { λ _. opener };
+}

@@ -1,0 +1,114 @@
+//! What a server does.
+ghost use Rattle.std.specs.Prelude.{◌≡◌, ◌+◌, ◌<◌, ◌≤◌, true, IfSome, IfNone, Some, None};
+ghost use Rattle.tpcc_mailbox.specs.Tokens.{identity, mailbox_count, serving_origin, serving_hand, serving_splits, serving_saw_closed, taken_mailbox, taken_letter};
+
+use crate::answers::Answers;
+use crate::rule::Mail;
+use crate::steps::{Answering, Closing, Reading, SplittingServer, Taking};
+use crate::table::Mailboxes;
+use crate::tokens::{Serving, Taken};
+use std::snapshot::Snapshot;
+
+impl<J, A: Answers<J>> Mailboxes<J, A> {
+    /// Takes the letter out of the mailbox `k` into the server's hand, if one is posted there. `None`
+    /// also where there is no such mailbox. Until the letter is answered this server takes no other.
+    pub fn take(&self, serving: &mut Serving<J, A>, k: usize) -> Option<(Taken<J>, J)>
+        requires origin { serving_origin serving.old ≡ identity self.now }
+        requires free { serving_hand serving.old ≡ None }
+        ensures origin { serving_origin serving.new ≡ serving_origin serving.old }
+        ensures within { IfSome result (λ r. k < mailbox_count self.now) }
+        ensures taken { IfSome result (λ r. (taken_letter r.0 ≡ r.1) × (taken_mailbox r.0 ≡ k)) }
+        ensures hand { IfSome result (λ r. serving_hand serving.new ≡ Some (k, r.1)) }
+        ensures none { IfNone result (serving.new ≡ serving.old) }
+        ensures closed { serving_saw_closed serving.new ≡ serving_saw_closed serving.old }
+        ensures splits { serving_splits serving.new ≡ serving_splits serving.old }
+    {
+        if k >= self.count {
+            return None;
+        }
+        let shared = &self.table.shared;
+        if shared.compare_exchange::<Taking>(&mut serving.seat, k, 1, 2) != 1 {
+            return None;
+        }
+        let found = shared.exchange(&mut serving.seat, k, None);
+        let Some(Mail::Letter(letter)) = found else {
+            unreachable!()
+        };
+        let taken = Taken {
+            mailbox: k,
+            letter: Snapshot::of(&letter),
+        };
+        Some((taken, letter))
+    }
+
+    /// Puts the answer of the letter in the server's hand into the mailbox that it was taken from.
+    pub fn answer(&self, serving: &mut Serving<J, A>, taken: Taken<J>, answer: A)
+        requires origin { serving_origin serving.old ≡ identity self.now }
+        // It was this server that took the letter.
+        requires taken { serving_hand serving.old ≡ Some (taken_mailbox taken, taken_letter taken) }
+        requires fits { A.fits (A.label (taken_letter taken)) answer }
+        ensures origin { serving_origin serving.new ≡ serving_origin serving.old }
+        ensures free { serving_hand serving.new ≡ None }
+        ensures closed { serving_saw_closed serving.new ≡ serving_saw_closed serving.old }
+        ensures splits { serving_splits serving.new ≡ serving_splits serving.old }
+    {
+        let Taken { mailbox, letter: _ } = taken;
+        let shared = &self.table.shared;
+        let was = shared.exchange(&mut serving.seat, mailbox, Some(Mail::Reply(answer)));
+        let None = was else { unreachable!() };
+        shared.compare_exchange::<Answering>(&mut serving.seat, mailbox, 2, 3);
+    }
+
+    /// Closes the mailboxes, which may be closed already. It raises a flag and stops nothing: letters
+    /// stay where they are, and all calls go on as before.
+    pub fn close(&self, serving: &mut Serving<J, A>)
+        requires origin { serving_origin serving.old ≡ identity self.now }
+        ensures origin { serving_origin serving.new ≡ serving_origin serving.old }
+        ensures closed { serving_saw_closed serving.new ≡ true }
+        ensures hand { serving_hand serving.new ≡ serving_hand serving.old }
+        ensures splits { serving_splits serving.new ≡ serving_splits serving.old }
+    {
+        self.table
+            .shared
+            .store::<Closing>(&mut serving.seat, self.count, 1);
+    }
+
+    /// Whether the mailboxes are closed. True is answered only where the flag was read as up, and always
+    /// once this token has closed the mailboxes or seen them closed.
+    pub fn is_closed(&self, serving: &mut Serving<J, A>) -> bool
+        requires origin { serving_origin serving.old ≡ identity self.now }
+        ensures origin { serving_origin serving.new ≡ serving_origin serving.old }
+        ensures closed { serving_saw_closed serving.new ≡ result }
+        ensures again { serving_saw_closed serving.old ≡ true → result ≡ true }
+        ensures hand { serving_hand serving.new ≡ serving_hand serving.old }
+        ensures splits { serving_splits serving.new ≡ serving_splits serving.old }
+    {
+        self.table
+            .shared
+            .load::<Reading>(&mut serving.seat, self.count)
+            == 1
+    }
+}
+
+impl<J, A: Answers<J>> Serving<J, A> {
+    /// Makes one more server, whose hand is empty. Both have seen of the closed flag what this one had.
+    pub fn split(&mut self, mailboxes: &Mailboxes<J, A>) -> Serving<J, A>
+        requires origin { serving_origin self.old ≡ identity mailboxes.now }
+        ensures origin { (serving_origin self.new ≡ serving_origin self.old)
+            × (serving_origin result ≡ serving_origin self.old) }
+        ensures hand { serving_hand self.new ≡ serving_hand self.old }
+        ensures free { serving_hand result ≡ None }
+        // Each has half the share of the right to serve that this one had.
+        ensures splits { (serving_splits self.new ≡ serving_splits self.old + 1)
+            × (serving_splits result ≡ serving_splits self.old + 1) }
+        ensures closed { (serving_saw_closed self.new ≡ serving_saw_closed self.old)
+            × (serving_saw_closed result ≡ serving_saw_closed self.old) }
+    {
+        Serving {
+            seat: mailboxes
+                .table
+                .shared
+                .split_seat::<SplittingServer>(&mut self.seat),
+        }
+    }
+}

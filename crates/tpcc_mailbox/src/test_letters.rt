@@ -1,0 +1,19 @@
+//! Letters and answers of the tests.
+use crate::Answers;
+
+// The answer of a number names the number and the server that answered it.
+#[derive(Drop)]
+pub(crate) struct Served {
+    pub letter: u64,
+    pub server: u64,
+}
+
+impl Answers<u64> for Served {
+    type Label = u64;
+
+    ghost label = { λ j. j };
+
+    ghost fits = { λ j a. a.letter ≡ j };
+
+    ghost use Rattle.std.specs.Prelude.{◌≡◌};
+}
