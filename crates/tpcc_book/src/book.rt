@@ -14,7 +14,7 @@ use std::sync::ledger::Book as LedgerBook;
 use tpcc_delivery::Queue;
 use tpcc_journal::Journal;
 use tpcc_rows::Request;
-use tpcc_tables::Tables;
+use tpcc_tables::tables::Tables;
 
 /// A register, and the two totals that its purses share: the journal's length, and by how much the
 /// sum of W_YTD rose since the opening.

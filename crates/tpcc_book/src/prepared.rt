@@ -8,7 +8,7 @@ ghost use Rattle.tpcc_book.specs.Ready.{IsReady, HasRoom};
 use std::alloc::Global;
 use tpcc_delivery::{Queue, finish_ticket, prepare_ticket};
 use tpcc_rows::{Refusal, Reply, Request, Ticket};
-use tpcc_tables::Tables;
+use tpcc_tables::tables::Tables;
 
 /// A request that nothing refuses, with all that it writes and shows.
 #[derive(Drop)]

@@ -13,7 +13,7 @@ use tpcc_delivery::Queue;
 use tpcc_journal::Journal;
 use tpcc_population::Opening;
 use tpcc_rows::{Entry, Refusal, Reply, Request, laws};
-use tpcc_tables::Tables;
+use tpcc_tables::tables::Tables;
 
 // At most so many entries are journaled.
 const MOST_ENTRIES: usize = 1_000_000_000;

@@ -1,9 +1,9 @@
 //! Delivery (2.7): the queue of tickets, and runs that deliver one district each.
 #![tactic(auto)]
 
-mod queue;
 mod tickets;
+mod waiting;
 
-pub use queue::Queue;
 pub use tickets::{finish_ticket, prepare_ticket, queue};
 pub use tpcc_rows::{Delivery, DistrictDelivery, QueuedTicket, Ticket};
+pub use waiting::Queue;

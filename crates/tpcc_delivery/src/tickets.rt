@@ -1,19 +1,20 @@
 //! A Delivery request (2.7.1): a ticket is queued.
-ghost use Rattle.std.specs.Prelude.{◌≡◌, ◌<◌, IfErr, OnOk, OnErr, Some, None, true};
+ghost use Rattle.std.specs.Prelude.{◌≡◌, ◌<◌, IfErr, IsNone, OnOk, OnErr, Some, None, true};
 ghost use Rattle.std.specs.Option.{option_or};
 ghost use Rattle.tpcc_rows.specs.Delivery.{queue_with, ticket_refusal};
 ghost use Rattle.tpcc_rows.specs.Ranges.{is_carrier};
 
-use crate::queue::Queue;
+use crate::waiting::Queue;
 use tpcc_rows::{Refusal, Ticket};
-use tpcc_tables::Tables;
+use tpcc_tables::tables::Tables;
 
 // At most so many tickets wait.
 const MOST_TICKETS: usize = 1000;
 
-#[tactic(auto, unfolding(crate::specs::Waiting::Waiting))]
+#[tactic(auto, unfolding(tpcc_rows::specs::Delivery::ticket_tests))]
 fn ticket_refusal(tables: &Tables, queue: &Queue, ticket: Ticket) -> Option<Refusal>
     ensures refusal { result ≡ ticket_refusal tables.now.rows queue.now.tickets ticket }
+    ensures carrier { IsNone result → is_carrier ticket.carrier ≡ true }
 {
     if tables.warehouse(ticket.warehouse).is_none() {
         Some(Refusal::NoWarehouse)
@@ -61,7 +62,8 @@ pub fn queue(tables: &Tables, queue: &mut Queue, ticket: Ticket) -> Result<(), R
     ensures refused { IfErr result (λ refusal. option_or (ticket_refusal tables.now.rows queue.old.tickets ticket) (Some Refusal.NoMemory) ≡ Some refusal) }
     ensures same { OnErr result (queue.new.tickets ≡ queue.old.tickets) }
 {
-    prepare_ticket(tables, queue, ticket)?;
+    let queued = ticket;
+    prepare_ticket(tables, queue, queued)?;
     finish_ticket(queue, ticket);
     Ok(())
 }
