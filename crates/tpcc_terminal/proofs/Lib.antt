@@ -1,0 +1,3 @@
+mod WorkedScreens
+pub mod Chains
+pub mod Districts
