@@ -15,6 +15,7 @@ pub mod TurnKeys
 pub mod ReplayKeeps
 pub mod CheckLemmas
 pub mod PaymentParents
+pub mod Elements
 mod Plain
 pub mod Small
 mod WorkedPayments

@@ -11,7 +11,9 @@ pub mod Opening
 pub mod Payment
 pub mod Printable
 pub mod Ranges
+pub mod RefusalOrder
 pub mod Replay
+pub mod SoundState
 pub mod Tables
 pub mod Turn
 pub mod WellKeyed

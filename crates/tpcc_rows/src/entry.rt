@@ -2,10 +2,12 @@
 use crate::replies::Reply;
 use crate::requests::Request;
 
-/// A journaled request with its reply; the number counts the entries of its terminal.
-#[derive(Drop)]
+/// One accepted request with its reply.
+#[derive(Debug, Drop, PartialEq, Eq)]
 pub struct Entry {
+    /// The terminal whose request it was.
     pub terminal: u32,
+    /// How many entries of this terminal stand before this one: 0, 1, 2 and so on.
     pub number: u64,
     pub request: Request,
     pub reply: Reply,

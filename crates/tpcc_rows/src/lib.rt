@@ -1,9 +1,35 @@
-//! Rows of the nine tables, and the requests and replies of the transactions.
+//! The nine tables' rows, the requests and replies of the five transactions, and
+//! the model of order entry that every contract cites (`specs/`).
 #![tactic(auto)]
 
+pub mod copy_replies;
+pub mod copy_requests;
+pub mod copy_rows;
 pub mod entry;
+pub mod keys;
+pub mod laws;
 pub mod refusals;
 pub mod replies;
 pub mod requests;
+pub mod row;
 pub mod rows;
 pub mod text;
+
+pub use entry::Entry;
+pub use keys::{
+    CustomerKey, DistrictKey, ItemKey, NewOrderKey, OrderKey, OrderLineKey, StockKey, WarehouseKey,
+};
+pub use refusals::{Field, Refusal};
+pub use replies::{
+    AcceptedOrder, Brand, Delivered, Delivery, DistrictDelivery, Entered, EnteredLine,
+    EnteredLines, LastOrder, Level, Paid, Reply, RolledBackOrder, Status, StatusLine, StatusLines,
+};
+pub use requests::{
+    Line, Lines, Order, Payment, QueuedTicket, Request, StatusQuery, StockQuery, Ticket, Who,
+};
+pub use row::{Row, RowRef, Table};
+pub use rows::{
+    Address, CustomerRow, DistrictRow, HistoryRow, ItemRow, NewOrderRow, OrderLineRow, OrderRow,
+    StockRow, WarehouseRow,
+};
+pub use text::{Text, TextFault};

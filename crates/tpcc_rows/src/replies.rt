@@ -1,5 +1,6 @@
-//! What the screens show.
+//! What the replies hold: the values that the terminals' screens show.
 ghost use Rattle.std.specs.Prelude.{◌≡◌, IfOk};
+ghost use Rattle.std.specs.Cmp.Lexicographic.{pointwise, lists_equiv, lists_per};
 
 use crate::requests::Ticket;
 use crate::rows::Address;
@@ -7,29 +8,37 @@ use crate::text::Text;
 use std::marker::Model;
 use tpcc_money::{Cents, Moment, NoMemory, Rate};
 
+/// The brand of a line (2.4.2.2): B where I_DATA and S_DATA both contain ORIGINAL, else G.
 #[derive(Clone, Copy, Debug, PartialEq, Eq)]
 pub enum Brand {
+    /// B.
     Original,
+    /// G.
     Generic,
 }
 
-/// A line of an accepted order.
-#[derive(Drop)]
+/// A line of an accepted order (2.4.3.3).
+#[derive(Debug, Drop, PartialEq, Eq)]
 pub struct EnteredLine {
     pub number: u32,
     pub supply: u32,
     pub item: u32,
+    /// I_NAME.
     pub name: Text,
     pub quantity: u32,
+    /// S_QUANTITY as it stands after this line.
     pub stock: u32,
     pub brand: Brand,
+    /// I_PRICE.
     pub price: Cents,
+    /// OL_AMOUNT.
     pub amount: Cents,
 }
 
-#[derive(Drop)]
+/// The lines of an accepted order, seen as their list.
+#[derive(Debug, Drop)]
 pub struct EnteredLines {
-    items: Vec<EnteredLine>,
+    entered: Vec<EnteredLine>,
 }
 
 impl Model for EnteredLines {
@@ -38,24 +47,60 @@ impl Model for EnteredLines {
 
     ghost Value = { List EnteredLine };
 
-    ghost view = { λ l. l.items.items };
+    ghost view = { λ l. l.entered.items };
 }
 
 impl EnteredLines {
+    /// These lines, in their order.
     pub fn new(items: Vec<EnteredLine>) -> EnteredLines
-        ensures { result ≡ items.items }
+        ensures lines { result ≡ items.items }
     {
-        EnteredLines { items }
+        EnteredLines { entered: items }
     }
 
+    /// The lines, in their order.
     pub fn as_slice(&self) -> &[EnteredLine]
-        ensures { result.now ≡ self.now }
+        ensures lines { result.now ≡ self.now }
     {
-        self.items.as_slice()
+        self.entered.as_slice()
+    }
+
+    /// A copy of the lines.
+    pub fn duplicate(&self) -> Result<EnteredLines, NoMemory>
+        ensures equal { IfOk result (λ copy. copy ≡ self.now) }
+    {
+        let mut items = Vec::new(*self.entered.allocator());
+        for line in self.as_slice() {
+            let copy = line.duplicate()?;
+            match items.push(copy) {
+                Ok(()) => {}
+                Err(_) => return Err(NoMemory),
+            }
+        }
+        Ok(EnteredLines { entered: items })
     }
 }
 
-#[derive(Drop)]
+impl PartialEq for EnteredLines {
+    ghost use Rattle.tpcc_rows.specs.contracts.replies.EnteredLinePartialEq.TheImpl.Laws.{laws-law};
+
+    ghost eq = { pointwise ⟦<EnteredLine as PartialEq>⟧.eq };
+
+    ghost laws = { lists_per laws-law };
+
+    fn eq(&self, other: &Self) -> bool {
+        self.as_slice() == other.as_slice()
+    }
+}
+
+impl Eq for EnteredLines {
+    ghost use Rattle.tpcc_rows.specs.contracts.replies.EnteredLineEq.TheImpl.Laws.{laws-law};
+
+    ghost laws = { lists_equiv laws-law };
+}
+
+/// An order that was entered (2.4.3.3).
+#[derive(Debug, Drop, PartialEq, Eq)]
 pub struct AcceptedOrder {
     pub warehouse: u32,
     pub district: u32,
@@ -63,32 +108,39 @@ pub struct AcceptedOrder {
     pub last: Text,
     pub credit: Text,
     pub discount: Rate,
+    /// O_ID.
     pub order: u32,
+    /// O_OL_CNT.
     pub line_count: u32,
     pub warehouse_tax: Rate,
     pub district_tax: Rate,
     pub entry_date: Moment,
+    /// The order's total after discount and taxes, rounded half up to a cent.
     pub total: Cents,
     pub lines: EnteredLines,
 }
 
-#[derive(Drop)]
+/// An order with an unused item, which was rolled back (2.4.3.4).
+#[derive(Debug, Drop, PartialEq, Eq)]
 pub struct RolledBackOrder {
     pub warehouse: u32,
     pub district: u32,
     pub customer: u32,
     pub last: Text,
     pub credit: Text,
+    /// The O_ID that the order would have had.
     pub order: u32,
 }
 
-#[derive(Drop)]
+/// What became of a New-Order request.
+#[derive(Debug, Drop, PartialEq, Eq)]
 pub enum Entered {
     Accepted(AcceptedOrder),
     RolledBack(RolledBackOrder),
 }
 
-#[derive(Drop)]
+/// A payment that was made (2.5.3.3); all values are those after it.
+#[derive(Debug, Drop, PartialEq, Eq)]
 pub struct Paid {
     pub warehouse: u32,
     pub district: u32,
@@ -113,7 +165,8 @@ pub struct Paid {
     pub information: Option<Text>,
 }
 
-#[derive(Drop)]
+/// A line of a customer's last order (2.6.3.3).
+#[derive(Clone, Copy, Debug, PartialEq, Eq)]
 pub struct StatusLine {
     pub supply: u32,
     pub item: u32,
@@ -122,9 +175,10 @@ pub struct StatusLine {
     pub delivered: Option<Moment>,
 }
 
-#[derive(Drop)]
+/// The lines of a customer's last order, seen as their list.
+#[derive(Debug, Drop)]
 pub struct StatusLines {
-    items: Vec<StatusLine>,
+    shown: Vec<StatusLine>,
 }
 
 impl Model for StatusLines {
@@ -133,32 +187,65 @@ impl Model for StatusLines {
 
     ghost Value = { List StatusLine };
 
-    ghost view = { λ l. l.items.items };
+    ghost view = { λ l. l.shown.items };
 }
 
 impl StatusLines {
+    /// These lines, in their order.
     pub fn new(items: Vec<StatusLine>) -> StatusLines
-        ensures { result ≡ items.items }
+        ensures lines { result ≡ items.items }
     {
-        StatusLines { items }
+        StatusLines { shown: items }
     }
 
+    /// The lines, in their order.
     pub fn as_slice(&self) -> &[StatusLine]
-        ensures { result.now ≡ self.now }
+        ensures lines { result.now ≡ self.now }
     {
-        self.items.as_slice()
+        self.shown.as_slice()
+    }
+
+    /// A copy of the lines.
+    pub fn duplicate(&self) -> Result<StatusLines, NoMemory>
+        ensures equal { IfOk result (λ copy. copy ≡ self.now) }
+    {
+        match self.shown.clone() {
+            Ok(copy) => Ok(StatusLines { shown: copy }),
+            Err(_) => Err(NoMemory),
+        }
     }
 }
 
-#[derive(Drop)]
+impl PartialEq for StatusLines {
+    ghost use Rattle.tpcc_rows.specs.contracts.replies.StatusLinePartialEq.TheImpl.Laws.{laws-law};
+
+    ghost eq = { pointwise ⟦<StatusLine as PartialEq>⟧.eq };
+
+    ghost laws = { lists_per laws-law };
+
+    fn eq(&self, other: &Self) -> bool {
+        self.as_slice() == other.as_slice()
+    }
+}
+
+impl Eq for StatusLines {
+    ghost use Rattle.tpcc_rows.specs.contracts.replies.StatusLineEq.TheImpl.Laws.{laws-law};
+
+    ghost laws = { lists_equiv laws-law };
+}
+
+/// A customer's last order (2.6.3.3).
+#[derive(Debug, Drop, PartialEq, Eq)]
 pub struct LastOrder {
+    /// O_ID.
     pub order: u32,
     pub entry_date: Moment,
     pub carrier: Option<u32>,
     pub lines: StatusLines,
 }
 
-#[derive(Drop)]
+/// What Order-Status answers (2.6.3.3).
+#[derive(Debug, Drop, PartialEq, Eq)]
 pub struct Status {
     pub warehouse: u32,
     pub district: u32,
@@ -167,41 +254,50 @@ pub struct Status {
     pub middle: Text,
     pub last: Text,
     pub balance: Cents,
+    /// None where the customer has no order.
     pub order: Option<LastOrder>,
 }
 
-#[derive(Clone, Copy)]
+/// What Stock-Level answers (2.8.3.3).
+#[derive(Clone, Copy, Debug, PartialEq, Eq)]
 pub struct Level {
     pub warehouse: u32,
     pub district: u32,
     pub threshold: u32,
+    /// How many distinct items of the last 20 orders are below the threshold.
     pub low_stock: u32,
 }
 
-/// One district of a ticket, run.
-#[derive(Clone, Copy)]
+/// One district of a ticket, run (2.7.4.2).
+#[derive(Clone, Copy, Debug, PartialEq, Eq)]
 pub struct DistrictDelivery {
     pub ticket: Ticket,
+    /// The moment of the run.
     pub at: Moment,
     pub district: u32,
+    /// The order that was delivered; None where the district had no NEW-ORDER row and was skipped.
     pub order: Option<u32>,
 }
 
-#[derive(Clone, Copy)]
+/// What a Deliver request answers.
+#[derive(Clone, Copy, Debug, PartialEq, Eq)]
 pub enum Delivery {
     District(DistrictDelivery),
     NoneQueued,
 }
 
-/// The orders that a whole ticket delivered.
-#[derive(Clone, Copy)]
+/// The ten runs of one ticket, as the delivery result log has them (2.7.2.2).
+#[derive(Clone, Copy, Debug, PartialEq, Eq)]
 pub struct Delivered {
     pub ticket: Ticket,
+    /// The moment of the tenth run.
     pub at: Moment,
+    /// The orders of districts 1 to 10; None where a district was skipped.
     pub orders: [Option<u32>; 10],
 }
 
-#[derive(Drop)]
+/// What an accepted request is answered.
+#[derive(Debug, Drop, PartialEq, Eq)]
 pub enum Reply {
     Entered(Entered),
     Paid(Paid),
@@ -209,55 +305,4 @@ pub enum Reply {
     Level(Level),
     Queued(Ticket),
     Delivery(Delivery),
-}
-
-/// A copy of a text that may be missing.
-fn duplicate_or_none(text: &Option<Text>) -> Result<Option<Text>, NoMemory>
-    ensures { IfOk result (λ copy. copy ≡ text.now) }
-{
-    match text {
-        Some(text) => {
-            let copy = text.duplicate()?;
-            Ok(Some(copy))
-        }
-        None => Ok(None),
-    }
-}
-
-impl Paid {
-    pub fn duplicate(&self) -> Result<Paid, NoMemory>
-        ensures { IfOk result (λ paid. paid ≡ self.now) }
-    {
-        let warehouse_address = self.warehouse_address.duplicate()?;
-        let district_address = self.district_address.duplicate()?;
-        let first = self.first.duplicate()?;
-        let middle = self.middle.duplicate()?;
-        let last = self.last.duplicate()?;
-        let customer_address = self.customer_address.duplicate()?;
-        let phone = self.phone.duplicate()?;
-        let credit = self.credit.duplicate()?;
-        let information = duplicate_or_none(&self.information)?;
-        Ok(Paid {
-            warehouse: self.warehouse,
-            district: self.district,
-            customer_warehouse: self.customer_warehouse,
-            customer_district: self.customer_district,
-            customer: self.customer,
-            amount: self.amount,
-            date: self.date,
-            warehouse_address,
-            district_address,
-            first,
-            middle,
-            last,
-            customer_address,
-            phone,
-            since: self.since,
-            credit,
-            credit_limit: self.credit_limit,
-            discount: self.discount,
-            balance: self.balance,
-            information,
-        })
-    }
 }

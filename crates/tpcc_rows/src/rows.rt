@@ -1,11 +1,18 @@
-//! The rows of the nine tables.
-ghost use Rattle.std.specs.Prelude.{◌≡◌, IfOk};
+//! The rows of the nine tables (1.3), with the columns in the standard's order.
+//!
+//! A column's field is its name in words without the table's prefix; the four
+//! `*_DATA` columns are `information`. The ranges of all columns stand in
+//! `specs/Ranges.antt`; a row outside of them can be built but not loaded.
+ghost use Rattle.std.specs.Prelude.{◌≡◌};
 
+use crate::keys::{
+    CustomerKey, DistrictKey, ItemKey, NewOrderKey, OrderKey, OrderLineKey, StockKey, WarehouseKey,
+};
 use crate::text::Text;
-use tpcc_money::{Cents, Moment, NoMemory, Rate};
+use tpcc_money::{Cents, Moment, Rate};
 
-/// The five columns of an address.
-#[derive(Drop)]
+/// The five columns of an address: streets and city up to 20 bytes, state 2, ZIP 9.
+#[derive(Debug, Drop, PartialEq, Eq)]
 pub struct Address {
     pub street_1: Text,
     pub street_2: Text,
@@ -14,7 +21,8 @@ pub struct Address {
     pub zip: Text,
 }
 
-#[derive(Drop)]
+/// WAREHOUSE: W_ID, W_NAME, the address, W_TAX, W_YTD.
+#[derive(Debug, Drop, PartialEq, Eq)]
 pub struct WarehouseRow {
     pub id: u32,
     pub name: Text,
@@ -23,7 +31,8 @@ pub struct WarehouseRow {
     pub ytd: Cents,
 }
 
-#[derive(Drop)]
+/// DISTRICT: D_ID, D_W_ID, D_NAME, the address, D_TAX, D_YTD, D_NEXT_O_ID.
+#[derive(Debug, Drop, PartialEq, Eq)]
 pub struct DistrictRow {
     pub id: u32,
     pub warehouse: u32,
@@ -31,10 +40,12 @@ pub struct DistrictRow {
     pub address: Address,
     pub tax: Rate,
     pub ytd: Cents,
+    /// D_NEXT_O_ID: the number that the next order takes.
     pub next_order: u32,
 }
 
-#[derive(Drop)]
+/// CUSTOMER: C_ID, C_D_ID, C_W_ID, the names, the address, and the rest to C_DATA.
+#[derive(Debug, Drop, PartialEq, Eq)]
 pub struct CustomerRow {
     pub id: u32,
     pub district: u32,
@@ -45,17 +56,21 @@ pub struct CustomerRow {
     pub address: Address,
     pub phone: Text,
     pub since: Moment,
+    /// C_CREDIT: `GC` for good, `BC` for bad.
     pub credit: Text,
     pub credit_limit: Cents,
     pub discount: Rate,
+    /// C_BALANCE: what the customer owes; below zero where more was paid than delivered.
     pub balance: Cents,
     pub ytd_payment: Cents,
     pub payment_count: u32,
     pub delivery_count: u32,
+    /// C_DATA, at most 500 bytes.
     pub information: Text,
 }
 
-#[derive(Drop)]
+/// HISTORY: one payment of a customer into a district.
+#[derive(Debug, Drop, PartialEq, Eq)]
 pub struct HistoryRow {
     pub customer: u32,
     pub customer_district: u32,
@@ -64,111 +79,172 @@ pub struct HistoryRow {
     pub warehouse: u32,
     pub date: Moment,
     pub amount: Cents,
+    /// H_DATA, at most 24 bytes.
     pub information: Text,
 }
 
-#[derive(Drop)]
+/// ORDER: O_ID, O_D_ID, O_W_ID, O_C_ID, O_ENTRY_D, O_CARRIER_ID, O_OL_CNT, O_ALL_LOCAL.
+#[derive(Clone, Copy, Debug, PartialEq, Eq)]
 pub struct OrderRow {
     pub id: u32,
     pub district: u32,
     pub warehouse: u32,
     pub customer: u32,
     pub entry_date: Moment,
+    /// O_CARRIER_ID: null until the order is delivered.
     pub carrier: Option<u32>,
     pub line_count: u32,
+    /// O_ALL_LOCAL: whether the home warehouse supplies every line.
     pub all_local: bool,
 }
 
-#[derive(Drop)]
+/// ORDER-LINE: one line of an order, numbered from 1.
+#[derive(Debug, Drop, PartialEq, Eq)]
 pub struct OrderLineRow {
     pub order: u32,
     pub district: u32,
     pub warehouse: u32,
     pub number: u32,
     pub item: u32,
+    /// OL_SUPPLY_W_ID: the warehouse whose stock the line takes.
     pub supply: u32,
+    /// OL_DELIVERY_D: null until the order is delivered.
     pub delivered: Option<Moment>,
     pub quantity: u32,
     pub amount: Cents,
+    /// OL_DIST_INFO, exactly 24 bytes.
     pub district_information: Text,
 }
 
-#[derive(Drop)]
+/// NEW-ORDER: an order that is not delivered yet.
+#[derive(Clone, Copy, Debug, PartialEq, Eq)]
 pub struct NewOrderRow {
     pub order: u32,
     pub district: u32,
     pub warehouse: u32,
 }
 
-#[derive(Drop)]
+/// ITEM: I_ID, I_IM_ID, I_NAME, I_PRICE, I_DATA.
+#[derive(Debug, Drop, PartialEq, Eq)]
 pub struct ItemRow {
     pub id: u32,
     pub image: u32,
     pub name: Text,
     pub price: Cents,
+    /// I_DATA, at most 50 bytes.
     pub information: Text,
 }
 
-#[derive(Drop)]
+/// STOCK: one item in one warehouse.
+#[derive(Debug, Drop, PartialEq, Eq)]
 pub struct StockRow {
     pub item: u32,
     pub warehouse: u32,
     pub quantity: u32,
+    /// S_DIST_01 to S_DIST_10, each exactly 24 bytes.
     pub district_information: [Text; 10],
     pub ytd: u32,
     pub order_count: u32,
     pub remote_count: u32,
+    /// S_DATA, at most 50 bytes.
     pub information: Text,
 }
 
-impl Address {
-    pub fn duplicate(&self) -> Result<Address, NoMemory>
-        ensures { IfOk result (λ row. row ≡ self.now) }
+impl WarehouseRow {
+    pub fn key(&self) -> WarehouseKey
+        ensures warehouse { result.warehouse ≡ self.now.id }
     {
-        let street_1 = self.street_1.duplicate()?;
-        let street_2 = self.street_2.duplicate()?;
-        let city = self.city.duplicate()?;
-        let state = self.state.duplicate()?;
-        let zip = self.zip.duplicate()?;
-        Ok(Address {
-            street_1,
-            street_2,
-            city,
-            state,
-            zip,
-        })
+        WarehouseKey { warehouse: self.id }
+    }
+}
+
+impl DistrictRow {
+    pub fn key(&self) -> DistrictKey
+        ensures warehouse { result.warehouse ≡ self.now.warehouse }
+        ensures district { result.district ≡ self.now.id }
+    {
+        DistrictKey {
+            warehouse: self.warehouse,
+            district: self.id,
+        }
     }
 }
 
 impl CustomerRow {
-    pub fn duplicate(&self) -> Result<CustomerRow, NoMemory>
-        ensures { IfOk result (λ row. row ≡ self.now) }
+    pub fn key(&self) -> CustomerKey
+        ensures warehouse { result.warehouse ≡ self.now.warehouse }
+        ensures district { result.district ≡ self.now.district }
+        ensures customer { result.customer ≡ self.now.id }
     {
-        let first = self.first.duplicate()?;
-        let middle = self.middle.duplicate()?;
-        let last = self.last.duplicate()?;
-        let address = self.address.duplicate()?;
-        let phone = self.phone.duplicate()?;
-        let credit = self.credit.duplicate()?;
-        let information = self.information.duplicate()?;
-        Ok(CustomerRow {
-            id: self.id,
-            district: self.district,
+        CustomerKey {
             warehouse: self.warehouse,
-            first,
-            middle,
-            last,
-            address,
-            phone,
-            since: self.since,
-            credit,
-            credit_limit: self.credit_limit,
-            discount: self.discount,
-            balance: self.balance,
-            ytd_payment: self.ytd_payment,
-            payment_count: self.payment_count,
-            delivery_count: self.delivery_count,
-            information,
-        })
+            district: self.district,
+            customer: self.id,
+        }
+    }
+}
+
+impl OrderRow {
+    pub fn key(&self) -> OrderKey
+        ensures warehouse { result.warehouse ≡ self.now.warehouse }
+        ensures district { result.district ≡ self.now.district }
+        ensures order { result.order ≡ self.now.id }
+    {
+        OrderKey {
+            warehouse: self.warehouse,
+            district: self.district,
+            order: self.id,
+        }
+    }
+}
+
+impl OrderLineRow {
+    pub fn key(&self) -> OrderLineKey
+        ensures warehouse { result.warehouse ≡ self.now.warehouse }
+        ensures district { result.district ≡ self.now.district }
+        ensures order { result.order ≡ self.now.order }
+        ensures number { result.number ≡ self.now.number }
+    {
+        OrderLineKey {
+            warehouse: self.warehouse,
+            district: self.district,
+            order: self.order,
+            number: self.number,
+        }
+    }
+}
+
+impl NewOrderRow {
+    pub fn key(&self) -> NewOrderKey
+        ensures warehouse { result.warehouse ≡ self.now.warehouse }
+        ensures district { result.district ≡ self.now.district }
+        ensures order { result.order ≡ self.now.order }
+    {
+        let order = self.order;
+        NewOrderKey {
+            warehouse: self.warehouse,
+            district: self.district,
+            order,
+        }
+    }
+}
+
+impl ItemRow {
+    pub fn key(&self) -> ItemKey
+        ensures item { result.item ≡ self.now.id }
+    {
+        ItemKey { item: self.id }
+    }
+}
+
+impl StockRow {
+    pub fn key(&self) -> StockKey
+        ensures warehouse { result.warehouse ≡ self.now.warehouse }
+        ensures item { result.item ≡ self.now.item }
+    {
+        StockKey {
+            warehouse: self.warehouse,
+            item: self.item,
+        }
     }
 }

@@ -1,31 +1,37 @@
 //! Short texts of printable ASCII.
-ghost use Rattle.std.specs.Prelude.{◌≡◌, ◌<◌, ◌≤◌, ◌↔◌, ◌++◌, IfOk, IsErrOf, IsTrue, length, take, true, false};
+ghost use Rattle.std.specs.Prelude.{◌≡◌, ◌==◌, ◌<◌, ◌≤◌, ◌↔◌, IfOk, IsErrOf, IsTrue, length, [], true, false};
 ghost use Rattle.std.specs.List.{list_all};
+ghost use Rattle.std.specs.Cmp.Lexicographic.{pointwise};
+ghost use Rattle.std.specs.Cmp.Rules.{comparing};
+ghost use Rattle.std.proofs.Common.{rules};
 ghost use Rattle.tpcc_rows.specs.Printable.{is_printable};
 
-use std::alloc::Global;
+use std::alloc::{Allocator, Global};
 use std::marker::Model;
 use thiserror::Error;
 use tpcc_money::NoMemory;
 
-/// Why bytes are no text.
+/// Why bytes are no text, in the order of the tests.
 #[derive(Clone, Copy, Debug, PartialEq, Eq, Error)]
 pub enum TextFault {
+    /// More bytes than the bound.
     #[error("TooLong")]
     TooLong,
+    /// A byte outside 32 to 126.
     #[error("NotAscii")]
     NotAscii,
+    /// A growth was refused.
     #[error("NoMemory")]
     NoMemory,
 }
 
-/// Bytes of 32 to 126, seen as their list.
+/// A text of a column: bytes of 32 to 126, seen as their list.
 #[derive(Debug, Drop)]
-pub struct Text {
-    bytes: Vec<u8>,
+pub struct Text<A: Allocator = Global> {
+    bytes: Vec<u8, A>,
 }
 
-impl Model for Text {
+impl<A: Allocator> Model for Text<A> {
     ghost use Rattle.std.specs.Prelude.{ℕ, List, ◌≡◌, true};
     ghost use Rattle.std.specs.List.{list_all};
     ghost use Rattle.tpcc_rows.specs.Printable.{is_printable};
@@ -45,14 +51,14 @@ fn is_plain(byte: u8) -> bool
 
 /// Whether all bytes may stand in a text.
 pub fn are_plain(bytes: &[u8]) -> bool
-    ensures { result ≡ list_all is_printable bytes.now }
+    ensures plain { result ≡ list_all is_printable bytes.now }
 {
     bytes.iter().all(|byte| is_plain(*byte))
 }
 
-impl Text {
-    /// The text of some bytes, at most so many.
-    pub fn new(alloc: Global, bytes: &[u8], bound: usize) -> Result<Text, TextFault>
+impl<A: Allocator> Text<A> {
+    /// A copy of the bytes as a text of at most `bound` bytes.
+    pub fn new(alloc: A, bytes: &[u8], bound: usize) -> Result<Text<A>, TextFault>
         ensures ok { IfOk result (λ t. t ≡ bytes.now) }
         ensures too_long { IsErrOf result TextFault.TooLong ↔ (bound < length bytes.now) }
         ensures not_ascii { IsErrOf result TextFault.NotAscii ↔ ((length bytes.now ≤ bound) × (list_all is_printable bytes.now ≡ false)) }
@@ -70,14 +76,15 @@ impl Text {
         }
     }
 
-    /// The text of bytes that are all printable.
-    pub fn of(bytes: Vec<u8>) -> Text
-        requires { list_all is_printable bytes.items ≡ true }
-        ensures { result ≡ bytes.items }
+    /// The text of bytes that are all 32 to 126; nothing is copied.
+    pub fn of(bytes: Vec<u8, A>) -> Text<A>
+        requires printable { list_all is_printable bytes.items ≡ true }
+        ensures text { result ≡ bytes.items }
     {
         Text { bytes }
     }
 
+    /// The bytes of the text.
     pub fn bytes(&self) -> &[u8]
         ensures bytes { result.now ≡ self.now }
         ensures printable { list_all is_printable self.now ≡ true }
@@ -85,24 +92,43 @@ impl Text {
         self.bytes.as_slice()
     }
 
+    /// How many bytes the text has.
     pub fn len(&self) -> usize
-        ensures { result ≡ length self.now }
+        ensures length { result ≡ length self.now }
     {
         self.bytes.len()
     }
 
+    /// Whether the text has no byte.
     pub fn is_empty(&self) -> bool
-        ensures { IsTrue result ↔ (length self.now ≡ 0) }
+        ensures empty { IsTrue result ↔ (self.now ≡ []) }
     {
         self.bytes.is_empty()
     }
+}
 
-    pub fn duplicate(&self) -> Result<Text, NoMemory>
-        ensures { IfOk result (λ t. t ≡ self.now) }
+impl<A: Allocator + Clone> Text<A> {
+    /// A copy of the text.
+    pub fn duplicate(&self) -> Result<Text<A>, NoMemory>
+        ensures equal { IfOk result (λ t. t ≡ self.now) }
     {
         match self.bytes.clone() {
-            Ok(bytes) => Ok(Text { bytes }),
+            Ok(copy) => Ok(Text { bytes: copy }),
             Err(_) => Err(NoMemory),
         }
     }
+}
+
+impl<A: Allocator> PartialEq for Text<A> {
+    ghost eq = { pointwise ◌==◌ };
+
+    ghost laws = { Prim.search (comparing, rules) };
+
+    fn eq(&self, other: &Self) -> bool {
+        self.bytes() == other.bytes()
+    }
+}
+
+impl<A: Allocator> Eq for Text<A> {
+    ghost laws = { Prim.search (comparing, rules) };
 }

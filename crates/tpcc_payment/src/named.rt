@@ -1,0 +1,73 @@
+//! The rows that a payment names, and why it may be refused.
+ghost use Rattle.std.specs.Prelude.{◌≡◌, IfOk, IfErr, Some};
+ghost use Rattle.std.specs.Option.{option_copied};
+ghost use Rattle.tpcc_rows.specs.Payment.{payment_refusal};
+ghost use Rattle.tpcc_rows.specs.ChosenCustomer.{chosen_customer};
+ghost use Rattle.tpcc_payment.specs.Prepares.{IsNamed};
+
+use crate::ranges::range_refusal;
+use tpcc_rows::refusals::Refusal;
+use tpcc_rows::requests::{Payment, Who};
+use tpcc_rows::rows::*;
+use tpcc_tables::tables::Tables;
+
+/// The rows that a payment names.
+#[derive(Drop)]
+pub struct NamedRows<'a> {
+    pub warehouse: &'a WarehouseRow,
+    pub district: &'a DistrictRow,
+    pub customer: &'a CustomerRow,
+}
+
+#[tactic(auto, unfolding(tpcc_rows::specs::ChosenCustomer::chosen_customer))]
+/// The customer whom a payment names.
+fn chosen<'a>(tables: &'a Tables, payment: &Payment) -> Option<&'a CustomerRow>
+    ensures { option_copied result ≡ chosen_customer tables.now.rows payment.now.customer_warehouse payment.now.customer_district payment.now.who }
+{
+    match &payment.who {
+        Who::Number(customer) => tables.customer(
+            payment.customer_warehouse,
+            payment.customer_district,
+            *customer,
+        ),
+        Who::Name(last) => tables.customer_by_name(
+            payment.customer_warehouse,
+            payment.customer_district,
+            last.bytes(),
+        ),
+    }
+}
+
+/// The rows of a payment that nothing refuses.
+pub fn rows_of_payment<'a>(tables: &'a Tables, payment: &Payment) -> Result<NamedRows<'a>, Refusal>
+    ensures ok { IfOk result (IsNamed tables.now.rows payment.now) }
+    ensures err { IfErr result (λ refusal. payment_refusal tables.now.rows payment.now ≡ Some refusal) }
+{
+    let Some(warehouse) = tables.warehouse(payment.warehouse) else {
+        return Err(Refusal::NoWarehouse);
+    };
+    if tables.warehouse(payment.customer_warehouse).is_none() {
+        return Err(Refusal::NoWarehouse);
+    }
+    let Some(district) = tables.district(payment.warehouse, payment.district) else {
+        return Err(Refusal::NoDistrict);
+    };
+    if tables
+        .district(payment.customer_warehouse, payment.customer_district)
+        .is_none()
+    {
+        return Err(Refusal::NoDistrict);
+    }
+    let Some(customer) = chosen(tables, payment) else {
+        return Err(Refusal::NoCustomer);
+    };
+    let named = NamedRows {
+        warehouse,
+        district,
+        customer,
+    };
+    match range_refusal(&named, payment.amount) {
+        Some(refusal) => Err(refusal),
+        None => Ok(named),
+    }
+}

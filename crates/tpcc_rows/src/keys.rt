@@ -1,0 +1,63 @@
+//! The primary keys of the eight keyed tables (1.3). HISTORY has none.
+//!
+//! Keys are ordered as the tables are: the warehouse first, then the district,
+//! then the row's own number.
+
+/// W_ID.
+#[derive(Clone, Copy, Debug, PartialEq, Eq, PartialOrd, Ord, Hash)]
+pub struct WarehouseKey {
+    pub warehouse: u32,
+}
+
+/// (D_W_ID, D_ID).
+#[derive(Clone, Copy, Debug, PartialEq, Eq, PartialOrd, Ord, Hash)]
+pub struct DistrictKey {
+    pub warehouse: u32,
+    pub district: u32,
+}
+
+/// (C_W_ID, C_D_ID, C_ID).
+#[derive(Clone, Copy, Debug, PartialEq, Eq, PartialOrd, Ord, Hash)]
+pub struct CustomerKey {
+    pub warehouse: u32,
+    pub district: u32,
+    pub customer: u32,
+}
+
+/// (NO_W_ID, NO_D_ID, NO_O_ID).
+#[derive(Clone, Copy, Debug, PartialEq, Eq, PartialOrd, Ord, Hash)]
+pub struct NewOrderKey {
+    pub warehouse: u32,
+    pub district: u32,
+    pub order: u32,
+}
+
+/// (O_W_ID, O_D_ID, O_ID).
+#[derive(Clone, Copy, Debug, PartialEq, Eq, PartialOrd, Ord, Hash)]
+pub struct OrderKey {
+    pub warehouse: u32,
+    pub district: u32,
+    pub order: u32,
+}
+
+/// (OL_W_ID, OL_D_ID, OL_O_ID, OL_NUMBER).
+#[derive(Clone, Copy, Debug, PartialEq, Eq, PartialOrd, Ord, Hash)]
+pub struct OrderLineKey {
+    pub warehouse: u32,
+    pub district: u32,
+    pub order: u32,
+    pub number: u32,
+}
+
+/// I_ID.
+#[derive(Clone, Copy, Debug, PartialEq, Eq, PartialOrd, Ord, Hash)]
+pub struct ItemKey {
+    pub item: u32,
+}
+
+/// (S_W_ID, S_I_ID).
+#[derive(Clone, Copy, Debug, PartialEq, Eq, PartialOrd, Ord, Hash)]
+pub struct StockKey {
+    pub warehouse: u32,
+    pub item: u32,
+}

@@ -1,0 +1,17 @@
+use Rattle.std.proofs.Common.{rules, sym, subst, ◌∙◌, ◌≡◌, None}
+use Rattle.tpcc_tables.specs.Held.{Held}
+use Rattle.tpcc_tables.specs.View.{rows_of}
+use Rattle.tpcc_tables.specs.Loads.{history_fault}
+use Rattle.tpcc_tables.proofs.LoadLemmas.{loaded_history}
+use Rattle.tpcc_tables.proofs.tables.Tables.load_history.Goals as goal
+
+pub invariant_of-self-2 : goal.invariant_of-self-2
+invariant_of-self-2 c =
+    let fault = subst (λ (t : Held). history_fault t.rows c.args.row ≡ None) (sym c.self.view_is) (sym c.of_history.ensures ∙ c.in_default.is) in
+    record {
+      well_keyed = rw c.in_default-push.ensures.appended (loaded_history (rows_of c.self.inside) c.args.row fault c.self.invariant.well_keyed);
+      order = c.self.invariant.order;
+      new_order = c.self.invariant.new_order;
+      lines = c.self.invariant.lines;
+      payments = search rules;
+    }

@@ -1,0 +1,48 @@
+use Rattle.std.proofs.Common.{rules, refl, sym, subst}
+use Rattle.tpcc_tables.specs.Held.{Held}
+use Rattle.tpcc_tables.specs.View.{rows_of}
+use Rattle.tpcc_tables.specs.Writes.{with_payment, IsPayment}
+use Rattle.tpcc_tables.proofs.PayLemmas.{payable, paid_is_well_keyed}
+use Rattle.tpcc_tables.proofs.tables.Tables.pay.Goals as goal
+
+pub pay_warehouse-requires-clause-fits : goal.pay_warehouse-requires-clause-fits
+pay_warehouse-requires-clause-fits c =
+    let k = subst (λ (t : Held). IsPayment t.rows c.args.history c.args.information) (sym c.self.view_is) c.requires.payment in
+    (payable (rows_of c.self.inside) c.args.history c.args.information c.self.invariant.well_keyed.keyed k).warehouse
+
+pub pay_district-requires-clause-fits : goal.pay_district-requires-clause-fits
+pay_district-requires-clause-fits c =
+    let k = subst (λ (t : Held). IsPayment t.rows c.args.history c.args.information) (sym c.self.view_is) c.requires.payment in
+    (payable (rows_of c.self.inside) c.args.history c.args.information c.self.invariant.well_keyed.keyed k).district
+
+pub pay_customer-requires-clause-balance : goal.pay_customer-requires-clause-balance
+pay_customer-requires-clause-balance c =
+    let k = subst (λ (t : Held). IsPayment t.rows c.args.history c.args.information) (sym c.self.view_is) c.requires.payment in
+    (payable (rows_of c.self.inside) c.args.history c.args.information c.self.invariant.well_keyed.keyed k).balance
+
+pub pay_customer-requires-clause-paid : goal.pay_customer-requires-clause-paid
+pay_customer-requires-clause-paid c =
+    let k = subst (λ (t : Held). IsPayment t.rows c.args.history c.args.information) (sym c.self.view_is) c.requires.payment in
+    (payable (rows_of c.self.inside) c.args.history c.args.information c.self.invariant.well_keyed.keyed k).paid
+
+pub pay_customer-requires-clause-count : goal.pay_customer-requires-clause-count
+pay_customer-requires-clause-count c =
+    let k = subst (λ (t : Held). IsPayment t.rows c.args.history c.args.information) (sym c.self.view_is) c.requires.payment in
+    (payable (rows_of c.self.inside) c.args.history c.args.information c.self.invariant.well_keyed.keyed k).count
+
+pub invariant_of-self : goal.invariant_of-self
+unfolding with_payment
+invariant_of-self c =
+    let k = subst (λ (t : Held). IsPayment t.rows c.args.history c.args.information) (sym c.self.view_is) c.requires.payment in
+    record {
+      well_keyed = rw (c.pay_warehouse.ensures, c.pay_district.ensures, c.pay_customer.ensures, c.append_history.ensures) (paid_is_well_keyed (rows_of c.self.inside) c.args.history c.args.information k c.self.invariant.well_keyed);
+      order = c.self.invariant.order;
+      new_order = c.self.invariant.new_order;
+      lines = c.self.invariant.lines;
+      payments = search rules;
+    }
+
+pub returns : goal.returns
+unfolding with_payment
+returns c =
+    rw (c.pay_warehouse.ensures, c.pay_district.ensures, c.pay_customer.ensures, c.append_history.ensures, ← c.self.view_is) refl

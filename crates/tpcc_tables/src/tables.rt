@@ -1,0 +1,184 @@
+//! The tables as one value.
+ghost use Rattle.std.specs.Prelude.{◌≡◌, ◌<◌, ◌≤◌, ◌+◌, OnOk, OnErr, IsOk, [], ◌∷◌, ◌++◌};
+ghost use Rattle.std.specs.Option.{option_copied};
+ghost use Rattle.tpcc_rows.specs.Tables.{find_warehouse, find_district, find_customer, find_order, find_new_order, find_item, find_stock};
+ghost use Rattle.tpcc_rows.specs.declared.requests.Who.TheVariants.{Name};
+ghost use Rattle.tpcc_rows.specs.ChosenCustomer.{chosen_customer};
+ghost use Rattle.tpcc_rows.specs.WellKeyed.{IsWellKeyed};
+ghost use Rattle.tpcc_tables.specs.Loads.{find_order_line};
+ghost use Rattle.tpcc_tables.specs.Writes.{with_payment, IsPayment};
+
+mod load;
+
+use crate::{find, named, place};
+use std::alloc::Global;
+use std::marker::Model;
+use tpcc_money::NoMemory;
+use tpcc_rows::rows::*;
+use tpcc_rows::text::Text;
+
+#[derive(Drop)]
+pub struct Tables {
+    warehouses: Vec<WarehouseRow>,
+    districts: Vec<DistrictRow>,
+    customers: Vec<CustomerRow>,
+    histories: Vec<HistoryRow>,
+    orders: Vec<OrderRow>,
+    order_lines: Vec<OrderLineRow>,
+    new_orders: Vec<NewOrderRow>,
+    items: Vec<ItemRow>,
+    stocks: Vec<StockRow>,
+    order_room: usize,
+    payment_room: usize,
+}
+
+impl Model for Tables {
+    ghost use Rattle.tpcc_tables.specs.Held.{Held};
+
+    ghost Value = { Held };
+
+    ghost use Rattle.tpcc_tables.specs.View.{held, IsHeld};
+
+    ghost view = { held };
+
+    ghost invariant = { IsHeld };
+}
+
+impl Tables {
+    /// Tables with no rows.
+    pub fn empty(alloc: Global) -> Tables
+        ensures { result.rows ≡ record { warehouses = []; districts = []; customers = []; histories = []; orders = []; order_lines = []; new_orders = []; items = []; stocks = [] } }
+    {
+        Tables {
+            warehouses: Vec::new(alloc),
+            districts: Vec::new(alloc),
+            customers: Vec::new(alloc),
+            histories: Vec::new(alloc),
+            orders: Vec::new(alloc),
+            order_lines: Vec::new(alloc),
+            new_orders: Vec::new(alloc),
+            items: Vec::new(alloc),
+            stocks: Vec::new(alloc),
+            order_room: 0,
+            payment_room: 0,
+        }
+    }
+
+    /// The rows are well-keyed: keys ascend, parents exist, and all columns are in their ranges.
+    pub fn well_keyed(&self)
+        ensures { IsWellKeyed self.now.rows }
+    {
+        let _warehouses = &self.warehouses;
+    }
+
+    pub fn warehouse(&self, warehouse: u32) -> Option<&WarehouseRow>
+        ensures { option_copied result ≡ find_warehouse self.now.rows warehouse }
+    {
+        find::warehouse(self.warehouses.as_slice(), warehouse)
+    }
+
+    pub fn district(&self, warehouse: u32, district: u32) -> Option<&DistrictRow>
+        ensures { option_copied result ≡ find_district self.now.rows warehouse district }
+    {
+        find::district(self.districts.as_slice(), warehouse, district)
+    }
+
+    pub fn customer(&self, warehouse: u32, district: u32, customer: u32) -> Option<&CustomerRow>
+        ensures { option_copied result ≡ find_customer self.now.rows warehouse district customer }
+    {
+        find::customer(self.customers.as_slice(), warehouse, district, customer)
+    }
+
+    /// The customer who is chosen by a last name.
+    pub fn customer_by_name(
+        &self,
+        warehouse: u32,
+        district: u32,
+        last: &[u8],
+    ) -> Option<&CustomerRow>
+        ensures { option_copied result ≡ chosen_customer self.now.rows warehouse district (Name last.now) }
+    {
+        named::middle(self.customers.as_slice(), warehouse, district, last)
+    }
+
+    pub fn order(&self, warehouse: u32, district: u32, order: u32) -> Option<&OrderRow>
+        ensures { option_copied result ≡ find_order self.now.rows warehouse district order }
+    {
+        find::order(self.orders.as_slice(), warehouse, district, order)
+    }
+
+    /// The ORDER-LINE row of a key.
+    pub fn line(
+        &self,
+        warehouse: u32,
+        district: u32,
+        order: u32,
+        number: u32,
+    ) -> Option<&OrderLineRow>
+        ensures { option_copied result ≡ find_order_line self.now.rows warehouse district order number }
+    {
+        find::line(
+            self.order_lines.as_slice(),
+            warehouse,
+            district,
+            order,
+            number,
+        )
+    }
+
+    /// The NEW-ORDER row of a key.
+    pub fn new_order(&self, warehouse: u32, district: u32, order: u32) -> Option<NewOrderRow>
+        ensures { result ≡ find_new_order self.now.rows warehouse district order }
+    {
+        find::new_order(self.new_orders.as_slice(), warehouse, district, order)
+    }
+
+    pub fn item(&self, item: u32) -> Option<&ItemRow>
+        ensures { option_copied result ≡ find_item self.now.rows item }
+    {
+        find::item(self.items.as_slice(), item)
+    }
+
+    pub fn stock(&self, warehouse: u32, item: u32) -> Option<&StockRow>
+        ensures { option_copied result ≡ find_stock self.now.rows warehouse item }
+    {
+        find::stock(self.stocks.as_slice(), warehouse, item)
+    }
+
+    /// Room for one payment.
+    pub fn reserve_payment(&mut self) -> Result<(), NoMemory>
+        ensures same { self.new.rows ≡ self.old.rows }
+        ensures room { OnOk result (0 < self.new.payment_room) }
+    {
+        if self.histories.reserve(1).is_err() {
+            return Err(NoMemory);
+        }
+        self.payment_room = 1;
+        Ok(())
+    }
+
+    /// Appends a HISTORY row and pays its amount; takes no memory.
+    pub fn pay(&mut self, history: HistoryRow, information: Option<Text>)
+        requires room { 0 < self.old.payment_room }
+        requires payment { IsPayment self.old.rows history information }
+        ensures { self.new.rows ≡ with_payment self.old.rows history information }
+    {
+        place::pay_warehouse(&mut self.warehouses, history.warehouse, history.amount);
+        place::pay_district(
+            &mut self.districts,
+            history.warehouse,
+            history.district,
+            history.amount,
+        );
+        place::pay_customer(
+            &mut self.customers,
+            history.customer_warehouse,
+            history.customer_district,
+            history.customer,
+            history.amount,
+            information,
+        );
+        place::append_history(&mut self.histories, history);
+        self.payment_room = 0;
+    }
+}

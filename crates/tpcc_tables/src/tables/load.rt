@@ -1,0 +1,159 @@
+//! One more row of a table.
+ghost use Rattle.std.specs.Prelude.{◌≡◌, OnOk, OnErr, IfErr, None, Some};
+ghost use Rattle.std.specs.Option.{option_or};
+ghost use Rattle.tpcc_tables.specs.Loads as loads;
+
+use super::Tables;
+use crate::faults::{self, LoadFault};
+use crate::keyed;
+use tpcc_rows::rows::*;
+
+impl Tables {
+    pub fn load_warehouse(&mut self, row: WarehouseRow) -> Result<(), (WarehouseRow, LoadFault)>
+        ensures loaded { OnOk result (self.new.rows ≡ loads.with_warehouse self.old.rows row) }
+        ensures accepted { OnOk result (loads.warehouse_fault self.old.rows row ≡ None) }
+        ensures refused { IfErr result (λ e. option_or (loads.warehouse_fault self.old.rows row) (Some LoadFault.NoMemory) ≡ Some e.1) }
+        ensures given_back { IfErr result (λ e. e.0 ≡ row) }
+        ensures same { OnErr result (self.new ≡ self.old) }
+    {
+        if let Some(fault) = faults::of_warehouse(self, &row) {
+            return Err((row, fault));
+        }
+        if let Err(row) = keyed::insert(&mut self.warehouses, row) {
+            return Err((row, LoadFault::NoMemory));
+        }
+        Ok(())
+    }
+
+    pub fn load_district(&mut self, row: DistrictRow) -> Result<(), (DistrictRow, LoadFault)>
+        ensures loaded { OnOk result (self.new.rows ≡ loads.with_district self.old.rows row) }
+        ensures accepted { OnOk result (loads.district_fault self.old.rows row ≡ None) }
+        ensures refused { IfErr result (λ e. option_or (loads.district_fault self.old.rows row) (Some LoadFault.NoMemory) ≡ Some e.1) }
+        ensures given_back { IfErr result (λ e. e.0 ≡ row) }
+        ensures same { OnErr result (self.new ≡ self.old) }
+    {
+        if let Some(fault) = faults::of_district(self, &row) {
+            return Err((row, fault));
+        }
+        if let Err(row) = keyed::insert(&mut self.districts, row) {
+            return Err((row, LoadFault::NoMemory));
+        }
+        Ok(())
+    }
+
+    pub fn load_customer(&mut self, row: CustomerRow) -> Result<(), (CustomerRow, LoadFault)>
+        ensures loaded { OnOk result (self.new.rows ≡ loads.with_customer self.old.rows row) }
+        ensures accepted { OnOk result (loads.customer_fault self.old.rows row ≡ None) }
+        ensures refused { IfErr result (λ e. option_or (loads.customer_fault self.old.rows row) (Some LoadFault.NoMemory) ≡ Some e.1) }
+        ensures given_back { IfErr result (λ e. e.0 ≡ row) }
+        ensures same { OnErr result (self.new ≡ self.old) }
+    {
+        if let Some(fault) = faults::of_customer(self, &row) {
+            return Err((row, fault));
+        }
+        if let Err(row) = keyed::insert(&mut self.customers, row) {
+            return Err((row, LoadFault::NoMemory));
+        }
+        Ok(())
+    }
+
+    pub fn load_history(&mut self, row: HistoryRow) -> Result<(), (HistoryRow, LoadFault)>
+        ensures loaded { OnOk result (self.new.rows ≡ loads.with_history self.old.rows row) }
+        ensures accepted { OnOk result (loads.history_fault self.old.rows row ≡ None) }
+        ensures refused { IfErr result (λ e. option_or (loads.history_fault self.old.rows row) (Some LoadFault.NoMemory) ≡ Some e.1) }
+        ensures given_back { IfErr result (λ e. e.0 ≡ row) }
+        ensures same { OnErr result (self.new ≡ self.old) }
+    {
+        if let Some(fault) = faults::of_history(self, &row) {
+            return Err((row, fault));
+        }
+        if let Err(row) = keyed::push(&mut self.histories, row) {
+            return Err((row, LoadFault::NoMemory));
+        }
+        self.payment_room = 0;
+        Ok(())
+    }
+
+    pub fn load_order(&mut self, row: OrderRow) -> Result<(), (OrderRow, LoadFault)>
+        ensures loaded { OnOk result (self.new.rows ≡ loads.with_order self.old.rows row) }
+        ensures accepted { OnOk result (loads.order_fault self.old.rows row ≡ None) }
+        ensures refused { IfErr result (λ e. option_or (loads.order_fault self.old.rows row) (Some LoadFault.NoMemory) ≡ Some e.1) }
+        ensures given_back { IfErr result (λ e. e.0 ≡ row) }
+        ensures same { OnErr result (self.new ≡ self.old) }
+    {
+        if let Some(fault) = faults::of_order(self, &row) {
+            return Err((row, fault));
+        }
+        if let Err(row) = keyed::insert(&mut self.orders, row) {
+            return Err((row, LoadFault::NoMemory));
+        }
+        self.order_room = 0;
+        Ok(())
+    }
+
+    pub fn load_order_line(&mut self, row: OrderLineRow) -> Result<(), (OrderLineRow, LoadFault)>
+        ensures loaded { OnOk result (self.new.rows ≡ loads.with_order_line self.old.rows row) }
+        ensures accepted { OnOk result (loads.order_line_fault self.old.rows row ≡ None) }
+        ensures refused { IfErr result (λ e. option_or (loads.order_line_fault self.old.rows row) (Some LoadFault.NoMemory) ≡ Some e.1) }
+        ensures given_back { IfErr result (λ e. e.0 ≡ row) }
+        ensures same { OnErr result (self.new ≡ self.old) }
+    {
+        if let Some(fault) = faults::of_order_line(self, &row) {
+            return Err((row, fault));
+        }
+        if let Err(row) = keyed::insert(&mut self.order_lines, row) {
+            return Err((row, LoadFault::NoMemory));
+        }
+        self.order_room = 0;
+        Ok(())
+    }
+
+    pub fn load_new_order(&mut self, row: NewOrderRow) -> Result<(), (NewOrderRow, LoadFault)>
+        ensures loaded { OnOk result (self.new.rows ≡ loads.with_new_order self.old.rows row) }
+        ensures accepted { OnOk result (loads.new_order_fault self.old.rows row ≡ None) }
+        ensures refused { IfErr result (λ e. option_or (loads.new_order_fault self.old.rows row) (Some LoadFault.NoMemory) ≡ Some e.1) }
+        ensures given_back { IfErr result (λ e. e.0 ≡ row) }
+        ensures same { OnErr result (self.new ≡ self.old) }
+    {
+        if let Some(fault) = faults::of_new_order(self, &row) {
+            return Err((row, fault));
+        }
+        if let Err(row) = keyed::insert(&mut self.new_orders, row) {
+            return Err((row, LoadFault::NoMemory));
+        }
+        self.order_room = 0;
+        Ok(())
+    }
+
+    pub fn load_item(&mut self, row: ItemRow) -> Result<(), (ItemRow, LoadFault)>
+        ensures loaded { OnOk result (self.new.rows ≡ loads.with_item self.old.rows row) }
+        ensures accepted { OnOk result (loads.item_fault self.old.rows row ≡ None) }
+        ensures refused { IfErr result (λ e. option_or (loads.item_fault self.old.rows row) (Some LoadFault.NoMemory) ≡ Some e.1) }
+        ensures given_back { IfErr result (λ e. e.0 ≡ row) }
+        ensures same { OnErr result (self.new ≡ self.old) }
+    {
+        if let Some(fault) = faults::of_item(self, &row) {
+            return Err((row, fault));
+        }
+        if let Err(row) = keyed::insert(&mut self.items, row) {
+            return Err((row, LoadFault::NoMemory));
+        }
+        Ok(())
+    }
+
+    pub fn load_stock(&mut self, row: StockRow) -> Result<(), (StockRow, LoadFault)>
+        ensures loaded { OnOk result (self.new.rows ≡ loads.with_stock self.old.rows row) }
+        ensures accepted { OnOk result (loads.stock_fault self.old.rows row ≡ None) }
+        ensures refused { IfErr result (λ e. option_or (loads.stock_fault self.old.rows row) (Some LoadFault.NoMemory) ≡ Some e.1) }
+        ensures given_back { IfErr result (λ e. e.0 ≡ row) }
+        ensures same { OnErr result (self.new ≡ self.old) }
+    {
+        if let Some(fault) = faults::of_stock(self, &row) {
+            return Err((row, fault));
+        }
+        if let Err(row) = keyed::insert(&mut self.stocks, row) {
+            return Err((row, LoadFault::NoMemory));
+        }
+        Ok(())
+    }
+}
