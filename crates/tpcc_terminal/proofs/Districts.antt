@@ -18,5 +18,5 @@ pub one_more : (old mid new : List ℕ) (orders : List (Option ℕ)) (place dist
 one_more old mid new orders place district d order h same number before last =
     let passed : length (take place orders) ≡ place = omega (arith, h, length-take place orders) in
     let all : district_lines 1 (take (place + 1) orders) ≡ district_lines 1 (take place orders) ++ district_line district order =
-        ap (district_lines 1) (take_more orders place d h) ∙ district_lines-push 1 (take place orders) (slice_index_or orders place d) ∙ rw (passed, sym number, sym same) refl in
+    ap (district_lines 1) (take_more orders place d h) ∙ district_lines-push 1 (take place orders) (slice_index_or orders place d) ∙ rw (passed, sym number, sym same) refl in
     rw all (behind before last)

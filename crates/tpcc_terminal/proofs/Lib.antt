@@ -1,3 +1,3 @@
-mod WorkedScreens
+pub mod WorkedScreens
 pub mod Chains
 pub mod Districts

@@ -13,8 +13,7 @@ use crate::screen::Screen;
 use crate::stock_level::put_level;
 use std::alloc::Global;
 use tpcc_money::NoMemory;
-use tpcc_rows::refusals::Refusal;
-use tpcc_rows::replies::{Delivered, Reply};
+use tpcc_rows::{Delivered, Refusal, Reply};
 
 fn put_reply(screen: &mut Screen, reply: &Reply) -> Result<(), NoMemory>
     ensures { OnOk result (Adds screen.old screen.new (screens.reply_screen reply.now)) }

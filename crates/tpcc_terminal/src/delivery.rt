@@ -5,8 +5,7 @@ ghost use Rattle.tpcc_terminal.specs.Screens as screens;
 
 use crate::screen::Screen;
 use tpcc_money::{Moment, NoMemory};
-use tpcc_rows::replies::{Delivered, Delivery};
-use tpcc_rows::requests::Ticket;
+use tpcc_rows::{Delivered, Delivery, Ticket};
 
 /// The screen of a Delivery, whose ticket was queued (2.7.3).
 pub fn put_queued(screen: &mut Screen, ticket: Ticket) -> Result<(), NoMemory>

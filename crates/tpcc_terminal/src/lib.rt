@@ -10,6 +10,8 @@ mod refusal;
 mod report;
 mod screen;
 mod stock_level;
+#[cfg(test)]
+mod tests;
 
 pub use answers::{broken_screen, consistent_screen, refusal_screen, reply_screen, results_screen};
 pub use report::Report;

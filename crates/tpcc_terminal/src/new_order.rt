@@ -5,7 +5,7 @@ ghost use Rattle.tpcc_terminal.specs.Screens as screens;
 
 use crate::screen::Screen;
 use tpcc_money::NoMemory;
-use tpcc_rows::replies::{AcceptedOrder, Brand, Entered, EnteredLine, RolledBackOrder};
+use tpcc_rows::{AcceptedOrder, Brand, Entered, EnteredLine, RolledBackOrder};
 
 #[tactic(auto, using(crate::proofs::Chains::behind))]
 /// The screen of a New-Order, accepted (2.4.3.3) or rolled back (2.4.3.4).

@@ -5,7 +5,7 @@ ghost use Rattle.tpcc_terminal.specs.Screens as screens;
 
 use crate::screen::Screen;
 use tpcc_money::{Moment, NoMemory};
-use tpcc_rows::replies::{LastOrder, Status, StatusLine};
+use tpcc_rows::{LastOrder, Status, StatusLine};
 
 #[tactic(auto, using(crate::proofs::Chains::behind))]
 /// The screen of an Order-Status (2.6.3.3).

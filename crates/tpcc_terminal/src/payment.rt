@@ -5,8 +5,7 @@ ghost use Rattle.tpcc_terminal.specs.Screens as screens;
 
 use crate::screen::Screen;
 use tpcc_money::NoMemory;
-use tpcc_rows::replies::Paid;
-use tpcc_rows::text::Text;
+use tpcc_rows::{Paid, Text};
 
 /// The screen of a Payment (2.5.3.3).
 pub fn put_paid(screen: &mut Screen, paid: &Paid) -> Result<(), NoMemory>

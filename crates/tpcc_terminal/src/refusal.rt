@@ -5,7 +5,7 @@ ghost use Rattle.tpcc_terminal.specs.Screens as screens;
 
 use crate::screen::Screen;
 use tpcc_money::NoMemory;
-use tpcc_rows::refusals::{Field, Refusal};
+use tpcc_rows::{Field, Refusal};
 
 #[tactic(auto, using(crate::proofs::Chains::behind), unfolding(crate::specs::Screens::refused_screen))]
 /// The screen of a refused request: its number, its name, and the number seen or the field.

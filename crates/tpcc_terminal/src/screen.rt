@@ -7,8 +7,7 @@ ghost use Rattle.tpcc_terminal.specs.Screens.{address_text};
 use std::alloc::Global;
 use std::marker::Model;
 use tpcc_money::{Cents, Moment, NoMemory, Rate};
-use tpcc_rows::rows::Address;
-use tpcc_rows::text::Text;
+use tpcc_rows::{Address, Text};
 
 /// Lines of ASCII text, each ended by a line feed.
 #[derive(Drop)]

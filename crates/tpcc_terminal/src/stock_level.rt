@@ -5,7 +5,7 @@ ghost use Rattle.tpcc_terminal.specs.Screens as screens;
 
 use crate::screen::Screen;
 use tpcc_money::NoMemory;
-use tpcc_rows::replies::Level;
+use tpcc_rows::Level;
 
 /// The screen of a Stock-Level (2.8.3.3).
 pub fn put_level(screen: &mut Screen, level: Level) -> Result<(), NoMemory>
