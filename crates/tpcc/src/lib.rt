@@ -6,8 +6,12 @@ mod engine;
 mod fault;
 mod parse;
 mod reader;
+#[cfg(test)]
+mod run_tests;
 mod script;
 mod show;
+#[cfg(test)]
+mod tests;
 mod words;
 mod writer;
 
