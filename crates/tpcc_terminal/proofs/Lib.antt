@@ -1,0 +1,3 @@
+pub mod WorkedScreens
+pub mod Chains
+pub mod Districts

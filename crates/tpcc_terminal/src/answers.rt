@@ -1,0 +1,100 @@
+//! The screens of a request's answer and of a script's own calls.
+ghost use Rattle.std.specs.Prelude.{◌≡◌, IfOk, OnOk, None, Some};
+ghost use Rattle.tpcc_rows.specs.Conditions.{Broken};
+ghost use Rattle.tpcc_terminal.specs.Adding.{Adds};
+ghost use Rattle.tpcc_terminal.specs.Screens as screens;
+
+use crate::delivery::{put_delivery, put_queued, put_results};
+use crate::new_order::put_entered;
+use crate::order_status::put_status;
+use crate::payment::put_paid;
+use crate::refusal::put_refusal;
+use crate::screen::Screen;
+use crate::stock_level::put_level;
+use std::alloc::Global;
+use tpcc_money::NoMemory;
+use tpcc_rows::{Delivered, Refusal, Reply};
+
+fn put_reply(screen: &mut Screen, reply: &Reply) -> Result<(), NoMemory>
+    ensures { OnOk result (Adds screen.old screen.new (screens.reply_screen reply.now)) }
+{
+    match reply {
+        Reply::Entered(entered) => put_entered(screen, entered),
+        Reply::Paid(paid) => put_paid(screen, paid),
+        Reply::Status(status) => put_status(screen, status),
+        Reply::Level(level) => put_level(screen, *level),
+        Reply::Queued(ticket) => put_queued(screen, *ticket),
+        Reply::Delivery(delivery) => put_delivery(screen, *delivery),
+    }
+}
+
+/// The screen of an accepted request; refused only for want of memory.
+pub fn reply_screen(alloc: Global, reply: &Reply) -> Result<Screen, NoMemory>
+    ensures { IfOk result (λ screen. screen ≡ screens.reply_screen reply.now) }
+{
+    let mut screen = Screen::new(alloc);
+    put_reply(&mut screen, reply)?;
+    Ok(screen)
+}
+
+/// The screen of a refused request; refused only for want of memory.
+pub fn refusal_screen(alloc: Global, refusal: Refusal) -> Result<Screen, NoMemory>
+    ensures { IfOk result (λ screen. screen ≡ screens.refused_screen refusal) }
+{
+    let mut screen = Screen::new(alloc);
+    put_refusal(&mut screen, refusal)?;
+    Ok(screen)
+}
+
+#[tactic(auto, unfolding(crate::specs::Screens::check_screen))]
+/// The screen of a check that found no broken condition; refused only for want of memory.
+pub fn consistent_screen(alloc: Global) -> Result<Screen, NoMemory>
+    ensures { IfOk result (λ screen. screen ≡ screens.check_screen None) }
+{
+    let mut screen = Screen::new(alloc);
+    screen.put(b"consistent\n")?;
+    Ok(screen)
+}
+
+fn put_broken(
+    screen: &mut Screen,
+    condition: u32,
+    warehouse: u32,
+    district: u32,
+    number: u32,
+) -> Result<(), NoMemory>
+    ensures { OnOk result (Adds screen.old screen.new (screens.check_screen
+        (Some (record { condition = condition; warehouse = warehouse; district = district; number = number })))) }
+{
+    screen.put_number(b"broken ", condition)?;
+    screen.put_number(b" ", warehouse)?;
+    screen.put_number(b" ", district)?;
+    screen.put_number(b" ", number)?;
+    screen.put(b"\n")
+}
+
+/// The screen of a broken consistency condition (3.3.2), with its warehouse, district and number
+/// (of an order or a customer), each 0 where it doesn't apply; refused only for want of memory.
+pub fn broken_screen(
+    alloc: Global,
+    condition: u32,
+    warehouse: u32,
+    district: u32,
+    number: u32,
+) -> Result<Screen, NoMemory>
+    ensures { IfOk result (λ screen. screen ≡ screens.check_screen
+        (Some (record { condition = condition; warehouse = warehouse; district = district; number = number }))) }
+{
+    let mut screen = Screen::new(alloc);
+    put_broken(&mut screen, condition, warehouse, district, number)?;
+    Ok(screen)
+}
+
+/// The screens of the delivery result log's tickets, in order; refused only for want of memory.
+pub fn results_screen(alloc: Global, tickets: &[Delivered]) -> Result<Screen, NoMemory>
+    ensures { IfOk result (λ screen. screen ≡ screens.results_screen tickets.now) }
+{
+    let mut screen = Screen::new(alloc);
+    put_results(&mut screen, tickets)?;
+    Ok(screen)
+}

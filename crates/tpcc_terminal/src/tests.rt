@@ -1,0 +1,303 @@
+//! Each public call on worked values, with ample memory.
+use super::*;
+use std::alloc::Global;
+use std::test::Fail;
+use tpcc_money::{Cents, Moment, Rate};
+use tpcc_rows::{
+    AcceptedOrder, Address, Brand, Delivered, Delivery, DistrictDelivery, Entered, EnteredLine,
+    EnteredLines, Field, LastOrder, Level, Paid, Refusal, Reply, RolledBackOrder, Status,
+    StatusLine, StatusLines, Text, Ticket,
+};
+
+fn text(alloc: Global, bytes: &[u8]) -> Result<Text, Fail> {
+    Ok(Text::new(alloc, bytes, 200)?)
+}
+
+fn address(alloc: Global) -> Result<Address, Fail> {
+    Ok(Address {
+        street_1: text(alloc, b"MAINSTREET")?,
+        street_2: text(alloc, b"SIDESTREET")?,
+        city: text(alloc, b"CITYCENTRE")?,
+        state: text(alloc, b"AB")?,
+        zip: text(alloc, b"000111111")?,
+    })
+}
+
+fn ticket() -> Ticket {
+    Ticket {
+        warehouse: 1,
+        carrier: 3,
+        queued: Moment::new(60),
+    }
+}
+
+fn paid(alloc: Global, credit: &[u8], information: Option<Text>) -> Result<Reply, Fail> {
+    Ok(Reply::Paid(Paid {
+        warehouse: 1,
+        district: 1,
+        customer_warehouse: 1,
+        customer_district: 1,
+        customer: 1,
+        amount: Cents::new(100),
+        date: Moment::new(0),
+        warehouse_address: address(alloc)?,
+        district_address: address(alloc)?,
+        first: text(alloc, b"FIRST9998")?,
+        middle: text(alloc, b"OE")?,
+        last: text(alloc, b"BARBARBAR")?,
+        customer_address: address(alloc)?,
+        phone: text(alloc, b"0000000000000001")?,
+        since: Moment::new(0),
+        credit: text(alloc, credit)?,
+        credit_limit: Cents::new(5_000_000),
+        discount: Rate::new(100),
+        balance: Cents::new(-1100),
+        information,
+    }))
+}
+
+fn accepted(alloc: Global) -> Result<Reply, Fail> {
+    let line = EnteredLine {
+        number: 1,
+        supply: 1,
+        item: 20,
+        name: text(alloc, b"ITEMNAME000020")?,
+        quantity: 10,
+        stock: 20,
+        brand: Brand::Original,
+        price: Cents::new(119),
+        amount: Cents::new(1190),
+    };
+    Ok(Reply::Entered(Entered::Accepted(AcceptedOrder {
+        warehouse: 1,
+        district: 1,
+        customer: 1,
+        last: text(alloc, b"BARBARBAR")?,
+        credit: text(alloc, b"GC")?,
+        discount: Rate::new(100),
+        order: 11,
+        line_count: 5,
+        warehouse_tax: Rate::new(1000),
+        district_tax: Rate::new(100),
+        entry_date: Moment::new(0),
+        total: Cents::new(5495),
+        lines: EnteredLines::new(vec![in alloc; line]?),
+    })))
+}
+
+fn rolled_back(alloc: Global) -> Result<Reply, Fail> {
+    Ok(Reply::Entered(Entered::RolledBack(RolledBackOrder {
+        warehouse: 1,
+        district: 1,
+        customer: 1,
+        last: text(alloc, b"BARBARBAR")?,
+        credit: text(alloc, b"GC")?,
+        order: 11,
+    })))
+}
+
+fn status(alloc: Global, order: Option<LastOrder>) -> Result<Reply, Fail> {
+    Ok(Reply::Status(Status {
+        warehouse: 1,
+        district: 1,
+        customer: 8,
+        first: text(alloc, b"FIRST9991")?,
+        middle: text(alloc, b"OE")?,
+        last: text(alloc, b"BARBAROUGHT")?,
+        balance: Cents::new(-1000),
+        order,
+    }))
+}
+
+fn last_order(alloc: Global) -> Result<LastOrder, Fail> {
+    let line = StatusLine {
+        supply: 1,
+        item: 36,
+        quantity: 5,
+        amount: Cents::new(100),
+        delivered: None,
+    };
+    let delivered = StatusLine {
+        supply: 2,
+        item: 37,
+        quantity: 5,
+        amount: Cents::new(0),
+        delivered: Some(Moment::new(60)),
+    };
+    Ok(LastOrder {
+        order: 8,
+        entry_date: Moment::new(0),
+        carrier: None,
+        lines: StatusLines::new(vec![in alloc; line, delivered]?),
+    })
+}
+
+#[test]
+fn replies(rt: HostRuntime) -> Result<(), Fail> {
+    let alloc = rt.alloc();
+    let level = Level {
+        warehouse: 1,
+        district: 1,
+        threshold: 10,
+        low_stock: 0,
+    };
+    let run = DistrictDelivery {
+        ticket: ticket(),
+        at: Moment::new(120),
+        district: 1,
+        order: Some(8),
+    };
+    let skipped = DistrictDelivery {
+        district: 10,
+        order: None,
+        ..run
+    };
+    let delivered = LastOrder {
+        carrier: Some(7),
+        ..last_order(alloc)?
+    };
+    let first_bytes = text(alloc, b"1 1 1 1 1 1.00 xxx")?;
+    for (reply, shown) in [
+        (
+            accepted(alloc)?,
+            "new-order W_ID=1 D_ID=1 C_ID=1 C_LAST=BARBARBAR C_CREDIT=GC C_DISCOUNT=0.0100 O_ID=11 O_OL_CNT=5 W_TAX=0.1000 D_TAX=0.0100 O_ENTRY_D=1970-01-01T00:00:00 total=54.95\nline 1 OL_SUPPLY_W_ID=1 OL_I_ID=20 I_NAME=ITEMNAME000020 OL_QUANTITY=10 S_QUANTITY=20 brand=B I_PRICE=1.19 OL_AMOUNT=11.90\n",
+        ),
+        (
+            rolled_back(alloc)?,
+            "new-order W_ID=1 D_ID=1 C_ID=1 C_LAST=BARBARBAR C_CREDIT=GC O_ID=11 Item number is not valid\n",
+        ),
+        (
+            paid(alloc, b"GC", None)?,
+            "payment W_ID=1 D_ID=1 C_W_ID=1 C_D_ID=1 C_ID=1 H_AMOUNT=1.00 H_DATE=1970-01-01T00:00:00\nwarehouse MAINSTREET,SIDESTREET,CITYCENTRE,AB,000111111\ndistrict MAINSTREET,SIDESTREET,CITYCENTRE,AB,000111111\ncustomer FIRST9998 OE BARBARBAR MAINSTREET,SIDESTREET,CITYCENTRE,AB,000111111 C_PHONE=0000000000000001 C_SINCE=1970-01-01T00:00:00 C_CREDIT=GC C_CREDIT_LIM=50000.00 C_DISCOUNT=0.0100 C_BALANCE=-11.00\n",
+        ),
+        (
+            paid(alloc, b"BC", Some(first_bytes))?,
+            "payment W_ID=1 D_ID=1 C_W_ID=1 C_D_ID=1 C_ID=1 H_AMOUNT=1.00 H_DATE=1970-01-01T00:00:00\nwarehouse MAINSTREET,SIDESTREET,CITYCENTRE,AB,000111111\ndistrict MAINSTREET,SIDESTREET,CITYCENTRE,AB,000111111\ncustomer FIRST9998 OE BARBARBAR MAINSTREET,SIDESTREET,CITYCENTRE,AB,000111111 C_PHONE=0000000000000001 C_SINCE=1970-01-01T00:00:00 C_CREDIT=BC C_CREDIT_LIM=50000.00 C_DISCOUNT=0.0100 C_BALANCE=-11.00\nC_DATA=1 1 1 1 1 1.00 xxx\n",
+        ),
+        (
+            status(alloc, None)?,
+            "order-status W_ID=1 D_ID=1 C_ID=8 C_FIRST=FIRST9991 C_MIDDLE=OE C_LAST=BARBAROUGHT C_BALANCE=-10.00\nno order\n",
+        ),
+        (
+            status(alloc, Some(last_order(alloc)?))?,
+            "order-status W_ID=1 D_ID=1 C_ID=8 C_FIRST=FIRST9991 C_MIDDLE=OE C_LAST=BARBAROUGHT C_BALANCE=-10.00\norder O_ID=8 O_ENTRY_D=1970-01-01T00:00:00 O_CARRIER_ID=-\nline OL_SUPPLY_W_ID=1 OL_I_ID=36 OL_QUANTITY=5 OL_AMOUNT=1.00 OL_DELIVERY_D=-\nline OL_SUPPLY_W_ID=2 OL_I_ID=37 OL_QUANTITY=5 OL_AMOUNT=0.00 OL_DELIVERY_D=1970-01-01T00:01:00\n",
+        ),
+        (
+            status(alloc, Some(delivered))?,
+            "order-status W_ID=1 D_ID=1 C_ID=8 C_FIRST=FIRST9991 C_MIDDLE=OE C_LAST=BARBAROUGHT C_BALANCE=-10.00\norder O_ID=8 O_ENTRY_D=1970-01-01T00:00:00 O_CARRIER_ID=7\nline OL_SUPPLY_W_ID=1 OL_I_ID=36 OL_QUANTITY=5 OL_AMOUNT=1.00 OL_DELIVERY_D=-\nline OL_SUPPLY_W_ID=2 OL_I_ID=37 OL_QUANTITY=5 OL_AMOUNT=0.00 OL_DELIVERY_D=1970-01-01T00:01:00\n",
+        ),
+        (
+            Reply::Level(level),
+            "stock-level W_ID=1 D_ID=1 threshold=10 low_stock=0\n",
+        ),
+        (
+            Reply::Queued(ticket()),
+            "delivery W_ID=1 O_CARRIER_ID=3 Delivery has been queued\n",
+        ),
+        (
+            Reply::Delivery(Delivery::District(run)),
+            "delivered W_ID=1 O_CARRIER_ID=3 queued=1970-01-01T00:01:00 at=1970-01-01T00:02:00\ndistrict 1 O_ID=8\n",
+        ),
+        (
+            Reply::Delivery(Delivery::District(skipped)),
+            "delivered W_ID=1 O_CARRIER_ID=3 queued=1970-01-01T00:01:00 at=1970-01-01T00:02:00\ndistrict 10 skipped\n",
+        ),
+        (
+            Reply::Delivery(Delivery::NoneQueued),
+            "no delivery queued\n",
+        ),
+    ] {
+        assert_eq!(rt;
+            reply_screen(alloc, &reply)?.bytes(),
+            shown.as_bytes(),
+            "{shown}"
+        );
+    }
+    Ok(())
+}
+
+#[test]
+fn refusals(rt: HostRuntime) -> Result<(), Fail> {
+    for (refusal, shown) in [
+        (Refusal::NoWarehouse, "refused 1 NoWarehouse\n"),
+        (Refusal::NoDistrict, "refused 2 NoDistrict\n"),
+        (Refusal::NoCustomer, "refused 3 NoCustomer\n"),
+        (Refusal::LineCount, "refused 4 LineCount\n"),
+        (Refusal::Quantity, "refused 5 Quantity\n"),
+        (Refusal::NoSupply, "refused 6 NoSupply\n"),
+        (Refusal::Amount, "refused 7 Amount\n"),
+        (Refusal::Carrier, "refused 8 Carrier\n"),
+        (Refusal::Threshold, "refused 9 Threshold\n"),
+        (Refusal::Stranger(1), "refused 10 Stranger 1\n"),
+        (Refusal::JournalFull, "refused 11 JournalFull\n"),
+        (Refusal::QueueFull, "refused 12 QueueFull\n"),
+        (Refusal::OrderNumbers, "refused 13 OrderNumbers\n"),
+        (
+            Refusal::Count(Field::StockOrders),
+            "refused 14 Count StockOrders\n",
+        ),
+        (
+            Refusal::Total(Field::StockYtd),
+            "refused 15 Total StockYtd\n",
+        ),
+        (Refusal::NoMemory, "refused 16 NoMemory\n"),
+    ] {
+        assert_eq!(rt;
+            refusal_screen(rt.alloc(), refusal)?.bytes(),
+            shown.as_bytes()
+        );
+    }
+    Ok(())
+}
+
+#[test]
+fn checks_and_reports(rt: HostRuntime) -> Result<(), Fail> {
+    let alloc = rt.alloc();
+    assert_eq!(rt;
+        consistent_screen(alloc)?.bytes(),
+        b"consistent\n".as_slice()
+    );
+    assert_eq!(rt;
+        broken_screen(alloc, 5, 1, 2, 8)?.bytes(),
+        b"broken 5 1 2 8\n".as_slice()
+    );
+    let report = Report {
+        entries: 2,
+        paid: Cents::new(200),
+        rise: Cents::new(200),
+    };
+    assert_eq!(rt;
+        report.to_string(alloc)?.as_str(),
+        "entries 2\npaid 2.00\nrise 2.00\n"
+    );
+    Ok(())
+}
+
+#[test]
+fn results(rt: HostRuntime) -> Result<(), Fail> {
+    let alloc = rt.alloc();
+    assert!(rt; results_screen(alloc, &[])?.bytes().is_empty());
+    let delivered = Delivered {
+        ticket: ticket(),
+        at: Moment::new(180),
+        orders: [
+            Some(8),
+            Some(8),
+            None,
+            Some(8),
+            Some(8),
+            Some(8),
+            Some(8),
+            Some(8),
+            Some(8),
+            Some(9),
+        ],
+    };
+    let ten =
+        "delivered W_ID=1 O_CARRIER_ID=3 queued=1970-01-01T00:01:00 at=1970-01-01T00:03:00\ndistrict 1 O_ID=8\ndistrict 2 O_ID=8\ndistrict 3 skipped\ndistrict 4 O_ID=8\ndistrict 5 O_ID=8\ndistrict 6 O_ID=8\ndistrict 7 O_ID=8\ndistrict 8 O_ID=8\ndistrict 9 O_ID=8\ndistrict 10 O_ID=9\n";
+    assert_eq!(rt;
+        results_screen(alloc, &[delivered])?.bytes(),
+        ten.as_bytes()
+    );
+    Ok(())
+}
