@@ -9,6 +9,7 @@ ghost use Rattle.tpcc_tables.specs.Loads.{find_order_line};
 ghost use Rattle.tpcc_tables.specs.Writes.{with_payment, IsPayment};
 
 mod load;
+mod positions;
 
 use crate::{find, named, place};
 use std::alloc::Global;
