@@ -5,13 +5,15 @@ ghost use Rattle.tpcc_rows.specs.Tables.{find_warehouse, find_district, find_cus
 ghost use Rattle.tpcc_rows.specs.declared.requests.Who.TheVariants.{Name};
 ghost use Rattle.tpcc_rows.specs.ChosenCustomer.{chosen_customer};
 ghost use Rattle.tpcc_rows.specs.WellKeyed.{IsWellKeyed};
+ghost use Rattle.tpcc_rows.specs.Delivery.{oldest_new_order};
+ghost use Rattle.tpcc_rows.specs.Lookups.{last_order_number};
 ghost use Rattle.tpcc_tables.specs.Loads.{find_order_line};
 ghost use Rattle.tpcc_tables.specs.Writes.{with_payment, IsPayment};
 
 mod load;
 mod positions;
 
-use crate::{find, named, place};
+use crate::{extremes, find, named, place};
 use std::alloc::Global;
 use std::marker::Model;
 use tpcc_money::NoMemory;
@@ -132,6 +134,20 @@ impl Tables {
         ensures { result ≡ find_new_order self.now.rows warehouse district order }
     {
         find::new_order(self.new_orders.as_slice(), warehouse, district, order)
+    }
+
+    /// The largest number of a customer's orders (2.6.2.2), if there is an order.
+    pub fn last_order(&self, warehouse: u32, district: u32, customer: u32) -> Option<u32>
+        ensures { result ≡ last_order_number self.now.rows warehouse district customer }
+    {
+        extremes::last_order(self.orders.as_slice(), warehouse, district, customer)
+    }
+
+    /// The smallest number of a district's NEW-ORDER rows (2.7.4.2), if there is a row.
+    pub fn oldest_new(&self, warehouse: u32, district: u32) -> Option<u32>
+        ensures { result ≡ oldest_new_order self.now.rows warehouse district }
+    {
+        extremes::oldest_new(self.new_orders.as_slice(), warehouse, district)
     }
 
     pub fn item(&self, item: u32) -> Option<&ItemRow>
