@@ -1,15 +1,26 @@
 //! What the delivery of one order changes (2.7.4.2).
-ghost use Rattle.std.specs.Prelude.{◌≤◌, vec_len, vec_capacity, ◌≡◌, ◌+◌, ◌<◌, ◌^◌, ◌+ℤ◌, ℕ, ℤ, FitsSigned, find, filter, position, not, take, true, Some, if◌then◌else◌};
+ghost use Rattle.std.specs.Prelude.{◌≤◌, unwrap_or, vec_len, vec_capacity, ◌≡◌, ◌+◌, ◌<◌, ◌^◌, ◌+ℤ◌, ℕ, ℤ, FitsSigned, find, filter, position, not, take, true, Some, if◌then◌else◌};
 ghost use Rattle.std.specs.Int.{w64};
 ghost use Rattle.tpcc_money.specs.Amounts.{total};
 ghost use Rattle.tpcc_rows.specs.declared.rows.CustomerRow.{CustomerRow};
 ghost use Rattle.tpcc_rows.specs.Lists.{updated, is_ascending};
-ghost use Rattle.tpcc_rows.specs.Tables.{is_customer, is_line_of, is_new_order, is_order, customer_key, new_order_key, order_key};
+ghost use Rattle.tpcc_rows.specs.Tables.{is_customer, is_line_of, is_new_order, is_order, no_order, customer_key, new_order_key, order_key};
 ghost use Rattle.tpcc_rows.specs.Delivery.{delivered_customer};
 
+use crate::find;
 use crate::place::place_of_customer;
 use tpcc_money::{Cents, Moment};
 use tpcc_rows::rows::*;
+
+/// The customer of an order, or 0, which no customer has, where there is no such order.
+pub fn customer_of(rows: &[OrderRow], warehouse: u32, district: u32, order: u32) -> u32
+    ensures { result ≡ (unwrap_or (find (is_order warehouse district order) rows.now) no_order).customer }
+{
+    match find::order(rows, warehouse, district, order) {
+        Some(row) => row.customer,
+        None => 0,
+    }
+}
 
 fn is_line_of(row: &OrderLineRow, warehouse: u32, district: u32, order: u32) -> bool
     ensures { result ≡ is_line_of warehouse district order row.now }

@@ -135,6 +135,14 @@ pub fn push<T>(rows: &mut Vec<T>, added: T) -> Result<(), T>
     }
 }
 
+/// Puts a new row at its place, for which there is room.
+pub fn insert_one<T: Keyed>(rows: &mut Vec<T>, added: T)
+    requires { vec_len rows.old < vec_capacity rows.old }
+    ensures { rows.new.items ≡ inserted (by_key T.key) added rows.old.items }
+{
+    insert(rows, added).unwrap();
+}
+
 /// Puts new rows at their places, one after another; there is room for them.
 pub fn insert_all<T: Keyed>(rows: &mut Vec<T>, added: Vec<T>)
     requires { vec_len rows.old + length added.items ≤ vec_capacity rows.old }
