@@ -1,5 +1,5 @@
 -- What `max` and `min` of an iterator give is the largest and the smallest number.
-use Rattle.std.proofs.Common.{◌≡◌, ℕ, Bool, true, false, List, [], ◌∷◌, refl, ap, ◌∙◌, arith, cond, Option, Some, None}
+use Rattle.std.proofs.Common.{◌≡◌, ℕ, List, [], ◌∷◌, refl, ap, ◌∙◌, arith, Option, Some, None}
 use Rattle.std.specs.Prelude.{max, min, fold}
 use Rattle.std.specs.List.{reduce}
 use Rattle.std.specs.Ordering.{nat_cmp, max_by_ordering, min_by_ordering}

@@ -1,6 +1,6 @@
 -- STOCK rows, line after line.
-use Rattle.std.proofs.Common.{◌≡◌, ℕ, zero, suc, ◌+◌, ◌*◌, ◌<◌, ◌≤◌, ◌^◌, ◌==◌, Bool, true, false, List, [], ◌∷◌, length, map, take, get_or, refl, sym, ap, ◌∙◌, arith, Some}
-use Rattle.std.specs.Prelude.{◌&&◌, find, fold, nat_le, if◌then◌else◌}
+use Rattle.std.proofs.Common.{◌≡◌, ℕ, zero, suc, ◌+◌, ◌*◌, ◌<◌, ◌≤◌, ◌==◌, Bool, true, false, List, [], ◌∷◌, length, map, get_or, refl, sym, ap, ◌∙◌, arith}
+use Rattle.std.specs.Prelude.{◌&&◌, fold, nat_le, if◌then◌else◌}
 use Rattle.std.specs.List.{list_all}
 use Rattle.std.proofs.lemmas.Bool.Decides.{nat_tests}
 use Rattle.std.proofs.lemmas.List.Folds.{fold-map}
@@ -12,10 +12,9 @@ use Rattle.tpcc_rows.specs.Ranges.{is_within, is_stock_row, is_text, is_exact_te
 use Rattle.tpcc_rows.specs.Tables.{stock_key}
 use Rattle.tpcc_rows.specs.NewOrder.{quantity_after, stock_after_line, stock_after}
 use Rattle.tpcc_rows.proofs.ListLemmas.{ascending-updated, list_all-updated, list_all-mono}
-use Rattle.tpcc_rows.proofs.RemoveLemmas.{found_passes}
 use Rattle.tpcc_rows.proofs.BodyLemmas.{lines_one_by_one}
 use Rattle.tpcc_rows.proofs.OrderParents.{split, both_true}
-use Rattle.tpcc_rows.proofs.Numbers.{within, is_in}
+use Rattle.tpcc_rows.proofs.Numbers.{within}
 use Rattle.tpcc_tables.specs.Writes.{line_of}
 use Rattle.tpcc_tables.specs.Supplies.{is_supplied_by, HasRoomFor, is_near}
 

@@ -1,5 +1,5 @@
 -- What loading one row changes, and why a row is refused (1.3, 1.5).
-use Rattle.std.specs.Prelude.{◌&&◌, ◌||◌, not, Bool, is_some, List, [], ◌∷◌, ◌++◌, Option, find}
+use Rattle.std.specs.Prelude.{◌&&◌, ◌||◌, not, Bool, is_some, [], ◌∷◌, ◌++◌, Option, find}
 use Rattle.std.specs.Prelude.{ℕ, ◌==◌}
 use Rattle.tpcc_rows.specs.declared.rows.WarehouseRow.{WarehouseRow}
 use Rattle.tpcc_rows.specs.declared.rows.DistrictRow.{DistrictRow}

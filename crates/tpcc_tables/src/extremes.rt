@@ -6,12 +6,7 @@ ghost use Rattle.tpcc_rows.specs.Tables.{is_order_of};
 use tpcc_rows::rows::{NewOrderRow, OrderRow};
 
 /// The largest O_ID of a customer's orders.
-pub fn last_order(
-    rows: &[OrderRow],
-    warehouse: u32,
-    district: u32,
-    customer: u32,
-) -> Option<u32>
+pub fn last_order(rows: &[OrderRow], warehouse: u32, district: u32, customer: u32) -> Option<u32>
     ensures { result ≡ largest (map (λ o. o.id) (filter (is_order_of warehouse district customer) rows.now)) }
 {
     rows.iter()

@@ -62,7 +62,8 @@ impl Keyed for OrderLineRow {
     ghost key = { order_line_key };
 
     fn comes_before(&self, other: &OrderLineRow) -> bool {
-        (self.warehouse, self.district, self.order, self.number) < (other.warehouse, other.district, other.order, other.number)
+        (self.warehouse, self.district, self.order, self.number)
+            < (other.warehouse, other.district, other.order, other.number)
     }
 }
 

@@ -41,8 +41,7 @@ fn take_line(row: &mut StockRow, home: u32, line: &OrderLineRow)
 fn place_of_supply(rows: &[StockRow], line: &OrderLineRow) -> Option<usize>
     ensures { result ≡ position (is_supplied_by (line_of line.now)) rows.now }
 {
-    rows.iter()
-        .position(|row| line.supply == row.warehouse && line.item == row.item)
+    rows.iter().position(|row| line.supply == row.warehouse && line.item == row.item)
 }
 
 /// One line, taken from its STOCK row.

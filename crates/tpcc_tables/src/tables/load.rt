@@ -21,15 +21,33 @@ impl Tables {
         ensures same { OnErr result (self.new ≡ self.old) }
     {
         match row {
-            Row::Warehouse(row) => self.load_warehouse(row).map_err(|(row, fault)| (Row::Warehouse(row), fault)),
-            Row::District(row) => self.load_district(row).map_err(|(row, fault)| (Row::District(row), fault)),
-            Row::Customer(row) => self.load_customer(row).map_err(|(row, fault)| (Row::Customer(row), fault)),
-            Row::History(row) => self.load_history(row).map_err(|(row, fault)| (Row::History(row), fault)),
-            Row::Order(row) => self.load_order(row).map_err(|(row, fault)| (Row::Order(row), fault)),
-            Row::OrderLine(row) => self.load_order_line(row).map_err(|(row, fault)| (Row::OrderLine(row), fault)),
-            Row::NewOrder(row) => self.load_new_order(row).map_err(|(row, fault)| (Row::NewOrder(row), fault)),
-            Row::Item(row) => self.load_item(row).map_err(|(row, fault)| (Row::Item(row), fault)),
-            Row::Stock(row) => self.load_stock(row).map_err(|(row, fault)| (Row::Stock(row), fault)),
+            Row::Warehouse(row) => self
+                .load_warehouse(row)
+                .map_err(|(row, fault)| (Row::Warehouse(row), fault)),
+            Row::District(row) => self
+                .load_district(row)
+                .map_err(|(row, fault)| (Row::District(row), fault)),
+            Row::Customer(row) => self
+                .load_customer(row)
+                .map_err(|(row, fault)| (Row::Customer(row), fault)),
+            Row::History(row) => self
+                .load_history(row)
+                .map_err(|(row, fault)| (Row::History(row), fault)),
+            Row::Order(row) => self
+                .load_order(row)
+                .map_err(|(row, fault)| (Row::Order(row), fault)),
+            Row::OrderLine(row) => self
+                .load_order_line(row)
+                .map_err(|(row, fault)| (Row::OrderLine(row), fault)),
+            Row::NewOrder(row) => self
+                .load_new_order(row)
+                .map_err(|(row, fault)| (Row::NewOrder(row), fault)),
+            Row::Item(row) => self
+                .load_item(row)
+                .map_err(|(row, fault)| (Row::Item(row), fault)),
+            Row::Stock(row) => self
+                .load_stock(row)
+                .map_err(|(row, fault)| (Row::Stock(row), fault)),
         }
     }
 

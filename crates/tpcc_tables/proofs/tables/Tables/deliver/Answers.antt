@@ -1,4 +1,4 @@
-use Rattle.std.proofs.Common.{◌≡◌, ◌∙◌, ◌+◌, ◌<◌, ◌^◌, ℕ, List, sym, ap, subst, arith, take, filter, Some, None}
+use Rattle.std.proofs.Common.{◌≡◌, ◌∙◌, List, sym, ap, subst, arith, take, filter, Some, None}
 use Rattle.std.specs.Prelude.{ℤ, ◌+ℤ◌, FitsSigned, find, unwrap_or}
 use Rattle.std.specs.Int.{w64}
 use Rattle.tpcc_money.specs.Amounts.{total}
