@@ -1,6 +1,6 @@
 -- Rows that are loaded keep the tables well-keyed.
-use Rattle.std.proofs.Common.{◌≡◌, ℕ, ◌==◌, Bool, true, false, List, [], ◌∷◌, ◌++◌, refl, sym, ◌∙◌, arith, Option, Some, None}
-use Rattle.std.specs.Prelude.{◌&&◌, ◌||◌, not, is_some, find, nat_lt, unwrap_or}
+use Rattle.std.proofs.Common.{◌≡◌, ℕ, Bool, true, false, List, [], ◌∷◌, ◌++◌, refl, sym, ◌∙◌, arith, Option, Some, None}
+use Rattle.std.specs.Prelude.{◌||◌, not, is_some, find, nat_lt, unwrap_or}
 use Rattle.std.specs.List.{list_all}
 use Rattle.std.proofs.lemmas.Bool.Decides.{nat_tests}
 use Rattle.std.proofs.lemmas.List.Folds.{list_all-append}
@@ -16,7 +16,7 @@ use Rattle.tpcc_rows.specs.declared.rows.StockRow.{StockRow}
 use Rattle.tpcc_rows.specs.Lists.{inserted, by_key, is_ascending}
 use Rattle.tpcc_rows.specs.Ranges.{is_warehouse_row, is_district_row, is_customer_row, is_history_row, is_order_row, is_order_line_row, is_new_order_row, is_item_row, is_stock_row}
 use Rattle.tpcc_rows.specs.Tables.{Rows, warehouse_key, district_key, customer_key, order_key, order_line_key, new_order_key, item_key, stock_key, is_warehouse, is_district, is_customer, is_order, is_new_order, is_item, is_stock, find_warehouse, find_district, find_customer, find_order, find_new_order, find_item, find_stock, no_district}
-use Rattle.tpcc_rows.specs.WellKeyed.{IsKeyed, HasParents, IsInRange, IsWellKeyed, has_warehouse, has_district, has_payer, has_customer, has_order, has_order_and_stock, has_warehouse_and_item, is_numbered_below_next}
+use Rattle.tpcc_rows.specs.WellKeyed.{HasParents, IsWellKeyed, has_warehouse, has_district, has_payer, has_customer, has_order, has_order_and_stock, has_warehouse_and_item, is_numbered_below_next}
 use Rattle.tpcc_rows.proofs.ListLemmas.{list_all-mono}
 use Rattle.tpcc_rows.proofs.InsertLemmas.{list_all-inserted, find-inserted_other}
 use Rattle.tpcc_rows.proofs.OrderKeys.{apart, ascending-inserted}

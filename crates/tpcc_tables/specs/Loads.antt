@@ -1,5 +1,5 @@
 -- What loading one row changes, and why a row is refused (1.3, 1.5).
-use Rattle.std.specs.Prelude.{◌&&◌, ◌||◌, not, Bool, is_some, List, [], ◌∷◌, ◌++◌, Option, find}
+use Rattle.std.specs.Prelude.{◌&&◌, ◌||◌, not, Bool, is_some, [], ◌∷◌, ◌++◌, Option, find}
 use Rattle.std.specs.Prelude.{ℕ, ◌==◌}
 use Rattle.tpcc_rows.specs.declared.rows.WarehouseRow.{WarehouseRow}
 use Rattle.tpcc_rows.specs.declared.rows.DistrictRow.{DistrictRow}
@@ -10,6 +10,8 @@ use Rattle.tpcc_rows.specs.declared.rows.OrderLineRow.{OrderLineRow}
 use Rattle.tpcc_rows.specs.declared.rows.NewOrderRow.{NewOrderRow}
 use Rattle.tpcc_rows.specs.declared.rows.ItemRow.{ItemRow}
 use Rattle.tpcc_rows.specs.declared.rows.StockRow.{StockRow}
+use Rattle.tpcc_rows.specs.declared.row.Row.{Row}
+use Rattle.tpcc_rows.specs.declared.row.Row.TheVariants as row
 use Rattle.tpcc_rows.specs.Lists.{inserted, by_key, first_finding}
 use Rattle.tpcc_rows.specs.Ranges.{is_warehouse_row, is_district_row, is_customer_row, is_history_row, is_order_row, is_order_line_row, is_new_order_row, is_item_row, is_stock_row}
 use Rattle.tpcc_rows.specs.Tables.{Rows, warehouse_key, district_key, customer_key, order_key, order_line_key, new_order_key, item_key, stock_key, find_warehouse, find_district, find_customer, find_order, find_new_order, find_item, find_stock}
@@ -86,3 +88,26 @@ item_fault rows i = first_finding ((not (is_item_row i), Field) ∷ (is_some (fi
 
 abbrev pub stock_fault : Rows → StockRow → Option LoadFault
 stock_fault rows s = fault_of (is_stock_row s) (has_warehouse_and_item rows s) (is_some (find_stock rows s.warehouse s.item))
+
+-- a row of any table
+unfoldable pub with_row : Rows → Row → Rows
+with_row rows (row.Warehouse w) = with_warehouse rows w
+with_row rows (row.District d) = with_district rows d
+with_row rows (row.Customer c) = with_customer rows c
+with_row rows (row.History h) = with_history rows h
+with_row rows (row.Order o) = with_order rows o
+with_row rows (row.OrderLine l) = with_order_line rows l
+with_row rows (row.NewOrder n) = with_new_order rows n
+with_row rows (row.Item i) = with_item rows i
+with_row rows (row.Stock s) = with_stock rows s
+
+unfoldable pub load_fault : Rows → Row → Option LoadFault
+load_fault rows (row.Warehouse w) = warehouse_fault rows w
+load_fault rows (row.District d) = district_fault rows d
+load_fault rows (row.Customer c) = customer_fault rows c
+load_fault rows (row.History h) = history_fault rows h
+load_fault rows (row.Order o) = order_fault rows o
+load_fault rows (row.OrderLine l) = order_line_fault rows l
+load_fault rows (row.NewOrder n) = new_order_fault rows n
+load_fault rows (row.Item i) = item_fault rows i
+load_fault rows (row.Stock s) = stock_fault rows s

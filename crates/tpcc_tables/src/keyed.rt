@@ -1,12 +1,13 @@
 //! Rows with a primary key, in ascending order of their keys.
-ghost use Rattle.std.specs.Prelude.{[], ◌∷◌, ◌++◌, ◌≡◌, ◌<◌, ◌≤◌, not, true, OnOk, OnErr, IfErr, IsOk, vec_len, vec_capacity};
+ghost use Rattle.std.specs.Prelude.{[], ◌∷◌, ◌++◌, ◌≡◌, ◌<◌, ◌≤◌, not, true, OnOk, OnErr, IfErr, IsOk, ◌+◌, length, vec_len, vec_capacity};
 ghost use Rattle.std.specs.List.{prefix_len};
-ghost use Rattle.tpcc_rows.specs.Lists.{by_key, key_before, inserted, is_ascending};
+ghost use Rattle.tpcc_rows.specs.Lists.{by_key, key_before, inserted, inserted_all};
 
+use std::fmt::Debug;
 use tpcc_rows::rows::*;
 
 /// A row whose key is a list of numbers; the first that differs decides.
-pub trait Keyed: Drop {
+pub trait Keyed: Debug + Drop {
     ghost use Rattle.std.specs.Prelude.{ℕ, List};
 
     ghost key: { Self → List ℕ };
@@ -61,7 +62,8 @@ impl Keyed for OrderLineRow {
     ghost key = { order_line_key };
 
     fn comes_before(&self, other: &OrderLineRow) -> bool {
-        (self.warehouse, self.district, self.order, self.number) < (other.warehouse, other.district, other.order, other.number)
+        (self.warehouse, self.district, self.order, self.number)
+            < (other.warehouse, other.district, other.order, other.number)
     }
 }
 
@@ -95,24 +97,21 @@ impl Keyed for StockRow {
     }
 }
 
-/// The place before the first row that comes after a new one.
+/// How many rows stand before the first one that comes after a new row.
 fn place_for<T: Keyed>(rows: &[T], added: &T) -> usize
-    requires keyed { is_ascending T.key rows.now ≡ true }
     ensures { result ≡ prefix_len (λ row. not (by_key T.key added.now row)) rows.now }
 {
-    rows.partition_point(
-        |row: &T| -> bool
-            ensures { result ≡ not (by_key T.key added.entry.now row.now) }
-        { !added.comes_before(row) },
-    )
+    rows.iter()
+        .take_while(|row| !added.comes_before(row))
+        .count()
 }
 
 /// Puts a new row at its place, or gives it back where there is no memory for it.
 pub fn insert<T: Keyed>(rows: &mut Vec<T>, added: T) -> Result<(), T>
-    requires keyed { is_ascending T.key rows.old.items ≡ true }
     ensures inserted { OnOk result (rows.new.items ≡ inserted (by_key T.key) added rows.old.items) }
     ensures same { OnErr result (rows.new.items ≡ rows.old.items) }
     ensures given_back { IfErr result (λ row. row ≡ added) }
+    ensures len { vec_len rows.new ≤ vec_len rows.old + 1 }
     ensures capacity { vec_capacity rows.old ≤ vec_capacity rows.new }
     ensures succeeds { vec_len rows.old < vec_capacity rows.old → IsOk result }
 {
@@ -134,5 +133,23 @@ pub fn push<T>(rows: &mut Vec<T>, added: T) -> Result<(), T>
     match rows.push(added) {
         Ok(()) => Ok(()),
         Err(failed) => Err(failed.value),
+    }
+}
+
+/// Puts a new row at its place, for which there is room.
+pub fn insert_one<T: Keyed>(rows: &mut Vec<T>, added: T)
+    requires { vec_len rows.old < vec_capacity rows.old }
+    ensures { rows.new.items ≡ inserted (by_key T.key) added rows.old.items }
+{
+    insert(rows, added).unwrap();
+}
+
+/// Puts new rows at their places, one after another; there is room for them.
+pub fn insert_all<T: Keyed>(rows: &mut Vec<T>, added: Vec<T>)
+    requires { vec_len rows.old + length added.items ≤ vec_capacity rows.old }
+    ensures { rows.new.items ≡ inserted_all (by_key T.key) added.items rows.old.items }
+{
+    for row in added {
+        insert(rows, row).unwrap();
     }
 }

@@ -5,17 +5,18 @@ ghost use Rattle.tpcc_rows.specs.Tables.{find_warehouse, find_district, find_cus
 ghost use Rattle.tpcc_rows.specs.declared.requests.Who.TheVariants.{Name};
 ghost use Rattle.tpcc_rows.specs.ChosenCustomer.{chosen_customer};
 ghost use Rattle.tpcc_rows.specs.WellKeyed.{IsWellKeyed};
+ghost use Rattle.tpcc_rows.specs.Delivery.{oldest_new_order};
+ghost use Rattle.tpcc_rows.specs.Lookups.{last_order_number};
 ghost use Rattle.tpcc_tables.specs.Loads.{find_order_line};
-ghost use Rattle.tpcc_tables.specs.Writes.{with_payment, IsPayment};
 
 mod load;
+mod positions;
+mod writes;
 
-use crate::{find, named, place};
+use crate::{extremes, find, named};
 use std::alloc::Global;
 use std::marker::Model;
-use tpcc_money::NoMemory;
 use tpcc_rows::rows::*;
-use tpcc_rows::text::Text;
 
 #[derive(Drop)]
 pub struct Tables {
@@ -28,8 +29,8 @@ pub struct Tables {
     new_orders: Vec<NewOrderRow>,
     items: Vec<ItemRow>,
     stocks: Vec<StockRow>,
-    order_room: usize,
-    payment_room: usize,
+    order_room: u64,
+    payment_room: u32,
 }
 
 impl Model for Tables {
@@ -133,6 +134,20 @@ impl Tables {
         find::new_order(self.new_orders.as_slice(), warehouse, district, order)
     }
 
+    /// The largest number of a customer's orders (2.6.2.2), if there is an order.
+    pub fn last_order(&self, warehouse: u32, district: u32, customer: u32) -> Option<u32>
+        ensures { result ≡ last_order_number self.now.rows warehouse district customer }
+    {
+        extremes::last_order(self.orders.as_slice(), warehouse, district, customer)
+    }
+
+    /// The smallest number of a district's NEW-ORDER rows (2.7.4.2), if there is a row.
+    pub fn oldest_new(&self, warehouse: u32, district: u32) -> Option<u32>
+        ensures { result ≡ oldest_new_order self.now.rows warehouse district }
+    {
+        extremes::oldest_new(self.new_orders.as_slice(), warehouse, district)
+    }
+
     pub fn item(&self, item: u32) -> Option<&ItemRow>
         ensures { option_copied result ≡ find_item self.now.rows item }
     {
@@ -143,42 +158,5 @@ impl Tables {
         ensures { option_copied result ≡ find_stock self.now.rows warehouse item }
     {
         find::stock(self.stocks.as_slice(), warehouse, item)
-    }
-
-    /// Room for one payment.
-    pub fn reserve_payment(&mut self) -> Result<(), NoMemory>
-        ensures same { self.new.rows ≡ self.old.rows }
-        ensures room { OnOk result (0 < self.new.payment_room) }
-    {
-        if self.histories.reserve(1).is_err() {
-            return Err(NoMemory);
-        }
-        self.payment_room = 1;
-        Ok(())
-    }
-
-    /// Appends a HISTORY row and pays its amount; takes no memory.
-    pub fn pay(&mut self, history: HistoryRow, information: Option<Text>)
-        requires room { 0 < self.old.payment_room }
-        requires payment { IsPayment self.old.rows history information }
-        ensures { self.new.rows ≡ with_payment self.old.rows history information }
-    {
-        place::pay_warehouse(&mut self.warehouses, history.warehouse, history.amount);
-        place::pay_district(
-            &mut self.districts,
-            history.warehouse,
-            history.district,
-            history.amount,
-        );
-        place::pay_customer(
-            &mut self.customers,
-            history.customer_warehouse,
-            history.customer_district,
-            history.customer,
-            history.amount,
-            information,
-        );
-        place::append_history(&mut self.histories, history);
-        self.payment_room = 0;
     }
 }

@@ -6,10 +6,52 @@ ghost use Rattle.tpcc_tables.specs.Loads as loads;
 use super::Tables;
 use crate::faults::{self, LoadFault};
 use crate::keyed;
+use tpcc_rows::row::Row;
 use tpcc_rows::rows::*;
 
 impl Tables {
-    pub fn load_warehouse(&mut self, row: WarehouseRow) -> Result<(), (WarehouseRow, LoadFault)>
+    #[tactic(auto, unfolding(crate::specs::Loads::with_row, crate::specs::Loads::load_fault))]
+    /// Loads one row at the place of its key, a HISTORY row at the end. A refused row comes back,
+    /// and the tables stay as they were.
+    pub fn load(&mut self, row: Row) -> Result<(), (Row, LoadFault)>
+        ensures loaded { OnOk result (self.new.rows ≡ loads.with_row self.old.rows row) }
+        ensures accepted { OnOk result (loads.load_fault self.old.rows row ≡ None) }
+        ensures refused { IfErr result (λ e. option_or (loads.load_fault self.old.rows row) (Some LoadFault.NoMemory) ≡ Some e.1) }
+        ensures given_back { IfErr result (λ e. e.0 ≡ row) }
+        ensures same { OnErr result (self.new ≡ self.old) }
+    {
+        match row {
+            Row::Warehouse(row) => self
+                .load_warehouse(row)
+                .map_err(|(row, fault)| (Row::Warehouse(row), fault)),
+            Row::District(row) => self
+                .load_district(row)
+                .map_err(|(row, fault)| (Row::District(row), fault)),
+            Row::Customer(row) => self
+                .load_customer(row)
+                .map_err(|(row, fault)| (Row::Customer(row), fault)),
+            Row::History(row) => self
+                .load_history(row)
+                .map_err(|(row, fault)| (Row::History(row), fault)),
+            Row::Order(row) => self
+                .load_order(row)
+                .map_err(|(row, fault)| (Row::Order(row), fault)),
+            Row::OrderLine(row) => self
+                .load_order_line(row)
+                .map_err(|(row, fault)| (Row::OrderLine(row), fault)),
+            Row::NewOrder(row) => self
+                .load_new_order(row)
+                .map_err(|(row, fault)| (Row::NewOrder(row), fault)),
+            Row::Item(row) => self
+                .load_item(row)
+                .map_err(|(row, fault)| (Row::Item(row), fault)),
+            Row::Stock(row) => self
+                .load_stock(row)
+                .map_err(|(row, fault)| (Row::Stock(row), fault)),
+        }
+    }
+
+    fn load_warehouse(&mut self, row: WarehouseRow) -> Result<(), (WarehouseRow, LoadFault)>
         ensures loaded { OnOk result (self.new.rows ≡ loads.with_warehouse self.old.rows row) }
         ensures accepted { OnOk result (loads.warehouse_fault self.old.rows row ≡ None) }
         ensures refused { IfErr result (λ e. option_or (loads.warehouse_fault self.old.rows row) (Some LoadFault.NoMemory) ≡ Some e.1) }
@@ -25,7 +67,7 @@ impl Tables {
         Ok(())
     }
 
-    pub fn load_district(&mut self, row: DistrictRow) -> Result<(), (DistrictRow, LoadFault)>
+    fn load_district(&mut self, row: DistrictRow) -> Result<(), (DistrictRow, LoadFault)>
         ensures loaded { OnOk result (self.new.rows ≡ loads.with_district self.old.rows row) }
         ensures accepted { OnOk result (loads.district_fault self.old.rows row ≡ None) }
         ensures refused { IfErr result (λ e. option_or (loads.district_fault self.old.rows row) (Some LoadFault.NoMemory) ≡ Some e.1) }
@@ -41,7 +83,7 @@ impl Tables {
         Ok(())
     }
 
-    pub fn load_customer(&mut self, row: CustomerRow) -> Result<(), (CustomerRow, LoadFault)>
+    fn load_customer(&mut self, row: CustomerRow) -> Result<(), (CustomerRow, LoadFault)>
         ensures loaded { OnOk result (self.new.rows ≡ loads.with_customer self.old.rows row) }
         ensures accepted { OnOk result (loads.customer_fault self.old.rows row ≡ None) }
         ensures refused { IfErr result (λ e. option_or (loads.customer_fault self.old.rows row) (Some LoadFault.NoMemory) ≡ Some e.1) }
@@ -57,7 +99,7 @@ impl Tables {
         Ok(())
     }
 
-    pub fn load_history(&mut self, row: HistoryRow) -> Result<(), (HistoryRow, LoadFault)>
+    fn load_history(&mut self, row: HistoryRow) -> Result<(), (HistoryRow, LoadFault)>
         ensures loaded { OnOk result (self.new.rows ≡ loads.with_history self.old.rows row) }
         ensures accepted { OnOk result (loads.history_fault self.old.rows row ≡ None) }
         ensures refused { IfErr result (λ e. option_or (loads.history_fault self.old.rows row) (Some LoadFault.NoMemory) ≡ Some e.1) }
@@ -74,7 +116,7 @@ impl Tables {
         Ok(())
     }
 
-    pub fn load_order(&mut self, row: OrderRow) -> Result<(), (OrderRow, LoadFault)>
+    fn load_order(&mut self, row: OrderRow) -> Result<(), (OrderRow, LoadFault)>
         ensures loaded { OnOk result (self.new.rows ≡ loads.with_order self.old.rows row) }
         ensures accepted { OnOk result (loads.order_fault self.old.rows row ≡ None) }
         ensures refused { IfErr result (λ e. option_or (loads.order_fault self.old.rows row) (Some LoadFault.NoMemory) ≡ Some e.1) }
@@ -91,7 +133,7 @@ impl Tables {
         Ok(())
     }
 
-    pub fn load_order_line(&mut self, row: OrderLineRow) -> Result<(), (OrderLineRow, LoadFault)>
+    fn load_order_line(&mut self, row: OrderLineRow) -> Result<(), (OrderLineRow, LoadFault)>
         ensures loaded { OnOk result (self.new.rows ≡ loads.with_order_line self.old.rows row) }
         ensures accepted { OnOk result (loads.order_line_fault self.old.rows row ≡ None) }
         ensures refused { IfErr result (λ e. option_or (loads.order_line_fault self.old.rows row) (Some LoadFault.NoMemory) ≡ Some e.1) }
@@ -108,7 +150,7 @@ impl Tables {
         Ok(())
     }
 
-    pub fn load_new_order(&mut self, row: NewOrderRow) -> Result<(), (NewOrderRow, LoadFault)>
+    fn load_new_order(&mut self, row: NewOrderRow) -> Result<(), (NewOrderRow, LoadFault)>
         ensures loaded { OnOk result (self.new.rows ≡ loads.with_new_order self.old.rows row) }
         ensures accepted { OnOk result (loads.new_order_fault self.old.rows row ≡ None) }
         ensures refused { IfErr result (λ e. option_or (loads.new_order_fault self.old.rows row) (Some LoadFault.NoMemory) ≡ Some e.1) }
@@ -125,7 +167,7 @@ impl Tables {
         Ok(())
     }
 
-    pub fn load_item(&mut self, row: ItemRow) -> Result<(), (ItemRow, LoadFault)>
+    fn load_item(&mut self, row: ItemRow) -> Result<(), (ItemRow, LoadFault)>
         ensures loaded { OnOk result (self.new.rows ≡ loads.with_item self.old.rows row) }
         ensures accepted { OnOk result (loads.item_fault self.old.rows row ≡ None) }
         ensures refused { IfErr result (λ e. option_or (loads.item_fault self.old.rows row) (Some LoadFault.NoMemory) ≡ Some e.1) }
@@ -141,7 +183,7 @@ impl Tables {
         Ok(())
     }
 
-    pub fn load_stock(&mut self, row: StockRow) -> Result<(), (StockRow, LoadFault)>
+    fn load_stock(&mut self, row: StockRow) -> Result<(), (StockRow, LoadFault)>
         ensures loaded { OnOk result (self.new.rows ≡ loads.with_stock self.old.rows row) }
         ensures accepted { OnOk result (loads.stock_fault self.old.rows row ≡ None) }
         ensures refused { IfErr result (λ e. option_or (loads.stock_fault self.old.rows row) (Some LoadFault.NoMemory) ≡ Some e.1) }

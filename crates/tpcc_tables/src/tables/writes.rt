@@ -1,0 +1,115 @@
+//! The writes of one transaction, each after its growth was made.
+ghost use Rattle.std.specs.Prelude.{◌≡◌, ◌<◌, OnOk, length, Some, None, true};
+ghost use Rattle.tpcc_rows.specs.Delivery.{after_delivery, district_refusal, oldest_new_order};
+ghost use Rattle.tpcc_rows.specs.Ranges.{is_carrier};
+ghost use Rattle.tpcc_tables.specs.Writes.{with_payment, IsPayment, with_entered_order, IsOrder};
+
+use super::Tables;
+use crate::{delivery, keyed, place, supply};
+use tpcc_money::{Moment, NoMemory};
+use tpcc_rows::rows::*;
+use tpcc_rows::text::Text;
+
+impl Tables {
+    /// Makes room for one payment. A refused growth leaves all rows as they were.
+    pub fn reserve_payment(&mut self) -> Result<(), NoMemory>
+        ensures same { self.new.rows ≡ self.old.rows }
+        ensures room { OnOk result (0 < self.new.payment_room) }
+    {
+        if self.histories.reserve(1).is_err() {
+            return Err(NoMemory);
+        }
+        self.payment_room = 1;
+        Ok(())
+    }
+
+    /// Makes room for one order of so many lines. A refused growth leaves all rows as they were.
+    pub fn reserve_order(&mut self, lines: u32) -> Result<(), NoMemory>
+        ensures same { self.new.rows ≡ self.old.rows }
+        ensures room { OnOk result (lines < self.new.order_room) }
+    {
+        let room = u64::from(lines) + 1;
+        if self.orders.reserve(1).is_err()
+            || self.new_orders.reserve(1).is_err()
+            || self.order_lines.reserve(lines as usize).is_err()
+        {
+            return Err(NoMemory);
+        }
+        self.order_room = room;
+        Ok(())
+    }
+
+    /// Pays the amount of a HISTORY row into its warehouse and district (2.5.2.2), takes it from
+    /// the customer's balance and appends the row. C_DATA becomes the information, where there is
+    /// one. Takes no memory.
+    pub fn pay(&mut self, history: HistoryRow, information: Option<Text>)
+        requires room { 0 < self.old.payment_room }
+        requires payment { IsPayment self.old.rows history information }
+        ensures { self.new.rows ≡ with_payment self.old.rows history information }
+    {
+        place::pay_warehouse(&mut self.warehouses, history.warehouse, history.amount);
+        place::pay_district(
+            &mut self.districts,
+            history.warehouse,
+            history.district,
+            history.amount,
+        );
+        place::pay_customer(
+            &mut self.customers,
+            history.customer_warehouse,
+            history.customer_district,
+            history.customer,
+            history.amount,
+            information,
+        );
+        place::append_history(&mut self.histories, history);
+        self.payment_room = 0;
+    }
+
+    /// Enters an order (2.4.2.2): its ORDER, NEW-ORDER and ORDER-LINE rows are put at their
+    /// places, its district's next number rises, and each line is taken from its STOCK row.
+    /// Takes no memory.
+    pub fn append_order(&mut self, order: OrderRow, lines: Vec<OrderLineRow>)
+        requires room { length lines.items < self.old.order_room }
+        requires order { IsOrder self.old.rows order lines.items }
+        ensures { self.new.rows ≡ with_entered_order self.old.rows order lines.items }
+    {
+        place::raise_next_order(&mut self.districts, order.warehouse, order.district);
+        supply::supply(&mut self.stocks, order.warehouse, lines.as_slice());
+        keyed::insert_all(&mut self.order_lines, lines);
+        let waiting = NewOrderRow {
+            order: order.id,
+            district: order.district,
+            warehouse: order.warehouse,
+        };
+        keyed::insert_one(&mut self.new_orders, waiting);
+        keyed::insert_one(&mut self.orders, order);
+        self.order_room = 0;
+    }
+
+    /// Delivers a district's oldest new order (2.7.4.2): its NEW-ORDER row goes, its carrier and
+    /// the moment of delivery of its lines are set, and the sum of its lines is added to its
+    /// customer's balance. Takes no memory.
+    pub fn deliver(
+        &mut self,
+        warehouse: u32,
+        district: u32,
+        order: u32,
+        carrier: u32,
+        moment: Moment,
+    )
+        requires oldest { oldest_new_order self.old.rows warehouse district ≡ Some order }
+        requires carrier { is_carrier carrier ≡ true }
+        requires accepted { district_refusal self.old.rows warehouse district (Some order) ≡ None }
+        ensures { self.new.rows ≡ after_delivery self.old.rows warehouse district order carrier moment }
+    {
+        let _seconds = moment.seconds();
+        let amount = delivery::amount(self.order_lines.as_slice(), warehouse, district, order);
+        let customer = delivery::customer_of(self.orders.as_slice(), warehouse, district, order);
+        delivery::remove_new_order(&mut self.new_orders, warehouse, district, order);
+        delivery::carry(&mut self.orders, warehouse, district, order, carrier);
+        delivery::stamp(&mut self.order_lines, warehouse, district, order, moment);
+        delivery::charge(&mut self.customers, warehouse, district, customer, amount);
+        self.order_room = 0;
+    }
+}
