@@ -17,8 +17,8 @@ pub enum Prepared {
     Ticket(Ticket),
 }
 
+#[tactic(auto, unfolding(tpcc_rows::specs::Turn::refusal))]
 /// Tells the first refusal of the rows, the request and the queue, and makes every growth; changes no row and no ticket.
-#[tactic(auto, unfolding(Rattle::tpcc_rows::specs::Turn::refusal))]
 pub(crate) fn prepare(
     alloc: Global,
     tables: &mut Tables,
@@ -44,6 +44,7 @@ pub(crate) fn prepare(
     }
 }
 
+#[tactic(auto, unfolding(tpcc_rows::specs::Turn::state_after, tpcc_rows::specs::Turn::reply_to))]
 /// Writes what was prepared on the same rows and tickets; the reply comes with its copy. Takes no memory.
 pub(crate) fn finish(tables: &mut Tables, queue: &mut Queue, prepared: Prepared) -> (Reply, Reply)
     requires ready { (request : Request) × IsReady (record { rows = tables.old.rows; queue = queue.old.tickets }) request prepared }
