@@ -2,7 +2,7 @@
 ghost use Rattle.std.specs.Prelude.{◌≡◌, ◌++◌, IfOk, OnOk, take, true, codes, []};
 ghost use Rattle.std.specs.Fmt.{decimal};
 ghost use Rattle.std.specs.List.{list_all};
-ghost use Rattle.tpcc_money.specs.TwoDigits.{cents_text};
+ghost use Rattle.tpcc_money.specs.Texts.{amount_text};
 ghost use Rattle.tpcc_rows.specs.Printable.{is_printable};
 ghost use Rattle.tpcc_rows.specs.Payment.{payment_note, has_bad_credit};
 ghost use Rattle.tpcc_payment.specs.Prepares.{new_information};
@@ -28,7 +28,7 @@ fn add_number(alloc: Global, bytes: &mut Vec<u8>, number: u32) -> Result<(), All
 }
 
 fn add_amount(alloc: Global, bytes: &mut Vec<u8>, amount: Cents) -> Result<(), AllocError>
-    ensures { OnOk result (bytes.new.items ≡ bytes.old.items ++ cents_text amount ++ codes " ") }
+    ensures { OnOk result (bytes.new.items ≡ bytes.old.items ++ amount_text amount ++ codes " ") }
 {
     let text = amount.to_string(alloc)?;
     bytes.extend_from_slice(text.as_bytes())?;
@@ -37,7 +37,7 @@ fn add_amount(alloc: Global, bytes: &mut Vec<u8>, amount: Cents) -> Result<(), A
 
 /// The note of a payment at the left of C_DATA.
 fn note(alloc: Global, payment: &Payment, customer: &CustomerRow) -> Result<Vec<u8>, AllocError>
-    ensures { IfOk result (λ bytes. bytes.items ≡ [] ++ decimal customer.now.id ++ codes " " ++ decimal customer.now.district ++ codes " " ++ decimal customer.now.warehouse ++ codes " " ++ decimal payment.now.district ++ codes " " ++ decimal payment.now.warehouse ++ codes " " ++ cents_text payment.now.amount ++ codes " ") }
+    ensures { IfOk result (λ bytes. bytes.items ≡ [] ++ decimal customer.now.id ++ codes " " ++ decimal customer.now.district ++ codes " " ++ decimal customer.now.warehouse ++ codes " " ++ decimal payment.now.district ++ codes " " ++ decimal payment.now.warehouse ++ codes " " ++ amount_text payment.now.amount ++ codes " ") }
 {
     let mut bytes = Vec::new(alloc);
     add_number(alloc, &mut bytes, customer.id)?;
