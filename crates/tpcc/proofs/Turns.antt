@@ -1,17 +1,16 @@
 -- The screen of a call, by what the engine answered.
-use Rattle.std.proofs.Common.{◌≡◌, ◌∙◌, sym, refl, ap, ℕ, List, Option, Some, None, inl, inr}
-use Rattle.std.specs.Prelude.{◌⊎◌, Result, Ok, Err}
+use Rattle.std.proofs.Common.{◌≡◌, ◌∙◌, sym, refl, ap, ℕ, List, Some, None, inl, inr}
+use Rattle.std.specs.Prelude.{◌⊎◌, Ok, Err}
 use Rattle.tpcc_rows.specs.declared.requests.Request.{Request}
 use Rattle.tpcc_rows.specs.declared.refusals.Refusal.{Refusal}
 use Rattle.tpcc_rows.specs.declared.refusals.Refusal.TheVariants as refused
 use Rattle.tpcc_rows.specs.declared.replies.Reply.{Reply}
 use Rattle.tpcc_rows.specs.Conditions.{first_broken}
 use Rattle.tpcc_rows.specs.Replay.{results_of}
-use Rattle.tpcc_rows.specs.Turn.{refusal, reply_to}
+use Rattle.tpcc_rows.specs.Turn.{refusal}
 use Rattle.tpcc_terminal.specs.Screens.{reply_screen, refused_screen, check_screen, results_screen}
-use Rattle.tpcc.specs.declared.call.Call.{Call}
 use Rattle.tpcc.specs.declared.call.Call.TheVariants.{Ask, Check, Results}
-use Rattle.tpcc.specs.Book.{Book, screen_of, book_after, screen_by, book_by, accepting}
+use Rattle.tpcc.specs.Book.{Book, screen_of, book_after, screen_by, book_by}
 use Rattle.tpcc.specs.Run.{Shows}
 use Rattle.tpcc.specs.Steps.{IsTurn}
 

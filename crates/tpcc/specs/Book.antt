@@ -1,10 +1,7 @@
 -- What a script's calls print, and the book that they leave.
-use Rattle.std.specs.Prelude.{◌≡◌, ℕ, List, [], ◌∷◌, ◌++◌, Option, Some, None, take, length, ◌≤◌, Result, Ok, Err}
-use Rattle.std.specs.Io.KnownBytes.{Appends}
+use Rattle.std.specs.Prelude.{ℕ, List, [], ◌∷◌, ◌++◌, Option, Some, None}
 use Rattle.tpcc_rows.specs.declared.requests.Request.{Request}
 use Rattle.tpcc_rows.specs.declared.refusals.Refusal.{Refusal}
-use Rattle.tpcc_rows.specs.declared.refusals.Refusal.TheVariants.{NoMemory}
-use Rattle.tpcc_rows.specs.declared.replies.Reply.{Reply}
 use Rattle.tpcc_rows.specs.declared.entry.Entry.{Entry}
 use Rattle.tpcc_rows.specs.Conditions.{first_broken}
 use Rattle.tpcc_rows.specs.Tables.{State}
@@ -13,9 +10,6 @@ use Rattle.tpcc_rows.specs.Replay.{count_of, results_of}
 use Rattle.tpcc_terminal.specs.Screens.{reply_screen, refused_screen, check_screen, results_screen}
 use Rattle.tpcc.specs.declared.call.Call.{Call}
 use Rattle.tpcc.specs.declared.call.Call.TheVariants.{Ask, Check, Results}
-use Rattle.tpcc.specs.declared.fault.ScriptFault.{ScriptFault}
-use Rattle.tpcc.specs.declared.fault.ScriptFault.TheVariants as fault
-use Rattle.tpcc.specs.Script.{Script}
 
 -- the state and the journal that led to it
 pub record Book : Type 0 where

@@ -215,9 +215,7 @@ fn call(alloc: Global, words: &[&[u8]]) -> Result<Call, ParseFault>
 pub fn parse_line(alloc: Global, line: &[u8]) -> Result<Option<Call>, NoMemory>
     ensures { IfOk result (λ call. call ≡ call_of line.now) }
 {
-    let Ok(words) = split(alloc, line, b' ') else {
-        return Err(NoMemory);
-    };
+    let words = split(alloc, line, b' ')?;
     match call(alloc, words.as_slice()) {
         Ok(call) => Ok(Some(call)),
         Err(ParseFault::Bad) => Ok(None),

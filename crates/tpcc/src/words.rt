@@ -1,5 +1,5 @@
 //! The words of a line.
-ghost use Rattle.std.specs.Prelude.{◌≡◌, ◌==◌, ◌<◌, map, position, length, IfOk, IfSome, IfNone, List, [], ◌∷◌};
+ghost use Rattle.std.specs.Prelude.{◌≡◌, ◌==◌, ◌<◌, map, position, length, IfOk, IfErr, IfSome, IfNone, List, [], ◌∷◌};
 ghost use Rattle.std.specs.List.{list_all};
 ghost use Rattle.std.specs.Str.{bytes_eq};
 ghost use Rattle.tpcc.specs.Reading.{Gives};
@@ -8,7 +8,7 @@ ghost use Rattle.tpcc.specs.Script.{parts_of, number_of, moment_of, cents_of, cu
 
 use crate::fault::ParseFault;
 use std::alloc::Global;
-use tpcc_money::{Cents, Moment, parse_amount, parse_number};
+use tpcc_money::{Cents, Moment, NoMemory, parse_amount, parse_number};
 use tpcc_rows::{Text, Who};
 
 fn place_of(bytes: &[u8], divider: u8) -> Option<usize>
@@ -32,19 +32,19 @@ fn cut(bytes: &[u8], divider: u8) -> Option<(&[u8], &[u8])>
 }
 
 /// The parts between the bytes that divide them.
-pub fn split(alloc: Global, bytes: &[u8], divider: u8) -> Result<Vec<&[u8]>, ParseFault>
+pub fn split(alloc: Global, bytes: &[u8], divider: u8) -> Result<Vec<&[u8]>, NoMemory>
     ensures { IfOk result (λ v. map (λ part. part.now) v.items ≡ parts_of divider bytes.now) }
 {
     let mut parts = Vec::new(alloc);
     let mut rest = bytes;
     while let Some((part, more)) = cut(rest, divider) {
         if parts.push(part).is_err() {
-            return Err(ParseFault::NoMemory);
+            return Err(NoMemory);
         }
         rest = more;
     }
     if parts.push(rest).is_err() {
-        return Err(ParseFault::NoMemory);
+        return Err(NoMemory);
     }
     Ok(parts)
 }
@@ -56,7 +56,8 @@ pub fn is_word(word: &[u8], name: &[u8]) -> bool
 }
 
 pub fn number(word: &[u8]) -> Result<u32, ParseFault>
-    ensures { Gives (λ n. n) result (number_of word.now) }
+    ensures read { Gives (λ n. n) result (number_of word.now) }
+    ensures why { IfErr result (λ f. f ≡ ParseFault.Bad) }
 {
     match parse_number(word, 4_294_967_295) {
         Some(n) => Ok(n as u32),
@@ -65,7 +66,8 @@ pub fn number(word: &[u8]) -> Result<u32, ParseFault>
 }
 
 pub fn moment(word: &[u8]) -> Result<Moment, ParseFault>
-    ensures { Gives (λ m. m) result (moment_of word.now) }
+    ensures read { Gives (λ m. m) result (moment_of word.now) }
+    ensures why { IfErr result (λ f. f ≡ ParseFault.Bad) }
 {
     match parse_number(word, 4_102_444_799) {
         Some(n) => Ok(Moment::new(n as u32)),
@@ -74,7 +76,8 @@ pub fn moment(word: &[u8]) -> Result<Moment, ParseFault>
 }
 
 pub fn amount(word: &[u8]) -> Result<Cents, ParseFault>
-    ensures { Gives (λ c. c) result (cents_of word.now) }
+    ensures read { Gives (λ c. c) result (cents_of word.now) }
+    ensures why { IfErr result (λ f. f ≡ ParseFault.Bad) }
 {
     match parse_amount(word) {
         Ok(cents) => Ok(cents),

@@ -1,5 +1,5 @@
 -- The lines of districts, one more at the end.
-use Rattle.std.proofs.Common.{◌≡◌, ◌∙◌, sym, refl, ap, ℕ, zero, suc, ◌+◌, ◌<◌, List, [], ◌∷◌, ◌++◌, length, take, slice_index_or, append_assoc, append-nil, arith, Option}
+use Rattle.std.proofs.Common.{◌≡◌, ◌∙◌, sym, refl, ap, ℕ, suc, ◌+◌, ◌<◌, List, [], ◌∷◌, ◌++◌, length, take, slice_index_or, append_assoc, append-nil, arith, Option}
 use Rattle.std.proofs.lemmas.List.{length-take, take_more}
 use Rattle.tpcc_terminal.specs.Adding.{Adds}
 use Rattle.tpcc_terminal.proofs.Chains.{behind}

@@ -1,9 +1,9 @@
 -- The screens of the worked rows, computed.
 use Rattle.std.proofs.Common.{◌≡◌, refl, ℕ, List, [], ◌∷◌, ◌++◌}
-use Rattle.std.specs.Prelude.{pos, Some, None, codes, flat_map, replicate, take, drop}
+use Rattle.std.specs.Prelude.{pos, Some, codes, flat_map, take}
 use Rattle.std.specs.Fmt.{digits}
 use Rattle.tpcc_money.specs.Texts.{year_and_day, month_and_day, moment_text}
-use Rattle.tpcc_rows.specs.declared.requests.Who.TheVariants.{Number, Name}
+use Rattle.tpcc_rows.specs.declared.requests.Who.TheVariants.{Number}
 use Rattle.tpcc_rows.specs.declared.refusals.Refusal.TheVariants as refused
 use Rattle.tpcc_rows.specs.declared.refusals.Field.TheVariants.{StockOrders, StockYtd}
 use Rattle.tpcc_rows.specs.Conditions.{first_broken}

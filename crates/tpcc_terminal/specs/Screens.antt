@@ -1,5 +1,5 @@
 -- The screens: lines ended by a line feed, fields divided by one space, named as in the standard.
-use Rattle.std.specs.Prelude.{ℕ, ◌+◌, List, [], ◌∷◌, ◌++◌, map, flat_map, Option, Some, None, ℤ, codes, decimal, if◌then◌else◌}
+use Rattle.std.specs.Prelude.{ℕ, ◌+◌, List, [], ◌∷◌, ◌++◌, flat_map, Option, Some, None, codes, decimal}
 use Rattle.tpcc_money.specs.Texts.{amount_text, rate_text, moment_text}
 use Rattle.tpcc_rows.specs.declared.rows.Address.{Address}
 use Rattle.tpcc_rows.specs.declared.requests.Ticket.{Ticket}
@@ -19,7 +19,6 @@ use Rattle.tpcc_rows.specs.declared.replies.StatusLine.{StatusLine}
 use Rattle.tpcc_rows.specs.declared.replies.LastOrder.{LastOrder}
 use Rattle.tpcc_rows.specs.declared.replies.Status.{Status}
 use Rattle.tpcc_rows.specs.declared.replies.Level.{Level}
-use Rattle.tpcc_rows.specs.declared.replies.DistrictDelivery.{DistrictDelivery}
 use Rattle.tpcc_rows.specs.declared.replies.Delivery.{Delivery}
 use Rattle.tpcc_rows.specs.declared.replies.Delivery.TheVariants.{District, NoneQueued}
 use Rattle.tpcc_rows.specs.declared.replies.Delivered.{Delivered}

@@ -1,8 +1,8 @@
-use Rattle.std.proofs.Common.{◌≡◌, ◌∙◌, sym, ap, ℕ, ◌≤◌, ◌<◌, length, arith, Some, None}
+use Rattle.std.proofs.Common.{◌≡◌, ◌∙◌, sym, ap, ◌<◌, length, arith}
 use Rattle.std.proofs.lemmas.List.{length-append}
 use Rattle.std.proofs.lemmas.Bool.Decides.{nat_tests}
-use Rattle.std.specs.Prelude.{List, [], ◌∷◌, ◌++◌, if◌then◌else◌, ◌==◌, false}
-use Rattle.tpcc.proofs.Lines.{Reading, reading_begins, reading_goes, line_so, too_many, too_long, ends_there, cut_there}
+use Rattle.std.specs.Prelude.{[], ◌∷◌, ◌++◌, if◌then◌else◌, ◌==◌, false}
+use Rattle.tpcc.proofs.Lines.{reading_goes, line_so, too_many, too_long, ends_there, cut_there}
 use Rattle.tpcc.proofs.reader.read_line.Goals as goal
 
 pub returns-in-Ok-None-clause-read : goal.returns-in-Ok-None-clause-read

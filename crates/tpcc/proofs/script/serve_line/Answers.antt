@@ -1,4 +1,4 @@
-use Rattle.std.proofs.Common.{◌≡◌, ◌∙◌, sym, refl, Some, None}
+use Rattle.std.proofs.Common.{◌∙◌, sym, refl}
 use Rattle.tpcc.proofs.Lines.{read_none, read_some, bad_line, written_line, broken_line}
 use Rattle.tpcc.proofs.script.serve_line.Goals as goal
 
