@@ -35,10 +35,29 @@ fn looks_rows_up(rt: HostRuntime) -> Result<(), Fail> {
     assert!(rt; tables.warehouse(2).is_none());
     assert_eq!(rt; tables.district(1, 1).ok_or("district")?.next_order, 11);
     assert!(rt; tables.district(1, 2).is_none());
-    assert_eq!(rt; tables.customer(1, 1, 10).ok_or("customer")?.credit.bytes(), b"BC".as_slice());
-    assert_eq!(rt; tables.customer_by_name(1, 1, b"BARBARBAR".as_slice()).ok_or("name")?.id, 7);
-    assert_eq!(rt; tables.customer_by_name(1, 1, b"BARBAROUGHT".as_slice()).ok_or("name")?.id, 5);
-    assert!(rt; tables.customer_by_name(1, 1, b"EINGEINGEING".as_slice()).is_none());
+    assert_eq!(rt;
+        tables.customer(1, 1, 10).ok_or("customer")?.credit.bytes(),
+        b"BC".as_slice()
+    );
+    assert_eq!(rt;
+        tables
+            .customer_by_name(1, 1, b"BARBARBAR".as_slice())
+            .ok_or("name")?
+            .id,
+        7
+    );
+    assert_eq!(rt;
+        tables
+            .customer_by_name(1, 1, b"BARBAROUGHT".as_slice())
+            .ok_or("name")?
+            .id,
+        5
+    );
+    assert!(rt;
+        tables
+            .customer_by_name(1, 1, b"EINGEINGEING".as_slice())
+            .is_none()
+    );
     assert_eq!(rt; tables.order(1, 1, 8).ok_or("order")?.carrier, None);
     assert_eq!(rt; tables.order(1, 1, 7).ok_or("order")?.carrier, Some(7));
     let line = tables.line(1, 1, 8, 5).ok_or("line")?;

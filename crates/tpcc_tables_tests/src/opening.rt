@@ -134,7 +134,10 @@ pub fn line(alloc: Global, order: u32, number: u32) -> Result<Row, Fail> {
         district: 1,
         warehouse: 1,
         number,
-        item: order.saturating_sub(1).saturating_mul(5).saturating_add(number),
+        item: order
+            .saturating_sub(1)
+            .saturating_mul(5)
+            .saturating_add(number),
         supply: 1,
         delivered: if waits { None } else { Some(Moment::new(0)) },
         quantity: 5,
