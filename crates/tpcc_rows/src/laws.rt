@@ -16,8 +16,7 @@ ghost use Rattle.tpcc_rows.specs.WellKeyed.{IsWellKeyed};
 pub fn turn_keeps()
     ensures { (s : State) (request : Request) → has_moment_in_range request ≡ true → refusal s request ≡ None
         → IsSoundState s → IsSoundState (state_after s request) }
-{
-}
+{}
 
 /// A request that nothing refuses raises the sum of W_YTD by what it pays, which is 0.00 to 5,000.00.
 pub fn turn_pays()
@@ -25,8 +24,7 @@ pub fn turn_pays()
         → total (λ w. w.ytd) (state_after s request).rows.warehouses ≡ total (λ w. w.ytd) s.rows.warehouses +ℤ paid_by_request request }
     ensures least { (s : State) (request : Request) → refusal s request ≡ None → pos 0 ≤ℤ paid_by_request request }
     ensures most { (s : State) (request : Request) → refusal s request ≡ None → paid_by_request request ≤ℤ pos 500000 }
-{
-}
+{}
 
 /// One more entry is one more transaction, and a journal stays faithful by an entry that is what
 /// its request gives there.
@@ -35,11 +33,9 @@ pub fn journal_grows()
         → replay s (entries ++ entry ∷ []) ≡ state_after (replay s entries) entry.request }
     ensures faithful { (s : State) (entries : List Entry) (entry : Entry) → IsFaithful s entries
         → IsServedAt (replay s entries) entries entry → IsFaithful s (entries ++ entry ∷ []) }
-{
-}
+{}
 
 /// No condition is named as broken exactly where all of them hold.
 pub fn nothing_broken()
     ensures { (rows : Rows) → (first_broken rows ≡ None) ↔ IsConsistent rows }
-{
-}
+{}

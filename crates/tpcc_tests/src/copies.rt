@@ -6,8 +6,8 @@ use crate::rows::{
 use std::test::Fail;
 use tpcc_money::Moment;
 use tpcc_rows::{
-    Delivery, DistrictDelivery, Entered, Entry, Level, Reply, Request, Row, StatusQuery, StockQuery,
-    Ticket, Who,
+    Delivery, DistrictDelivery, Entered, Entry, Level, Reply, Request, Row, StatusQuery,
+    StockQuery, Ticket, Who,
 };
 
 #[test]
