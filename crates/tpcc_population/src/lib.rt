@@ -6,6 +6,7 @@ mod opening;
 mod plain;
 mod plain_tables;
 mod scale;
+mod seeded;
 mod texts;
 
 pub use opening::{Opening, opening_is_sound};
