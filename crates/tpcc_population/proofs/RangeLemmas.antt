@@ -1,8 +1,9 @@
 -- Ranges of numbers and texts.
-use Rattle.std.proofs.Common.{◌≡◌, ℕ, zero, suc, ◌+◌, ◌-◌, ◌/◌, ◌%◌, ◌^◌, ◌<◌, ◌≤◌, Bool, true, List, [], ◌∷◌, ◌++◌, length, refl, length-append, arith}
+use Rattle.std.proofs.Common.{◌≡◌, ℕ, zero, suc, ◌+◌, ◌-◌, ◌*◌, ◌/◌, ◌%◌, ◌^◌, ◌<◌, ◌≤◌, Bool, true, List, [], ◌∷◌, ◌++◌, length, refl, length-append, arith}
 use Rattle.std.specs.Prelude.{pos, decimal, replicate, nat_le, slice_get, unwrap_or, ◌&&◌}
 use Rattle.std.specs.List.{list_all}
 use Rattle.std.proofs.lemmas.Bool.Decides.{nat_tests}
+use Rattle.std.proofs.lemmas.Nat.{mul-le}
 use Rattle.std.proofs.lemmas.Fmt.{decimal_by_steps, length-decimal-le}
 use Rattle.std.proofs.lemmas.List.{length-replicate}
 use Rattle.std.proofs.lemmas.List.Folds.{list_all-append}
@@ -13,6 +14,10 @@ use Rattle.tpcc_rows.specs.Ranges.{is_within, is_amount_within, is_text, is_exac
 
 pub within : (low high n : ℕ) → low ≤ n → n ≤ high → is_within low high n ≡ true
 within low high n a b = grind (arith, nat_tests)
+
+-- the rows before a district
+pub small_product : (a b : ℕ) → a ≤ 1000 → b ≤ 3000 → a * b ≤ 3000000
+small_product a b h k = mul-le a b 1000 3000 h k
 
 pub amount_within : (low high n : ℕ) → low ≤ n → n ≤ high → is_amount_within (pos low) (pos high) (pos n) ≡ true
 amount_within low high n a b = grind (arith, nat_tests)

@@ -6,7 +6,7 @@ use std::alloc::Global;
 use tpcc_money::NoMemory;
 
 /// The rows of a table by their numbers: warehouse, district and the row's own number. A table
-/// that has no use for one of the three is asked with any.
+/// that has no use for one of them is asked with 1.
 pub(crate) trait TableRows {
     type Row: Drop;
 
@@ -22,8 +22,10 @@ pub(crate) trait TableRows {
         district: u32,
         number: u32,
     ) -> Result<(), NoMemory>
-        requires warehouse { warehouse ≤ 100 }
-        requires district { district ≤ 10 }
+        requires warehouse_least { 1 ≤ warehouse }
+        requires warehouse_most { warehouse ≤ 100 }
+        requires district_least { 1 ≤ district }
+        requires district_most { district ≤ 10 }
         requires least { 1 ≤ number }
         requires most { number ≤ most }
         ensures { IfOk result (λ _. rows.new.items ≡ rows.old.items ++ rows_of self.now warehouse district number) };
@@ -49,8 +51,10 @@ fn append_each<T: TableRows>(
     low: u32,
     count: u32,
 ) -> Result<(), NoMemory>
-    requires warehouse { warehouse ≤ 100 }
-    requires district { district ≤ 10 }
+    requires warehouse_least { 1 ≤ warehouse }
+    requires warehouse_most { warehouse ≤ 100 }
+    requires district_least { 1 ≤ district }
+    requires district_most { district ≤ 10 }
     requires least { 1 ≤ low }
     requires small { low + count ≤ 1000000 }
     requires most { low + count ≤ T.most + 1 }
@@ -70,10 +74,10 @@ pub(crate) fn by_number<T: TableRows>(
 ) -> Result<Vec<T::Row>, NoMemory>
     requires small { count ≤ 100000 }
     requires most { count ≤ T.most }
-    ensures { IfOk result (λ v. v.items ≡ each 1 count (T.rows_of table.now 0 0)) }
+    ensures { IfOk result (λ v. v.items ≡ each 1 count (T.rows_of table.now 1 1)) }
 {
     let mut rows = Vec::new(alloc);
-    append_each(alloc, table, &mut rows, 0, 0, 1, count)?;
+    append_each(alloc, table, &mut rows, 1, 1, 1, count)?;
     Ok(rows)
 }
 
@@ -87,11 +91,11 @@ pub(crate) fn by_warehouse<T: TableRows>(
     requires warehouses { warehouses ≤ 100 }
     requires small { count ≤ 100000 }
     requires most { count ≤ T.most }
-    ensures { IfOk result (λ v. v.items ≡ each 1 warehouses (λ w. each 1 count (T.rows_of table.now w 0))) }
+    ensures { IfOk result (λ v. v.items ≡ each 1 warehouses (λ w. each 1 count (T.rows_of table.now w 1))) }
 {
     let mut rows = Vec::new(alloc);
     for warehouse in 1..warehouses + 1 {
-        append_each(alloc, table, &mut rows, warehouse, 0, 1, count)?;
+        append_each(alloc, table, &mut rows, warehouse, 1, 1, count)?;
     }
     Ok(rows)
 }
@@ -105,7 +109,8 @@ fn append_districts<T: TableRows>(
     low: u32,
     count: u32,
 ) -> Result<(), NoMemory>
-    requires warehouse { warehouse ≤ 100 }
+    requires warehouse_least { 1 ≤ warehouse }
+    requires warehouse_most { warehouse ≤ 100 }
     requires least { 1 ≤ low }
     requires small { low + count ≤ 1000000 }
     requires most { low + count ≤ T.most + 1 }

@@ -1,12 +1,12 @@
 //! The plain opening (4.3.3.1): each row by its numbers, with no draw.
-ghost use Rattle.std.specs.Prelude.{◌≡◌, ◌++◌, ◌∷◌, [], ◌≤◌, ℕ, List, IfOk, if◌then◌else◌, ◌%◌, ◌==◌, codes, Some, None, map, pos, ◌*◌};
+ghost use Rattle.std.specs.Prelude.{◌≡◌, ◌++◌, ◌∷◌, [], ◌≤◌, ℕ, List, IfOk, if◌then◌else◌, codes, Some, None, map, pos, ◌*◌};
 ghost use Rattle.std.specs.List.{range_with_len};
 ghost use Rattle.tpcc_rows.specs.Layout.{is_delivered, one_each};
 ghost use Rattle.tpcc_rows.specs.Opening.{plain_address, plain_warehouse, plain_district, plain_customer, plain_history, plain_order, plain_new_order, plain_order_line, plain_item, plain_stock, plain_district_information};
 
 use crate::layout::{TableRows, push};
 use crate::scale::Scale;
-use crate::texts::{numbered, text};
+use crate::texts::{credit, numbered, text};
 use std::alloc::Global;
 use tpcc_draws::last_name;
 use tpcc_money::{Cents, Moment, NoMemory, Rate};
@@ -70,17 +70,6 @@ fn plain_district(
     })
 }
 
-// Bad for each tenth customer, good for the others.
-fn credit(alloc: Global, customer: u32) -> Result<Text, NoMemory>
-    ensures text { IfOk result (λ t. t ≡ (if customer % 10 == 0 then codes "BC" else codes "GC")) }
-{
-    if customer % 10 == 0 {
-        text(alloc, b"BC")
-    } else {
-        text(alloc, b"GC")
-    }
-}
-
 fn plain_customer(
     alloc: Global,
     warehouse: u32,
@@ -96,7 +85,7 @@ fn plain_customer(
     let last = last_name(alloc, (number - 1) % 3)?;
     let address = plain_address(alloc)?;
     let phone = numbered(alloc, "", 16, number)?;
-    let credit = credit(alloc, number)?;
+    let credit = credit(alloc, number % 10 == 0)?;
     let information = text(alloc, &[b'x'; 300])?;
     Ok(CustomerRow {
         id: number,

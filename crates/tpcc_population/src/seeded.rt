@@ -1,15 +1,19 @@
 //! The drawn opening (4.3.3.1): each row from its own stream, its columns drawn in their order.
-ghost use Rattle.std.specs.Prelude.{◌≡◌, ◌++◌, ◌∷◌, [], ◌≤◌, ℕ, List, true, IfOk, codes};
+ghost use Rattle.std.specs.Prelude.{◌≡◌, ◌*◌, ◌++◌, ◌∷◌, [], ◌≤◌, ℕ, List, true, IfOk, codes};
 ghost use Rattle.std.specs.List.{list_all};
 ghost use Rattle.tpcc_rows.specs.Printable.{is_printable};
 ghost use Rattle.tpcc_draws.specs.Draws.{answers, stream_at};
-ghost use Rattle.tpcc_population.specs.Seeded.{Seeding, drawn_zip, drawn_address, district_number, seeded_warehouse, seeded_district};
+ghost use Rattle.tpcc_population.specs.Seeded.{drawn_zip, drawn_address, district_number, number_in_districts, drawn_last, seeded_warehouse, seeded_district, seeded_history};
 
+use crate::layout::{TableRows, push};
 use crate::scale::Scale;
 use std::alloc::{AllocError, Global};
-use tpcc_draws::Stream;
+use std::marker::Model;
+use tpcc_draws::{Stream, last_name};
 use tpcc_money::{Cents, Moment, NoMemory, Rate};
-use tpcc_rows::rows::{Address, DistrictRow, WarehouseRow};
+use tpcc_rows::rows::{
+    Address, DistrictRow, HistoryRow, WarehouseRow,
+};
 use tpcc_rows::text::Text;
 
 /// What the draws start from. `moment` stands in every column of a date.
@@ -18,6 +22,16 @@ pub(crate) struct Seed {
     pub(crate) scale: Scale,
     pub(crate) seed: u64,
     pub(crate) moment: Moment,
+}
+
+impl Model for Seed {
+    ghost use Rattle.tpcc_population.specs.Seeded.{Seeding};
+
+    ghost Value = { Seeding };
+
+    ghost view = { λ s. record { scale = s.scale; seed = s.seed; moment = s.moment } };
+
+    ghost inverse = { λ v. record { scale = v.scale; seed = v.seed; moment = v.moment } };
 }
 
 // Four digits and five ones.
@@ -60,7 +74,7 @@ fn drawn_address(alloc: Global, stream: &mut Stream) -> Result<Address, NoMemory
 }
 
 fn seeded_warehouse(alloc: Global, seed: &Seed, number: u32) -> Result<WarehouseRow, NoMemory>
-    ensures { IfOk result (λ row. row ≡ seeded_warehouse (record { scale = seed.now.scale; seed = seed.now.seed; moment = seed.now.moment }) number) }
+    ensures { IfOk result (λ row. row ≡ seeded_warehouse seed.now number) }
 {
     let mut stream = Stream::of(seed.seed, 1, u64::from(number));
     let name = stream.a_string(alloc, 6, 10)?;
@@ -95,7 +109,7 @@ fn seeded_district(
     requires least { 1 ≤ warehouse }
     requires warehouse { warehouse ≤ 100 }
     requires number { number ≤ 10 }
-    ensures { IfOk result (λ row. row ≡ seeded_district (record { scale = seed.now.scale; seed = seed.now.seed; moment = seed.now.moment }) warehouse number) }
+    ensures { IfOk result (λ row. row ≡ seeded_district seed.now warehouse number) }
 {
     let mut stream = Stream::of(seed.seed, 2, district_number(warehouse, number));
     let name = stream.a_string(alloc, 6, 10)?;
@@ -111,4 +125,148 @@ fn seeded_district(
         ytd: Cents::new(i64::from(customers) * 1000),
         next_order: customers + 1,
     })
+}
+
+// The number of a row of CUSTOMER, HISTORY or ORDER among all of its table, from 1.
+fn number_in_districts(scale: &Scale, warehouse: u32, district: u32, number: u32) -> u64
+    requires warehouse_least { 1 ≤ warehouse }
+    requires warehouse { warehouse ≤ 100 }
+    requires district_least { 1 ≤ district }
+    requires district { district ≤ 10 }
+    requires least { 1 ≤ number }
+    requires most { number ≤ 3000 }
+    ensures number { result ≡ number_in_districts scale.now warehouse district number }
+    ensures least { 1 ≤ result }
+    ensures small { result ≤ 3003000 }
+{
+    let before = district_number(warehouse, district) - 1;
+    rows_before(before, scale.customers()) + u64::from(number)
+}
+
+#[tactic(auto, using(crate::proofs::RangeLemmas::small_product))]
+fn rows_before(districts: u64, customers: u32) -> u64
+    requires districts { districts ≤ 1000 }
+    requires customers { customers ≤ 3000 }
+    ensures product { result ≡ districts * customers }
+    ensures small { result ≤ 3000000 }
+{
+    districts * u64::from(customers)
+}
+
+#[tactic(auto, unfolding(crate::specs::Seeded::drawn_last))]
+fn drawn_last(alloc: Global, stream: &mut Stream, number: u32) -> Result<Text, NoMemory>
+    requires least { 1 ≤ number }
+    requires most { number ≤ 3000 }
+    ensures drawn { IfOk result (λ t. (t, answers stream.new) ≡ drawn_last number (answers stream.old)) }
+{
+    if number <= 1000 {
+        last_name(alloc, number - 1)
+    } else {
+        last_name(alloc, stream.nurand(255, 100, 0, 999))
+    }
+}
+
+fn seeded_history(
+    alloc: Global,
+    seed: &Seed,
+    warehouse: u32,
+    district: u32,
+    customer: u32,
+) -> Result<HistoryRow, NoMemory>
+    requires warehouse_least { 1 ≤ warehouse }
+    requires warehouse { warehouse ≤ 100 }
+    requires district_least { 1 ≤ district }
+    requires district { district ≤ 10 }
+    requires least { 1 ≤ customer }
+    requires most { customer ≤ 3000 }
+    ensures { IfOk result (λ row. row ≡ seeded_history seed.now warehouse district customer) }
+{
+    let row = number_in_districts(&seed.scale, warehouse, district, customer);
+    let mut stream = Stream::of(seed.seed, 4, row);
+    let information = stream.a_string(alloc, 12, 24)?;
+    Ok(HistoryRow {
+        customer,
+        customer_district: district,
+        customer_warehouse: warehouse,
+        district,
+        warehouse,
+        date: seed.moment,
+        amount: Cents::new(1000),
+        information,
+    })
+}
+
+/// WAREHOUSE.
+#[derive(Drop)]
+pub(crate) struct SeededWarehouses {
+    pub(crate) seed: Seed,
+}
+
+impl TableRows for SeededWarehouses {
+    type Row = WarehouseRow;
+
+    ghost rows_of = { λ table warehouse district number. seeded_warehouse table.seed number ∷ [] };
+    ghost most = { 100 };
+
+    fn append(
+        &self,
+        alloc: Global,
+        rows: &mut Vec<WarehouseRow>,
+        _warehouse: u32,
+        _district: u32,
+        number: u32,
+    ) -> Result<(), NoMemory> {
+        let row = seeded_warehouse(alloc, &self.seed, number)?;
+        push(rows, row)
+    }
+}
+
+/// DISTRICT.
+#[derive(Drop)]
+pub(crate) struct SeededDistricts {
+    pub(crate) seed: Seed,
+}
+
+impl TableRows for SeededDistricts {
+    type Row = DistrictRow;
+
+    ghost rows_of = { λ table warehouse district number. seeded_district table.seed warehouse number ∷ [] };
+    ghost most = { 10 };
+
+    fn append(
+        &self,
+        alloc: Global,
+        rows: &mut Vec<DistrictRow>,
+        warehouse: u32,
+        _district: u32,
+        number: u32,
+    ) -> Result<(), NoMemory> {
+        let row = seeded_district(alloc, &self.seed, warehouse, number)?;
+        push(rows, row)
+    }
+}
+
+/// HISTORY.
+#[derive(Drop)]
+pub(crate) struct SeededHistories {
+    pub(crate) seed: Seed,
+}
+
+impl TableRows for SeededHistories {
+    type Row = HistoryRow;
+
+    ghost rows_of = { λ table warehouse district number. seeded_history table.seed warehouse district number ∷ [] };
+    ghost most = { 3000 };
+
+    fn append(
+        &self,
+        alloc: Global,
+        rows: &mut Vec<HistoryRow>,
+        warehouse: u32,
+        district: u32,
+        number: u32,
+    ) -> Result<(), NoMemory> {
+        let row = seeded_history(alloc, &self.seed, warehouse, district, number)?;
+        push(rows, row)
+    }
 }

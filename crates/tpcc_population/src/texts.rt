@@ -1,5 +1,5 @@
 //! Texts of the plain opening.
-ghost use Rattle.std.specs.Prelude.{◌≡◌, ◌++◌, ◌<◌, ◌≤◌, true, IfOk};
+ghost use Rattle.std.specs.Prelude.{◌≡◌, ◌++◌, ◌<◌, ◌≤◌, true, IfOk, if◌then◌else◌, codes};
 ghost use Rattle.std.specs.List.{list_all};
 ghost use Rattle.tpcc_money.specs.Texts.{padded};
 ghost use Rattle.tpcc_rows.specs.Printable.{is_printable};
@@ -34,5 +34,16 @@ pub(crate) fn numbered(
     match format!(in alloc; "{prefix}{number:0places$}") {
         Ok(text) => Ok(Text::of(text.into_bytes())),
         Err(_) => Err(NoMemory),
+    }
+}
+
+/// C_CREDIT: `BC` for bad, `GC` for good.
+pub(crate) fn credit(alloc: Global, is_bad: bool) -> Result<Text, NoMemory>
+    ensures text { IfOk result (λ t. t ≡ (if is_bad then codes "BC" else codes "GC")) }
+{
+    if is_bad {
+        text(alloc, b"BC")
+    } else {
+        text(alloc, b"GC")
     }
 }

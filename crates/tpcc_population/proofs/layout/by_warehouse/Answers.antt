@@ -5,7 +5,7 @@ use Rattle.tpcc_population.proofs.layout.by_warehouse.Goals as goal
 
 pub loop-warehouse-preserved : goal.loop-warehouse-preserved
 loop-warehouse-preserved g c =
-    let rows_in = λ (w : ℕ). each 1 c.args.count (g.T.TableRows.rows_of c.args.table.now w 0) in
+    let rows_in = λ (w : ℕ). each 1 c.args.count (g.T.TableRows.rows_of c.args.table.now w 1) in
     record {
       least = omega arith;
       rows =
