@@ -3,16 +3,17 @@ ghost use Rattle.std.specs.Prelude.{◌≡◌, ◌*◌, ◌++◌, ◌∷◌, [],
 ghost use Rattle.std.specs.List.{list_all};
 ghost use Rattle.tpcc_rows.specs.Printable.{is_printable};
 ghost use Rattle.tpcc_draws.specs.Draws.{answers, stream_at};
-ghost use Rattle.tpcc_population.specs.Seeded.{drawn_zip, drawn_address, district_number, number_in_districts, drawn_last, seeded_warehouse, seeded_district, seeded_history};
+ghost use Rattle.tpcc_population.specs.Seeded.{drawn_zip, drawn_address, district_number, number_in_districts, drawn_last, seeded_warehouse, seeded_district, seeded_customer, seeded_history};
 
 use crate::layout::{TableRows, push};
 use crate::scale::Scale;
+use crate::texts::{credit, text};
 use std::alloc::{AllocError, Global};
 use std::marker::Model;
 use tpcc_draws::{Stream, last_name};
 use tpcc_money::{Cents, Moment, NoMemory, Rate};
 use tpcc_rows::rows::{
-    Address, DistrictRow, HistoryRow, WarehouseRow,
+    Address, CustomerRow, DistrictRow, HistoryRow, WarehouseRow,
 };
 use tpcc_rows::text::Text;
 
@@ -192,6 +193,52 @@ fn seeded_history(
         warehouse,
         date: seed.moment,
         amount: Cents::new(1000),
+        information,
+    })
+}
+
+fn seeded_customer(
+    alloc: Global,
+    seed: &Seed,
+    warehouse: u32,
+    district: u32,
+    number: u32,
+) -> Result<CustomerRow, NoMemory>
+    requires warehouse_least { 1 ≤ warehouse }
+    requires warehouse { warehouse ≤ 100 }
+    requires district_least { 1 ≤ district }
+    requires district { district ≤ 10 }
+    requires least { 1 ≤ number }
+    requires most { number ≤ 3000 }
+    ensures { IfOk result (λ row. row ≡ seeded_customer seed.now warehouse district number) }
+{
+    let row = number_in_districts(&seed.scale, warehouse, district, number);
+    let mut stream = Stream::of(seed.seed, 3, row);
+    let first = stream.a_string(alloc, 8, 16)?;
+    let middle = text(alloc, b"OE")?;
+    let last = drawn_last(alloc, &mut stream, number)?;
+    let address = drawn_address(alloc, &mut stream)?;
+    let phone = stream.n_string(alloc, 16, 16)?;
+    let credit = credit(alloc, stream.between(1, 10) == 1)?;
+    let discount = Rate::new(stream.between(0, 5000) as u16);
+    let information = stream.a_string(alloc, 300, 500)?;
+    Ok(CustomerRow {
+        id: number,
+        district,
+        warehouse,
+        first,
+        middle,
+        last,
+        address,
+        phone,
+        since: seed.moment,
+        credit,
+        credit_limit: Cents::new(5_000_000),
+        discount,
+        balance: Cents::new(-1000),
+        ytd_payment: Cents::new(1000),
+        payment_count: 1,
+        delivery_count: 0,
         information,
     })
 }
