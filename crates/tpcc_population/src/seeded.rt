@@ -1,9 +1,9 @@
 //! The drawn opening (4.3.3.1): each row from its own stream, its columns drawn in their order.
-ghost use Rattle.std.specs.Prelude.{◌≡◌, ◌*◌, ◌++◌, ◌∷◌, [], ◌≤◌, ℕ, List, true, IfOk, codes};
+ghost use Rattle.std.specs.Prelude.{◌≡◌, ◌*◌, if◌then◌else◌, Some, None, pos, ◌++◌, ◌∷◌, [], ◌≤◌, ℕ, List, true, IfOk, codes};
 ghost use Rattle.std.specs.List.{list_all};
 ghost use Rattle.tpcc_rows.specs.Printable.{is_printable};
 ghost use Rattle.tpcc_draws.specs.Draws.{answers, stream_at};
-ghost use Rattle.tpcc_population.specs.Seeded.{drawn_zip, drawn_address, district_number, number_in_districts, drawn_last, seeded_warehouse, seeded_district, seeded_customer, seeded_history};
+ghost use Rattle.tpcc_population.specs.Seeded.{drawn_zip, drawn_address, drawn_carrier, drawn_amount, district_number, number_in_districts, drawn_last, seeded_warehouse, seeded_district, seeded_customer, seeded_history, seeded_order_line};
 
 use crate::layout::{TableRows, push};
 use crate::scale::Scale;
@@ -13,7 +13,7 @@ use std::marker::Model;
 use tpcc_draws::{Stream, last_name};
 use tpcc_money::{Cents, Moment, NoMemory, Rate};
 use tpcc_rows::rows::{
-    Address, CustomerRow, DistrictRow, HistoryRow, WarehouseRow,
+    Address, CustomerRow, DistrictRow, HistoryRow, OrderLineRow, WarehouseRow,
 };
 use tpcc_rows::text::Text;
 
@@ -243,6 +243,71 @@ fn seeded_customer(
     })
 }
 
+// A carrier where the order is delivered; else null, and nothing is drawn.
+#[tactic(auto, unfolding(crate::specs::Seeded::drawn_carrier))]
+fn drawn_carrier(stream: &mut Stream, is_delivered: bool) -> Option<u32>
+    ensures drawn { (result, answers stream.new) ≡ drawn_carrier is_delivered (answers stream.old) }
+{
+    if is_delivered {
+        Some(stream.between(1, 10))
+    } else {
+        None
+    }
+}
+
+// A delivered line costs nothing, and nothing is drawn for it.
+#[tactic(auto, unfolding(crate::specs::Seeded::drawn_amount))]
+fn drawn_amount(stream: &mut Stream, is_delivered: bool) -> Cents
+    ensures drawn { (result, answers stream.new) ≡ drawn_amount is_delivered (answers stream.old) }
+{
+    if is_delivered {
+        Cents::new(0)
+    } else {
+        Cents::new(i64::from(stream.between(1, 999_999)))
+    }
+}
+
+fn seeded_order_line(
+    alloc: Global,
+    seed: &Seed,
+    warehouse: u32,
+    district: u32,
+    order: u32,
+    number: u32,
+) -> Result<OrderLineRow, NoMemory>
+    requires warehouse_least { 1 ≤ warehouse }
+    requires warehouse { warehouse ≤ 100 }
+    requires district_least { 1 ≤ district }
+    requires district { district ≤ 10 }
+    requires order { 1 ≤ order }
+    requires orders { order ≤ 3000 }
+    requires most { number ≤ 15 }
+    ensures { IfOk result (λ row. row ≡ seeded_order_line seed.now warehouse district order number) }
+{
+    let row = number_in_districts(&seed.scale, warehouse, district, order);
+    let is_delivered = seed.scale.is_delivered(order);
+    let mut stream = Stream::of(seed.seed, 6, 15 * (row - 1) + u64::from(number));
+    let item = stream.between(1, seed.scale.items());
+    let amount = drawn_amount(&mut stream, is_delivered);
+    let district_information = stream.a_string(alloc, 24, 24)?;
+    Ok(OrderLineRow {
+        order,
+        district,
+        warehouse,
+        number,
+        item,
+        supply: warehouse,
+        delivered: if is_delivered {
+            Some(seed.moment)
+        } else {
+            None
+        },
+        quantity: 5,
+        amount,
+        district_information,
+    })
+}
+
 /// WAREHOUSE.
 #[derive(Drop)]
 pub(crate) struct SeededWarehouses {
@@ -289,6 +354,31 @@ impl TableRows for SeededDistricts {
         number: u32,
     ) -> Result<(), NoMemory> {
         let row = seeded_district(alloc, &self.seed, warehouse, number)?;
+        push(rows, row)
+    }
+}
+
+/// CUSTOMER.
+#[derive(Drop)]
+pub(crate) struct SeededCustomers {
+    pub(crate) seed: Seed,
+}
+
+impl TableRows for SeededCustomers {
+    type Row = CustomerRow;
+
+    ghost rows_of = { λ table warehouse district number. seeded_customer table.seed warehouse district number ∷ [] };
+    ghost most = { 3000 };
+
+    fn append(
+        &self,
+        alloc: Global,
+        rows: &mut Vec<CustomerRow>,
+        warehouse: u32,
+        district: u32,
+        number: u32,
+    ) -> Result<(), NoMemory> {
+        let row = seeded_customer(alloc, &self.seed, warehouse, district, number)?;
         push(rows, row)
     }
 }
