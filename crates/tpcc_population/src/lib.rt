@@ -7,6 +7,7 @@ mod plain;
 mod plain_tables;
 mod scale;
 mod seeded;
+mod seeded_tables;
 mod texts;
 
 pub use opening::{Opening, opening_is_sound};
