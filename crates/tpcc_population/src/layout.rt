@@ -11,6 +11,7 @@ pub(crate) trait TableRows {
     type Row: Drop;
 
     ghost rows_of: { Self → ℕ → ℕ → ℕ → List Self.Row };
+
     ghost most: { ℕ };
 
     /// Appends the rows of these numbers.

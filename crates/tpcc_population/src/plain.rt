@@ -285,6 +285,7 @@ impl TableRows for PlainWarehouses {
     type Row = WarehouseRow;
 
     ghost rows_of = { λ table warehouse district number. plain_warehouse table.scale number ∷ [] };
+
     ghost most = { 100 };
 
     fn append(
@@ -309,6 +310,7 @@ impl TableRows for PlainDistricts {
     type Row = DistrictRow;
 
     ghost rows_of = { λ table warehouse district number. plain_district table.scale warehouse number ∷ [] };
+
     ghost most = { 10 };
 
     fn append(
@@ -331,6 +333,7 @@ impl TableRows for NewOrders {
     type Row = NewOrderRow;
 
     ghost rows_of = { λ table warehouse district number. plain_new_order warehouse district number ∷ [] };
+
     ghost most = { 3000 };
 
     fn append(
@@ -358,6 +361,7 @@ impl TableRows for PlainItems {
     type Row = ItemRow;
 
     ghost rows_of = { λ table warehouse district number. plain_item number ∷ [] };
+
     ghost most = { 100000 };
 
     fn append(
@@ -380,6 +384,7 @@ impl TableRows for PlainCustomers {
     type Row = CustomerRow;
 
     ghost rows_of = { λ table warehouse district number. plain_customer warehouse district number ∷ [] };
+
     ghost most = { 3000 };
 
     fn append(
@@ -390,10 +395,7 @@ impl TableRows for PlainCustomers {
         district: u32,
         number: u32,
     ) -> Result<(), NoMemory> {
-        push(
-            rows,
-            plain_customer(alloc, warehouse, district, number)?,
-        )
+        push(rows, plain_customer(alloc, warehouse, district, number)?)
     }
 }
 
@@ -405,6 +407,7 @@ impl TableRows for PlainHistories {
     type Row = HistoryRow;
 
     ghost rows_of = { λ table warehouse district number. plain_history warehouse district number ∷ [] };
+
     ghost most = { 3000 };
 
     fn append(
@@ -429,6 +432,7 @@ impl TableRows for PlainOrders {
     type Row = OrderRow;
 
     ghost rows_of = { λ table warehouse district number. plain_order table.scale warehouse district number ∷ [] };
+
     ghost most = { 3000 };
 
     fn append(
@@ -439,10 +443,7 @@ impl TableRows for PlainOrders {
         district: u32,
         number: u32,
     ) -> Result<(), NoMemory> {
-        push(
-            rows,
-            plain_order(&self.scale, warehouse, district, number),
-        )
+        push(rows, plain_order(&self.scale, warehouse, district, number))
     }
 }
 
@@ -456,6 +457,7 @@ impl TableRows for PlainOrderLines {
     type Row = OrderLineRow;
 
     ghost rows_of = { λ table warehouse district number. one_each 1 5 (plain_order_line table.scale warehouse district number) };
+
     ghost most = { 3000 };
 
     fn append(
@@ -478,6 +480,7 @@ impl TableRows for PlainStocks {
     type Row = StockRow;
 
     ghost rows_of = { λ table warehouse district number. plain_stock warehouse number ∷ [] };
+
     ghost most = { 100000 };
 
     fn append(

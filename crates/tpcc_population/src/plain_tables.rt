@@ -34,35 +34,65 @@ pub(crate) fn plain_districts(alloc: Global, scale: Scale) -> Result<Vec<Distric
 pub(crate) fn plain_customers(alloc: Global, scale: Scale) -> Result<Vec<CustomerRow>, NoMemory>
     ensures rows { IfOk result (λ v. v.items ≡ (laid_out scale (plain_rules scale)).customers) }
 {
-    by_district(alloc, &PlainCustomers, scale.warehouses(), 1, scale.customers())
+    by_district(
+        alloc,
+        &PlainCustomers,
+        scale.warehouses(),
+        1,
+        scale.customers(),
+    )
 }
 
 /// HISTORY.
 pub(crate) fn plain_histories(alloc: Global, scale: Scale) -> Result<Vec<HistoryRow>, NoMemory>
     ensures rows { IfOk result (λ v. v.items ≡ (laid_out scale (plain_rules scale)).histories) }
 {
-    by_district(alloc, &PlainHistories, scale.warehouses(), 1, scale.customers())
+    by_district(
+        alloc,
+        &PlainHistories,
+        scale.warehouses(),
+        1,
+        scale.customers(),
+    )
 }
 
 /// ORDER.
 pub(crate) fn plain_orders(alloc: Global, scale: Scale) -> Result<Vec<OrderRow>, NoMemory>
     ensures rows { IfOk result (λ v. v.items ≡ (laid_out scale (plain_rules scale)).orders) }
 {
-    by_district(alloc, &PlainOrders { scale }, scale.warehouses(), 1, scale.customers())
+    by_district(
+        alloc,
+        &PlainOrders { scale },
+        scale.warehouses(),
+        1,
+        scale.customers(),
+    )
 }
 
 /// ORDER-LINE.
 pub(crate) fn plain_order_lines(alloc: Global, scale: Scale) -> Result<Vec<OrderLineRow>, NoMemory>
     ensures rows { IfOk result (λ v. v.items ≡ (laid_out scale (plain_rules scale)).order_lines) }
 {
-    by_district(alloc, &PlainOrderLines { scale }, scale.warehouses(), 1, scale.customers())
+    by_district(
+        alloc,
+        &PlainOrderLines { scale },
+        scale.warehouses(),
+        1,
+        scale.customers(),
+    )
 }
 
 /// NEW-ORDER.
 pub(crate) fn plain_new_orders(alloc: Global, scale: Scale) -> Result<Vec<NewOrderRow>, NoMemory>
     ensures rows { IfOk result (λ v. v.items ≡ (laid_out scale (plain_rules scale)).new_orders) }
 {
-    by_district(alloc, &NewOrders, scale.warehouses(), scale.delivered_orders() + 1, scale.customers() - scale.delivered_orders())
+    by_district(
+        alloc,
+        &NewOrders,
+        scale.warehouses(),
+        scale.delivered_orders() + 1,
+        scale.customers() - scale.delivered_orders(),
+    )
 }
 
 /// ITEM.

@@ -12,9 +12,7 @@ use std::alloc::{AllocError, Global};
 use std::marker::Model;
 use tpcc_draws::{Stream, last_name};
 use tpcc_money::{Cents, Moment, NoMemory, Rate};
-use tpcc_rows::rows::{
-    Address, CustomerRow, DistrictRow, HistoryRow, OrderLineRow, WarehouseRow,
-};
+use tpcc_rows::rows::{Address, CustomerRow, DistrictRow, HistoryRow, OrderLineRow, WarehouseRow};
 use tpcc_rows::text::Text;
 
 /// What the draws start from. `moment` stands in every column of a date.
@@ -318,6 +316,7 @@ impl TableRows for SeededWarehouses {
     type Row = WarehouseRow;
 
     ghost rows_of = { λ table warehouse district number. seeded_warehouse table.seed number ∷ [] };
+
     ghost most = { 100 };
 
     fn append(
@@ -343,6 +342,7 @@ impl TableRows for SeededDistricts {
     type Row = DistrictRow;
 
     ghost rows_of = { λ table warehouse district number. seeded_district table.seed warehouse number ∷ [] };
+
     ghost most = { 10 };
 
     fn append(
@@ -368,6 +368,7 @@ impl TableRows for SeededCustomers {
     type Row = CustomerRow;
 
     ghost rows_of = { λ table warehouse district number. seeded_customer table.seed warehouse district number ∷ [] };
+
     ghost most = { 3000 };
 
     fn append(
@@ -393,6 +394,7 @@ impl TableRows for SeededHistories {
     type Row = HistoryRow;
 
     ghost rows_of = { λ table warehouse district number. seeded_history table.seed warehouse district number ∷ [] };
+
     ghost most = { 3000 };
 
     fn append(

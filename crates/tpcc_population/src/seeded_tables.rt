@@ -20,19 +20,36 @@ pub(crate) fn seeded_warehouses(alloc: Global, seed: Seed) -> Result<Vec<Warehou
 pub(crate) fn seeded_districts(alloc: Global, seed: Seed) -> Result<Vec<DistrictRow>, NoMemory>
     ensures rows { IfOk result (λ v. v.items ≡ (laid_out seed.scale (seeded_rules seed)).districts) }
 {
-    by_warehouse(alloc, &SeededDistricts { seed }, seed.scale.warehouses(), 10)
+    by_warehouse(
+        alloc,
+        &SeededDistricts { seed },
+        seed.scale.warehouses(),
+        10,
+    )
 }
 
 /// CUSTOMER.
 pub(crate) fn seeded_customers(alloc: Global, seed: Seed) -> Result<Vec<CustomerRow>, NoMemory>
     ensures rows { IfOk result (λ v. v.items ≡ (laid_out seed.scale (seeded_rules seed)).customers) }
 {
-    by_district(alloc, &SeededCustomers { seed }, seed.scale.warehouses(), 1, seed.scale.customers())
+    by_district(
+        alloc,
+        &SeededCustomers { seed },
+        seed.scale.warehouses(),
+        1,
+        seed.scale.customers(),
+    )
 }
 
 /// HISTORY.
 pub(crate) fn seeded_histories(alloc: Global, seed: Seed) -> Result<Vec<HistoryRow>, NoMemory>
     ensures rows { IfOk result (λ v. v.items ≡ (laid_out seed.scale (seeded_rules seed)).histories) }
 {
-    by_district(alloc, &SeededHistories { seed }, seed.scale.warehouses(), 1, seed.scale.customers())
+    by_district(
+        alloc,
+        &SeededHistories { seed },
+        seed.scale.warehouses(),
+        1,
+        seed.scale.customers(),
+    )
 }
