@@ -3,7 +3,7 @@ ghost use Rattle.std.specs.Prelude.{◌≡◌, ◌*◌, if◌then◌else◌, Som
 ghost use Rattle.std.specs.List.{list_all};
 ghost use Rattle.tpcc_rows.specs.Printable.{is_printable};
 ghost use Rattle.tpcc_draws.specs.Draws.{answers, stream_at};
-ghost use Rattle.tpcc_population.specs.Seeded.{drawn_zip, drawn_address, drawn_carrier, drawn_amount, district_number, number_in_districts, drawn_last, seeded_warehouse, seeded_district, seeded_customer, seeded_history, seeded_order_line};
+ghost use Rattle.tpcc_population.specs.Seeded.{drawn_zip, drawn_address, drawn_carrier, drawn_amount, district_number, number_in_districts, drawn_last, seeded_warehouse, seeded_district, seeded_customer, seeded_history, seeded_order, seeded_order_line};
 
 use crate::layout::{TableRows, push};
 use crate::scale::Scale;
@@ -263,6 +263,30 @@ fn drawn_amount(stream: &mut Stream, is_delivered: bool) -> Cents
     } else {
         Cents::new(i64::from(stream.between(1, 999_999)))
     }
+}
+
+// O_CARRIER_ID and O_OL_CNT of an order, the two columns that its own stream gives.
+fn carrier_and_lines(
+    seed: &Seed,
+    warehouse: u32,
+    district: u32,
+    order: u32,
+) -> (Option<u32>, u32)
+    requires warehouse_least { 1 ≤ warehouse }
+    requires warehouse { warehouse ≤ 100 }
+    requires district_least { 1 ≤ district }
+    requires district { district ≤ 10 }
+    requires least { 1 ≤ order }
+    requires most { order ≤ 3000 }
+    ensures carrier { result.0 ≡ (seeded_order seed.now warehouse district order).carrier }
+    ensures lines { result.1 ≡ (seeded_order seed.now warehouse district order).line_count }
+    ensures few { result.1 ≤ 15 }
+{
+    let row = number_in_districts(&seed.scale, warehouse, district, order);
+    let mut stream = Stream::of(seed.seed, 5, row);
+    let carrier = drawn_carrier(&mut stream, seed.scale.is_delivered(order));
+    let line_count = stream.between(5, 15);
+    (carrier, line_count)
 }
 
 fn seeded_order_line(
