@@ -1,8 +1,9 @@
 -- Ranges of numbers and texts.
-use Rattle.std.proofs.Common.{◌≡◌, ℕ, zero, suc, ◌+◌, ◌-◌, ◌/◌, ◌%◌, ◌^◌, ◌<◌, ◌≤◌, Bool, true, List, [], ◌∷◌, ◌++◌, length, refl, length-append, arith}
+use Rattle.std.proofs.Common.{◌≡◌, ℕ, zero, suc, ◌+◌, ◌-◌, ◌*◌, ◌/◌, ◌%◌, ◌^◌, ◌<◌, ◌≤◌, Bool, true, List, [], ◌∷◌, ◌++◌, length, refl, length-append, arith}
 use Rattle.std.specs.Prelude.{pos, decimal, replicate, nat_le, slice_get, unwrap_or, ◌&&◌}
 use Rattle.std.specs.List.{list_all}
 use Rattle.std.proofs.lemmas.Bool.Decides.{nat_tests}
+use Rattle.std.proofs.lemmas.Nat.{mul-le}
 use Rattle.std.proofs.lemmas.Fmt.{decimal_by_steps, length-decimal-le}
 use Rattle.std.proofs.lemmas.List.{length-replicate}
 use Rattle.std.proofs.lemmas.List.Folds.{list_all-append}
@@ -13,6 +14,10 @@ use Rattle.tpcc_rows.specs.Ranges.{is_within, is_amount_within, is_text, is_exac
 
 pub within : (low high n : ℕ) → low ≤ n → n ≤ high → is_within low high n ≡ true
 within low high n a b = grind (arith, nat_tests)
+
+-- the rows before a district
+pub small_product : (a b : ℕ) → a ≤ 1000 → b ≤ 3000 → a * b ≤ 3000000
+small_product a b h k = mul-le a b 1000 3000 h k
 
 pub amount_within : (low high n : ℕ) → low ≤ n → n ≤ high → is_amount_within (pos low) (pos high) (pos n) ≡ true
 amount_within low high n a b = grind (arith, nat_tests)
@@ -41,6 +46,9 @@ decimal_is_printable n h = decimal_by_steps (λ n ds. list_all is_printable ds �
 pub padded_is_printable : (places v : ℕ) → v < 2 ^ 64 → list_all is_printable (padded places v) ≡ true
 padded_is_printable places v h =
     grind (arith, all-replicate is_printable (places - length (decimal v)) 48 refl, decimal_is_printable v h, list_all-append is_printable (replicate (places - length (decimal v)) 48) (decimal v))
+
+pub numbered_is_printable : (prefix : List ℕ) (places v : ℕ) → list_all is_printable prefix ≡ true → v < 2 ^ 64 → list_all is_printable (prefix ++ padded places v) ≡ true
+numbered_is_printable prefix places v all small = grind (arith, all, padded_is_printable places v small, list_all-append is_printable prefix (padded places v))
 
 pub length-padded : (places v : ℕ) → 0 < places → v < 10 ^ places → v < 2 ^ 64 → length (padded places v) ≡ places
 length-padded places v some fits small =

@@ -4,12 +4,12 @@ use Rattle.std.specs.Prelude.{ℤ, pos, IsTrue, ◌==◌, ◌&&◌, if◌then◌
 use Rattle.std.specs.List.{list_all}
 use Rattle.std.proofs.lemmas.List.Folds.{list_all-append}
 use Rattle.rand_core.specs.Stream.{Stream}
-use Rattle.rand_pcg.specs.Lcg.{Lcg}
-use Rattle.tpcc_draws.specs.Draws.{answers, stream_at, generator_of, between, nurand, a_string, n_string, letters, digits, permutation}
+use Rattle.tpcc_draws.specs.Draws.{stream_at, generator_of, between, nurand, a_string, n_string, permutation}
 use Rattle.tpcc_rows.specs.LastName.{last_name}
-use Rattle.tpcc_draws.specs.Within.{HasWords, IsTextBetween}
-use Rattle.tpcc_draws.proofs.DrawLemmas.{answers_are_words, between_is_between, text_is_drawn}
+use Rattle.tpcc_draws.specs.Within.{HasWords}
+use Rattle.tpcc_draws.proofs.DrawLemmas.{answers_are_words, between_is_between}
 use Rattle.tpcc_draws.proofs.OrderLemmas.{permutation_is_within}
+use Rattle.tpcc_draws.proofs.PrintableDraws.{a_text, n_text}
 use Rattle.tpcc_rows.specs.declared.rows.Address.{Address}
 use Rattle.tpcc_rows.specs.Printable.{is_printable}
 use Rattle.tpcc_rows.specs.Ranges.{is_amount_within, is_text, is_exact_text, is_null_or, is_carrier, is_address, greatest_moment, is_warehouse_row, is_district_row, is_customer_row, is_history_row, is_order_row, is_order_line_row, is_item_row, is_stock_row}
@@ -21,21 +21,6 @@ use Rattle.tpcc_population.proofs.PlainRanges.{text_where, moment_where, new_ord
 
 words_at : (seed table row : ℕ) → HasWords (stream_at seed table row)
 words_at seed table row = answers_are_words (generator_of seed table row)
-
-pub a_text : (least most : ℕ) (s : Stream) → least ≤ most → most ≤ 1000 → HasWords s → IsTextBetween is_printable least most (a_string least most s)
-a_text least most s order small words = text_is_drawn is_printable letters least most s refl (omega arith) (omega arith) order small words
-
-pub n_text : (least most : ℕ) (s : Stream) → least ≤ most → most ≤ 1000 → HasWords s → IsTextBetween is_printable least most (n_string least most s)
-n_text least most s order small words = text_is_drawn is_printable digits least most s refl (omega arith) (omega arith) order small words
-
--- the bytes that a generator's draws give are printable
-pub letters_are_printable : (g : Lcg) (t : Stream) (least most : ℕ) (bytes : List ℕ) → least ≤ most → most ≤ 1000 → (bytes, t) ≡ a_string least most (answers g) → list_all is_printable bytes ≡ true
-letters_are_printable g t least most bytes order small drawn =
-    (λ i. list_all is_printable (drawn i).0) ∙ (a_text least most (answers g) order small (answers_are_words g)).all
-
-pub digits_are_printable : (g : Lcg) (t : Stream) (least most : ℕ) (bytes : List ℕ) → least ≤ most → most ≤ 1000 → (bytes, t) ≡ n_string least most (answers g) → list_all is_printable bytes ≡ true
-digits_are_printable g t least most bytes order small drawn =
-    (λ i. list_all is_printable (drawn i).0) ∙ (n_text least most (answers g) order small (answers_are_words g)).all
 
 -- a text in its range, and a stream of words
 record IsTextOf (longest : ℕ) (drawn : List ℕ × Stream) : Type 0 where

@@ -1,9 +1,14 @@
 //! The initial population of the tables (4.3.3): its scale, both openings and their rows.
 #![tactic(auto)]
 
-mod fill;
+mod layout;
 mod opening;
+mod plain;
+mod plain_tables;
 mod scale;
+mod seeded;
+mod seeded_tables;
+mod texts;
 
 pub use opening::{Opening, opening_is_sound};
 pub use scale::{Scale, ScaleFault};

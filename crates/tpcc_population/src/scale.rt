@@ -1,6 +1,7 @@
 //! How large the tables start.
-ghost use Rattle.std.specs.Prelude.{◌≡◌, ◌↔◌, IfOk, IsErrOf, true, false};
+ghost use Rattle.std.specs.Prelude.{◌≡◌, ◌≤◌, ◌↔◌, IfOk, IsErrOf, true, false};
 ghost use Rattle.tpcc_population.specs.Regular.{IsScale, are_customers};
+ghost use Rattle.tpcc_rows.specs.Layout.{delivered_orders, is_delivered};
 ghost use Rattle.tpcc_rows.specs.Ranges.{is_within};
 
 use std::marker::Model;
@@ -58,11 +59,42 @@ impl Scale {
         })
     }
 
-    /// The customers of each district.
+    /// W: the warehouses, each of ten districts.
+    pub fn warehouses(&self) -> u32
+        ensures value { result ≡ self.now.warehouses }
+        ensures scale { IsScale self.now }
+    {
+        self.warehouses
+    }
+
+    /// The customers of each district, and its orders.
     pub fn customers(&self) -> u32
         ensures value { result ≡ self.now.customers }
         ensures scale { IsScale self.now }
     {
         self.customers
+    }
+
+    /// The items, each with a stock row in every warehouse.
+    pub fn items(&self) -> u32
+        ensures value { result ≡ self.now.items }
+        ensures scale { IsScale self.now }
+    {
+        self.items
+    }
+
+    /// How many orders of a district are delivered: the first seven of each ten.
+    pub fn delivered_orders(&self) -> u32
+        ensures value { result ≡ delivered_orders self.now }
+        ensures within { result ≤ self.now.customers }
+    {
+        7 * self.customers() / 10
+    }
+
+    /// Whether the order of this number is delivered.
+    pub fn is_delivered(&self, order: u32) -> bool
+        ensures delivered { result ≡ is_delivered self.now order }
+    {
+        order <= self.delivered_orders()
     }
 }

@@ -1,0 +1,181 @@
+//! The stream of draws that belongs to one row of one table.
+ghost use Rattle.std.specs.Prelude.{◌≡◌, ◌+◌, ◌-◌, ◌<◌, ◌≤◌, ◌*◌, ◌%◌, ◌^◌, IsPermutation, length, IfOk, OnErr, bit_or};
+ghost use Rattle.std.specs.List.{range_with_len};
+ghost use Rattle.tpcc_draws.specs.Draws.{answers, generator_of, between, permutation, nurand, a_string, n_string, drawn_text};
+ghost use Rattle.tpcc_draws.specs.Cards.{cards, deck};
+
+use crate::cards::{Card, all_cards};
+use rand::RngExt;
+use rand::seq::SliceRandom;
+use rand_pcg::Lcg128Xsl64;
+use std::alloc::{AllocError, Allocator};
+use std::marker::Model;
+use tpcc_money::NoMemory;
+use tpcc_rows::text::Text;
+
+/// The draws of one row, in the order of its columns. A call that is refused memory has drawn
+/// nothing.
+#[derive(Drop)]
+pub struct Stream {
+    generator: Lcg128Xsl64,
+}
+
+impl Model for Stream {
+    ghost use Rattle.rand_pcg.specs.Lcg.{Lcg};
+
+    ghost Value = { Lcg };
+
+    ghost view = { λ s. s.generator };
+}
+
+impl Stream {
+    /// The stream of a row of a table: the same for the same three numbers, and another for any
+    /// other table or row.
+    pub fn of(seed: u64, table: u32, row: u64) -> Stream
+        ensures stream { result ≡ generator_of seed table row }
+    {
+        let stream = u128::from(table) * (1u128 << 64) + u128::from(row);
+        Stream {
+            generator: Lcg128Xsl64::new(u128::from(seed), stream),
+        }
+    }
+
+    /// A number from `low` to `high`, both included, each as likely as the other.
+    #[tactic(auto, unfolding(crate::specs::Draws::between))]
+    pub fn between(&mut self, low: u32, high: u32) -> u32
+        requires order { low ≤ high }
+        requires small { high ≤ 1000000 }
+        ensures least { low ≤ result }
+        ensures most { result ≤ high }
+        ensures drawn { (result, answers self.new) ≡ between low high (answers self.old) }
+    {
+        self.generator.random_range(low..=high)
+    }
+
+    /// A number from `low` to `high` that some values are drawn for more often than others
+    /// (2.1.6): `reach` is the standard's A, `constant` its C.
+    pub fn nurand(&mut self, reach: u32, constant: u32, low: u32, high: u32) -> u32
+        requires order { low ≤ high }
+        requires small { high ≤ 1000000 }
+        requires reach { reach ≤ 1000000 }
+        requires constant { constant ≤ 1000000 }
+        ensures least { low ≤ result }
+        ensures most { result ≤ high }
+        ensures drawn { (result, answers self.new) ≡ nurand reach constant low high (answers self.old) }
+    {
+        let a = self.between(0, reach);
+        let b = self.between(low, high);
+        let mixed = u64::from(a | b) + u64::from(constant);
+        let width = u64::from(high - low + 1);
+        (mixed % width) as u32 + low
+    }
+
+    /// A string of letters and digits, `least` to `most` bytes long (4.3.2.2). Refused only for
+    /// want of memory.
+    pub fn a_string<A: Allocator>(
+        &mut self,
+        alloc: A,
+        least: u32,
+        most: u32,
+    ) -> Result<Text<A>, NoMemory>
+        requires order { least ≤ most }
+        requires small { most ≤ 1000 }
+        ensures drawn { IfOk result (λ t. (t, answers self.new) ≡ a_string least most (answers self.old)) }
+        ensures err { OnErr result (self.new ≡ self.old) }
+    {
+        match self.bytes(
+            alloc,
+            b"0123456789ABCDEFGHIJKLMNOPQRSTUVWXYZabcdefghijklmnopqrstuvwxyz",
+            least,
+            most,
+        ) {
+            Ok(bytes) => Ok(Text::of(bytes)),
+            Err(_) => Err(NoMemory),
+        }
+    }
+
+    /// A string of digits, `least` to `most` bytes long (4.3.2.2). Refused only for want of
+    /// memory.
+    pub fn n_string<A: Allocator>(
+        &mut self,
+        alloc: A,
+        least: u32,
+        most: u32,
+    ) -> Result<Text<A>, NoMemory>
+        requires order { least ≤ most }
+        requires small { most ≤ 1000 }
+        ensures drawn { IfOk result (λ t. (t, answers self.new) ≡ n_string least most (answers self.old)) }
+        ensures err { OnErr result (self.new ≡ self.old) }
+    {
+        match self.bytes(alloc, b"0123456789", least, most) {
+            Ok(bytes) => Ok(Text::of(bytes)),
+            Err(_) => Err(NoMemory),
+        }
+    }
+
+    // All memory is taken before the first draw.
+    fn bytes<A: Allocator>(
+        &mut self,
+        alloc: A,
+        alphabet: &[u8],
+        least: u32,
+        most: u32,
+    ) -> Result<Vec<u8, A>, AllocError>
+        requires order { least ≤ most }
+        requires small { most ≤ 1000 }
+        requires some { 0 < length alphabet.now }
+        requires few { length alphabet.now ≤ 1000 }
+        ensures drawn { IfOk result (λ v. (v.items, answers self.new) ≡ drawn_text alphabet.now least most (answers self.old)) }
+        ensures err { OnErr result (self.new ≡ self.old) }
+    {
+        let mut bytes = Vec::with_capacity(alloc, most as usize)?;
+        let size = self.between(least, most);
+        let last = alphabet.len() as u32 - 1;
+        for _ in 0..size {
+            let place = self.between(0, last);
+            bytes.push(alphabet[place as usize]).unwrap();
+        }
+        Ok(bytes)
+    }
+
+    /// The numbers 1 to n in a drawn order. Refused only for want of memory.
+    #[tactic(auto, unfolding(crate::specs::Draws::permutation))]
+    pub fn permutation<A: Allocator>(&mut self, alloc: A, n: u32) -> Result<Vec<u32, A>, NoMemory>
+        requires small { n ≤ 1000000 }
+        ensures drawn { IfOk result (λ v. (v.items, answers self.new) ≡ permutation n (answers self.old)) }
+        ensures order { IfOk result (λ v. IsPermutation (range_with_len 1 n) v.items) }
+        ensures err { OnErr result (self.new ≡ self.old) }
+    {
+        match upward(alloc, n) {
+            Ok(mut numbers) => {
+                numbers.as_mut_slice().shuffle(&mut self.generator);
+                Ok(numbers)
+            }
+            Err(_) => Err(NoMemory),
+        }
+    }
+
+    /// The 23 cards of a deck in a drawn order: ten New-Order, ten Payment, and one each of
+    /// Order-Status, Delivery and Stock-Level (5.2.4.2). Refused only for want of memory.
+    #[tactic(auto, unfolding(crate::specs::Cards::deck))]
+    pub fn deck<A: Allocator>(&mut self, alloc: A) -> Result<Vec<Card, A>, NoMemory>
+        ensures drawn { IfOk result (λ v. (v.items, answers self.new) ≡ deck (answers self.old)) }
+        ensures order { IfOk result (λ v. IsPermutation cards v.items) }
+        ensures err { OnErr result (self.new ≡ self.old) }
+    {
+        match all_cards(alloc) {
+            Ok(mut all) => {
+                all.as_mut_slice().shuffle(&mut self.generator);
+                Ok(all)
+            }
+            Err(_) => Err(NoMemory),
+        }
+    }
+}
+
+fn upward<A: Allocator>(alloc: A, n: u32) -> Result<Vec<u32, A>, AllocError>
+    requires small { n ≤ 1000000 }
+    ensures { IfOk result (λ v. v.items ≡ range_with_len 1 n) }
+{
+    (1..n + 1).collect(alloc)
+}

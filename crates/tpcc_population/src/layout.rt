@@ -1,0 +1,145 @@
+//! Tables filled number by number, in the order of their keys.
+ghost use Rattle.std.specs.Prelude.{◌≡◌, ◌+◌, ◌++◌, ◌∷◌, [], ◌≤◌, ℕ, List, IfOk};
+ghost use Rattle.tpcc_rows.specs.Layout.{each};
+
+use std::alloc::Global;
+use tpcc_money::NoMemory;
+
+/// The rows of a table by their numbers: warehouse, district and the row's own number. A table
+/// that has no use for one of them is asked with 1.
+pub(crate) trait TableRows {
+    type Row: Drop;
+
+    ghost rows_of: { Self → ℕ → ℕ → ℕ → List Self.Row };
+
+    ghost most: { ℕ };
+
+    /// Appends the rows of these numbers.
+    fn append(
+        &self,
+        alloc: Global,
+        rows: &mut Vec<Self::Row>,
+        warehouse: u32,
+        district: u32,
+        number: u32,
+    ) -> Result<(), NoMemory>
+        requires warehouse_least { 1 ≤ warehouse }
+        requires warehouse_most { warehouse ≤ 100 }
+        requires district_least { 1 ≤ district }
+        requires district_most { district ≤ 10 }
+        requires least { 1 ≤ number }
+        requires most { number ≤ most }
+        ensures { IfOk result (λ _. rows.new.items ≡ rows.old.items ++ rows_of self.now warehouse district number) };
+}
+
+/// One more row.
+pub(crate) fn push<X: Drop>(rows: &mut Vec<X>, row: X) -> Result<(), NoMemory>
+    ensures { IfOk result (λ _. rows.new.items ≡ rows.old.items ++ row ∷ []) }
+{
+    match rows.push(row) {
+        Ok(()) => Ok(()),
+        Err(_) => Err(NoMemory),
+    }
+}
+
+/// The rows of `count` numbers from `low` on.
+fn append_each<T: TableRows>(
+    alloc: Global,
+    table: &T,
+    rows: &mut Vec<T::Row>,
+    warehouse: u32,
+    district: u32,
+    low: u32,
+    count: u32,
+) -> Result<(), NoMemory>
+    requires warehouse_least { 1 ≤ warehouse }
+    requires warehouse_most { warehouse ≤ 100 }
+    requires district_least { 1 ≤ district }
+    requires district_most { district ≤ 10 }
+    requires least { 1 ≤ low }
+    requires small { low + count ≤ 1000000 }
+    requires most { low + count ≤ T.most + 1 }
+    ensures { IfOk result (λ _. rows.new.items ≡ rows.old.items ++ each low count (T.rows_of table.now warehouse district)) }
+{
+    for number in low..low + count {
+        table.append(alloc, rows, warehouse, district, number)?;
+    }
+    Ok(())
+}
+
+/// A table of one level: the rows of the numbers 1 to `count`.
+pub(crate) fn by_number<T: TableRows>(
+    alloc: Global,
+    table: &T,
+    count: u32,
+) -> Result<Vec<T::Row>, NoMemory>
+    requires small { count ≤ 100000 }
+    requires most { count ≤ T.most }
+    ensures { IfOk result (λ v. v.items ≡ each 1 count (T.rows_of table.now 1 1)) }
+{
+    let mut rows = Vec::new(alloc);
+    append_each(alloc, table, &mut rows, 1, 1, 1, count)?;
+    Ok(rows)
+}
+
+/// A table by warehouses: the rows of the numbers 1 to `count` of each.
+pub(crate) fn by_warehouse<T: TableRows>(
+    alloc: Global,
+    table: &T,
+    warehouses: u32,
+    count: u32,
+) -> Result<Vec<T::Row>, NoMemory>
+    requires warehouses { warehouses ≤ 100 }
+    requires small { count ≤ 100000 }
+    requires most { count ≤ T.most }
+    ensures { IfOk result (λ v. v.items ≡ each 1 warehouses (λ w. each 1 count (T.rows_of table.now w 1))) }
+{
+    let mut rows = Vec::new(alloc);
+    for warehouse in 1..warehouses + 1 {
+        append_each(alloc, table, &mut rows, warehouse, 1, 1, count)?;
+    }
+    Ok(rows)
+}
+
+/// The ten districts of a warehouse.
+fn append_districts<T: TableRows>(
+    alloc: Global,
+    table: &T,
+    rows: &mut Vec<T::Row>,
+    warehouse: u32,
+    low: u32,
+    count: u32,
+) -> Result<(), NoMemory>
+    requires warehouse_least { 1 ≤ warehouse }
+    requires warehouse_most { warehouse ≤ 100 }
+    requires least { 1 ≤ low }
+    requires small { low + count ≤ 1000000 }
+    requires most { low + count ≤ T.most + 1 }
+    ensures { IfOk result (λ _. rows.new.items ≡ rows.old.items ++ each 1 10 (λ d. each low count (T.rows_of table.now warehouse d))) }
+{
+    for district in 1..11 {
+        append_each(alloc, table, rows, warehouse, district, low, count)?;
+    }
+    Ok(())
+}
+
+/// A table by districts: the rows of `count` numbers from `low` on of each.
+pub(crate) fn by_district<T: TableRows>(
+    alloc: Global,
+    table: &T,
+    warehouses: u32,
+    low: u32,
+    count: u32,
+) -> Result<Vec<T::Row>, NoMemory>
+    requires warehouses { warehouses ≤ 100 }
+    requires least { 1 ≤ low }
+    requires small { low + count ≤ 1000000 }
+    requires most { low + count ≤ T.most + 1 }
+    ensures { IfOk result (λ v. v.items ≡ each 1 warehouses (λ w. each 1 10 (λ d. each low count (T.rows_of table.now w d)))) }
+{
+    let mut rows = Vec::new(alloc);
+    for warehouse in 1..warehouses + 1 {
+        append_districts(alloc, table, &mut rows, warehouse, low, count)?;
+    }
+    Ok(rows)
+}

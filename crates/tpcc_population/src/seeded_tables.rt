@@ -1,0 +1,55 @@
+//! The tables of the drawn opening: each list in the order of its key.
+ghost use Rattle.std.specs.Prelude.{◌≡◌, IfOk};
+ghost use Rattle.tpcc_rows.specs.Layout.{laid_out};
+ghost use Rattle.tpcc_population.specs.Seeded.{seeded_rules};
+
+use crate::layout::{by_district, by_number, by_warehouse};
+use crate::seeded::{Seed, SeededCustomers, SeededDistricts, SeededHistories, SeededWarehouses};
+use std::alloc::Global;
+use tpcc_money::NoMemory;
+use tpcc_rows::rows::{CustomerRow, DistrictRow, HistoryRow, WarehouseRow};
+
+/// WAREHOUSE.
+pub(crate) fn seeded_warehouses(alloc: Global, seed: Seed) -> Result<Vec<WarehouseRow>, NoMemory>
+    ensures rows { IfOk result (λ v. v.items ≡ (laid_out seed.scale (seeded_rules seed)).warehouses) }
+{
+    by_number(alloc, &SeededWarehouses { seed }, seed.scale.warehouses())
+}
+
+/// DISTRICT.
+pub(crate) fn seeded_districts(alloc: Global, seed: Seed) -> Result<Vec<DistrictRow>, NoMemory>
+    ensures rows { IfOk result (λ v. v.items ≡ (laid_out seed.scale (seeded_rules seed)).districts) }
+{
+    by_warehouse(
+        alloc,
+        &SeededDistricts { seed },
+        seed.scale.warehouses(),
+        10,
+    )
+}
+
+/// CUSTOMER.
+pub(crate) fn seeded_customers(alloc: Global, seed: Seed) -> Result<Vec<CustomerRow>, NoMemory>
+    ensures rows { IfOk result (λ v. v.items ≡ (laid_out seed.scale (seeded_rules seed)).customers) }
+{
+    by_district(
+        alloc,
+        &SeededCustomers { seed },
+        seed.scale.warehouses(),
+        1,
+        seed.scale.customers(),
+    )
+}
+
+/// HISTORY.
+pub(crate) fn seeded_histories(alloc: Global, seed: Seed) -> Result<Vec<HistoryRow>, NoMemory>
+    ensures rows { IfOk result (λ v. v.items ≡ (laid_out seed.scale (seeded_rules seed)).histories) }
+{
+    by_district(
+        alloc,
+        &SeededHistories { seed },
+        seed.scale.warehouses(),
+        1,
+        seed.scale.customers(),
+    )
+}
