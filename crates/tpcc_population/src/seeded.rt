@@ -266,12 +266,7 @@ fn drawn_amount(stream: &mut Stream, is_delivered: bool) -> Cents
 }
 
 // O_CARRIER_ID and O_OL_CNT of an order, the two columns that its own stream gives.
-fn carrier_and_lines(
-    seed: &Seed,
-    warehouse: u32,
-    district: u32,
-    order: u32,
-) -> (Option<u32>, u32)
+fn carrier_and_lines(seed: &Seed, warehouse: u32, district: u32, order: u32) -> (Option<u32>, u32)
     requires warehouse_least { 1 ≤ warehouse }
     requires warehouse { warehouse ≤ 100 }
     requires district_least { 1 ≤ district }
