@@ -9,6 +9,7 @@ ghost use Rattle.tpcc_rows.specs.Delivery.{oldest_new_order};
 ghost use Rattle.tpcc_rows.specs.Lookups.{last_order_number};
 ghost use Rattle.tpcc_tables.specs.Loads.{find_order_line};
 
+mod filled;
 mod load;
 mod positions;
 mod writes;
