@@ -1,1 +1,4 @@
 mod QueueLemmas
+pub mod LineLemmas
+mod AmountLemmas
+mod RunLemmas

@@ -1,8 +1,9 @@
 //! The queue of deliveries (2.7.2).
-ghost use Rattle.std.specs.Prelude.{◌≡◌, ◌<◌, [], OnOk, length, true};
+ghost use Rattle.std.specs.Prelude.{◌≡◌, ◌<◌, [], OnOk, length, slice_get, true};
 ghost use Rattle.tpcc_rows.specs.Delivery.{queue_with};
 ghost use Rattle.tpcc_rows.specs.Ranges.{is_carrier};
 ghost use Rattle.tpcc_rows.specs.WellKeyed.{IsQueueInRange};
+ghost use Rattle.tpcc_delivery.specs.Runs.{queue_after_first};
 
 use std::alloc::Global;
 use std::marker::Model;
@@ -56,6 +57,27 @@ impl Queue {
         ensures tickets { result.now ≡ self.now.tickets }
     {
         self.tickets.as_slice()
+    }
+
+    /// The first ticket, if one waits.
+    pub(crate) fn first(&self) -> Option<QueuedTicket>
+        ensures first { result ≡ slice_get self.now.tickets 0 }
+    {
+        self.tickets.first().copied()
+    }
+
+    /// The queue after a run of its first ticket: that stands at its next district, or leaves
+    /// after the tenth. Takes no memory.
+    pub(crate) fn advance(&mut self)
+        ensures advanced { self.new.tickets ≡ queue_after_first self.old.tickets }
+    {
+        if let Some(first) = self.first() {
+            if first.next == 10 {
+                self.tickets.remove(0);
+            } else {
+                self.tickets[0].next = first.next + 1;
+            }
+        }
     }
 
     /// Makes room for one more ticket.
