@@ -2,6 +2,8 @@
 #![tactic(auto)]
 
 mod journal;
+mod result_log;
 
 pub use journal::Journal;
+pub use result_log::results;
 pub use tpcc_rows::{Delivered, Entry, Reply, Request};

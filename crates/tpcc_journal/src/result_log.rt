@@ -1,0 +1,87 @@
+//! The delivery result log (2.7.2.2).
+ghost use Rattle.std.specs.Prelude.{◌≡◌, ◌++◌, ◌∷◌, [], Some, IfOk, OnOk, length};
+ghost use Rattle.std.specs.Option.{option_to_list};
+ghost use Rattle.tpcc_rows.specs.Replay.{district_delivery, district_deliveries, results_of, whole_ticket};
+
+use crate::journal::Journal;
+use std::alloc::Global;
+use tpcc_money::NoMemory;
+use tpcc_rows::{Delivered, Delivery, DistrictDelivery, Entry, Reply};
+
+/// The run of an entry, if it is one and delivered or skipped a district.
+fn district_delivery(entry: &Entry) -> Option<DistrictDelivery>
+    ensures { result ≡ district_delivery entry.now.reply }
+{
+    match &entry.reply {
+        Reply::Delivery(Delivery::District(delivery)) => Some(*delivery),
+        _ => None,
+    }
+}
+
+fn add_run(runs: &mut Vec<DistrictDelivery>, run: Option<DistrictDelivery>) -> Result<(), NoMemory>
+    ensures { OnOk result (runs.new.items ≡ runs.old.items ++ option_to_list run) }
+{
+    let Some(run) = run else {
+        return Ok(());
+    };
+    match runs.push(run) {
+        Ok(()) => Ok(()),
+        Err(_) => Err(NoMemory),
+    }
+}
+
+fn add_line(lines: &mut Vec<Delivered>, line: Delivered) -> Result<(), NoMemory>
+    ensures { OnOk result (lines.new.items ≡ lines.old.items ++ line ∷ []) }
+{
+    match lines.push(line) {
+        Ok(()) => Ok(()),
+        Err(_) => Err(NoMemory),
+    }
+}
+
+fn district_deliveries(alloc: Global, entries: &[Entry]) -> Result<Vec<DistrictDelivery>, NoMemory>
+    ensures { IfOk result (λ v. v.items ≡ district_deliveries entries.now) }
+{
+    let mut runs = Vec::new(alloc);
+    for entry in entries {
+        add_run(&mut runs, district_delivery(entry))?;
+    }
+    Ok(runs)
+}
+
+/// The ten runs of a ticket as one line of the log: the ticket and the moment are the tenth's.
+fn whole_ticket(runs: &[DistrictDelivery]) -> Delivered
+    requires { length runs.now ≡ 10 }
+    ensures { Some result ≡ whole_ticket runs.now }
+{
+    Delivered {
+        ticket: runs[9].ticket,
+        at: runs[9].at,
+        orders: [
+            runs[0].order,
+            runs[1].order,
+            runs[2].order,
+            runs[3].order,
+            runs[4].order,
+            runs[5].order,
+            runs[6].order,
+            runs[7].order,
+            runs[8].order,
+            runs[9].order,
+        ],
+    }
+}
+
+/// The runs of whole tickets, in order: one for each full ten of the journal's district
+/// deliveries. Runs of a ticket that is not whole yet are left out. Refuses for want of memory alone.
+pub fn results(alloc: Global, journal: &Journal) -> Result<Vec<Delivered>, NoMemory>
+    ensures log { IfOk result (λ v. v.items ≡ results_of journal.now.entries) }
+{
+    let runs = district_deliveries(alloc, journal.entries())?;
+    let runs = runs.as_slice();
+    let mut lines = Vec::new(alloc);
+    for ten in 0..runs.len() / 10 {
+        add_line(&mut lines, whole_ticket(&runs[10 * ten..10 * ten + 10]))?;
+    }
+    Ok(lines)
+}
