@@ -44,7 +44,7 @@ impl Journal {
     pub fn is_empty(&self) -> bool
         ensures empty { result ≡ (length self.now.entries == 0) }
     {
-        self.entries.len() == 0
+        self.entries.is_empty()
     }
 
     /// How many entries are of the terminal.
