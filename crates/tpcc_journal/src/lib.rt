@@ -7,3 +7,6 @@ mod result_log;
 pub use journal::Journal;
 pub use result_log::results;
 pub use tpcc_rows::{Delivered, Entry, Reply, Request};
+
+#[cfg(test)]
+mod tests;
