@@ -93,8 +93,7 @@ pub fn deliver_next(tables: &mut Tables, queue: &mut Queue, at: Moment) -> Resul
     ensures reply { IfOk result (λ reply. reply ≡ run_reply tables.old.rows queue.old.tickets at) }
     ensures accepted { OnOk result (run_refusal tables.old.rows queue.old.tickets ≡ None) }
     ensures refused { IfErr result (λ refusal. run_refusal tables.old.rows queue.old.tickets ≡ Some refusal) }
-    ensures rows { OnErr result (tables.new.rows ≡ tables.old.rows) }
-    ensures queue { OnErr result (queue.new.tickets ≡ queue.old.tickets) }
+    ensures same { OnErr result ((tables.new.rows ≡ tables.old.rows) × (queue.new.tickets ≡ queue.old.tickets)) }
 {
     let run = prepare_run(tables, queue, at)?;
     Ok(finish_run(tables, queue, run))
