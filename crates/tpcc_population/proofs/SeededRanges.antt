@@ -1,5 +1,5 @@
 -- The rows of the drawn opening refer to rows that there are, and are in their ranges, at every scale.
-use Rattle.std.proofs.Common.{◌≡◌, ℕ, zero, suc, ◌+◌, ◌-◌, ◌*◌, ◌<◌, ◌≤◌, Bool, true, false, List, [], ◌∷◌, ◌++◌, length, take, drop, refl, ◌∙◌, length-append, length-take, length-drop, arith}
+use Rattle.std.proofs.Common.{◌≡◌, ℕ, zero, suc, ◌+◌, ◌-◌, ◌*◌, ◌<◌, ◌≤◌, Bool, true, false, List, [], ◌∷◌, ◌++◌, length, take, drop, refl, length-append, length-take, length-drop, arith}
 use Rattle.std.specs.Prelude.{ℤ, pos, IsTrue, ◌==◌, ◌&&◌, if◌then◌else◌, nat_le, codes, Option, slice_index}
 use Rattle.std.specs.List.{list_all}
 use Rattle.std.proofs.lemmas.List.Folds.{list_all-append}
@@ -87,6 +87,15 @@ all-drop : (p : ℕ → Bool) (n : ℕ) (xs : List ℕ) → list_all p xs ≡ tr
 all-drop p zero xs h = h
 all-drop p (suc n) [] h = refl
 all-drop p (suc n) (x ∷ xs) h = all-drop p n xs (grind (arith))
+
+pub original_is_printable : (place : ℕ) (text : List ℕ) → list_all is_printable text ≡ true → list_all is_printable (with_original place text) ≡ true
+original_is_printable place text all =
+    let word : list_all is_printable (codes "ORIGINAL") ≡ true = refl in
+    let a = take place text in
+    let b = drop (place + 8) text in
+    let h = all-take is_printable place text all in
+    let k = all-drop is_printable (place + 8) text all in
+    grind (arith, h, k, word, list_all-append is_printable (a ++ codes "ORIGINAL") b, list_all-append is_printable a (codes "ORIGINAL"), list_all-append is_printable a (codes "ORIGINAL" ++ b), list_all-append is_printable (codes "ORIGINAL") b)
 
 joined_ok : (a b : List ℕ) → list_all is_printable a ≡ true → list_all is_printable b ≡ true → length a + length b ≤ 42 → is_text 50 (a ++ codes "ORIGINAL" ++ b) ≡ true
 joined_ok a b h k short =

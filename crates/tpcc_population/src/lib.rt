@@ -7,6 +7,8 @@ mod plain;
 mod plain_tables;
 mod scale;
 mod seeded;
+mod seeded_goods;
+mod seeded_orders;
 mod seeded_tables;
 mod texts;
 

@@ -89,7 +89,7 @@ fn seeded_warehouse(alloc: Global, seed: &Seed, number: u32) -> Result<Warehouse
 }
 
 // The number of a district among all, from 1.
-fn district_number(warehouse: u32, district: u32) -> u64
+pub(crate) fn district_number(warehouse: u32, district: u32) -> u64
     requires least { 1 ≤ warehouse }
     requires warehouse { warehouse ≤ 100 }
     requires district { district ≤ 10 }
@@ -266,7 +266,12 @@ fn drawn_amount(stream: &mut Stream, is_delivered: bool) -> Cents
 }
 
 // O_CARRIER_ID and O_OL_CNT of an order, the two columns that its own stream gives.
-fn carrier_and_lines(seed: &Seed, warehouse: u32, district: u32, order: u32) -> (Option<u32>, u32)
+pub(crate) fn carrier_and_lines(
+    seed: &Seed,
+    warehouse: u32,
+    district: u32,
+    order: u32,
+) -> (Option<u32>, u32)
     requires warehouse_least { 1 ≤ warehouse }
     requires warehouse { warehouse ≤ 100 }
     requires district_least { 1 ≤ district }
@@ -284,7 +289,7 @@ fn carrier_and_lines(seed: &Seed, warehouse: u32, district: u32, order: u32) -> 
     (carrier, line_count)
 }
 
-fn seeded_order_line(
+pub(crate) fn seeded_order_line(
     alloc: Global,
     seed: &Seed,
     warehouse: u32,

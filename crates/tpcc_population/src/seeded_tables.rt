@@ -4,10 +4,16 @@ ghost use Rattle.tpcc_rows.specs.Layout.{laid_out};
 ghost use Rattle.tpcc_population.specs.Seeded.{seeded_rules};
 
 use crate::layout::{by_district, by_number, by_warehouse};
+use crate::plain::NewOrders;
 use crate::seeded::{Seed, SeededCustomers, SeededDistricts, SeededHistories, SeededWarehouses};
+use crate::seeded_goods::{SeededItems, SeededStocks};
+use crate::seeded_orders::{SeededOrderLines, SeededOrders};
 use std::alloc::Global;
 use tpcc_money::NoMemory;
-use tpcc_rows::rows::{CustomerRow, DistrictRow, HistoryRow, WarehouseRow};
+use tpcc_rows::rows::{
+    CustomerRow, DistrictRow, HistoryRow, ItemRow, NewOrderRow, OrderLineRow, OrderRow, StockRow,
+    WarehouseRow,
+};
 
 /// WAREHOUSE.
 pub(crate) fn seeded_warehouses(alloc: Global, seed: Seed) -> Result<Vec<WarehouseRow>, NoMemory>
@@ -51,5 +57,58 @@ pub(crate) fn seeded_histories(alloc: Global, seed: Seed) -> Result<Vec<HistoryR
         seed.scale.warehouses(),
         1,
         seed.scale.customers(),
+    )
+}
+
+/// ORDER.
+pub(crate) fn seeded_orders(alloc: Global, seed: Seed) -> Result<Vec<OrderRow>, NoMemory>
+    ensures rows { IfOk result (λ v. v.items ≡ (laid_out seed.scale (seeded_rules seed)).orders) }
+{
+    by_warehouse(alloc, &SeededOrders { seed }, seed.scale.warehouses(), 10)
+}
+
+/// ORDER-LINE.
+pub(crate) fn seeded_order_lines(alloc: Global, seed: Seed) -> Result<Vec<OrderLineRow>, NoMemory>
+    ensures rows { IfOk result (λ v. v.items ≡ (laid_out seed.scale (seeded_rules seed)).order_lines) }
+{
+    by_district(
+        alloc,
+        &SeededOrderLines { seed },
+        seed.scale.warehouses(),
+        1,
+        seed.scale.customers(),
+    )
+}
+
+/// NEW-ORDER.
+pub(crate) fn seeded_new_orders(alloc: Global, seed: Seed) -> Result<Vec<NewOrderRow>, NoMemory>
+    ensures rows { IfOk result (λ v. v.items ≡ (laid_out seed.scale (seeded_rules seed)).new_orders) }
+{
+    let scale = seed.scale;
+    by_district(
+        alloc,
+        &NewOrders,
+        scale.warehouses(),
+        scale.delivered_orders() + 1,
+        scale.customers() - scale.delivered_orders(),
+    )
+}
+
+/// ITEM.
+pub(crate) fn seeded_items(alloc: Global, seed: Seed) -> Result<Vec<ItemRow>, NoMemory>
+    ensures rows { IfOk result (λ v. v.items ≡ (laid_out seed.scale (seeded_rules seed)).items) }
+{
+    by_number(alloc, &SeededItems { seed }, seed.scale.items())
+}
+
+/// STOCK.
+pub(crate) fn seeded_stocks(alloc: Global, seed: Seed) -> Result<Vec<StockRow>, NoMemory>
+    ensures rows { IfOk result (λ v. v.items ≡ (laid_out seed.scale (seeded_rules seed)).stocks) }
+{
+    by_warehouse(
+        alloc,
+        &SeededStocks { seed },
+        seed.scale.warehouses(),
+        seed.scale.items(),
     )
 }

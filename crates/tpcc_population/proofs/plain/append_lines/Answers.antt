@@ -1,4 +1,4 @@
-use Rattle.std.proofs.Common.{◌≡◌, ◌-◌, ℕ, [], ◌∷◌, ◌∙◌, ◌++◌, append_assoc, sym, arith}
+use Rattle.std.proofs.Common.{◌≡◌, ◌-◌, ℕ, [], ◌∷◌, ◌∙◌, ◌++◌, arith}
 use Rattle.tpcc_rows.specs.Layout.{one_each}
 use Rattle.tpcc_rows.specs.Opening.{plain_order_line}
 use Rattle.tpcc_rows.specs.declared.rows.OrderLineRow.{OrderLineRow}

@@ -1,4 +1,4 @@
-use Rattle.std.proofs.Common.{◌≡◌, ◌+◌, ◌-◌, ℕ, IfOk, subst}
+use Rattle.std.proofs.Common.{◌≡◌, ℕ, IfOk, subst}
 use Rattle.tpcc_rows.specs.Layout.{each, one_each}
 use Rattle.tpcc_rows.specs.Opening.{plain_customer}
 use Rattle.tpcc_population.proofs.plain_tables.plain_customers.Goals as goal
