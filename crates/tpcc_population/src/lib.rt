@@ -1,6 +1,7 @@
 //! The initial population of the tables (4.3.3): its scale, both openings and their rows.
 #![tactic(auto)]
 
+mod filled;
 mod layout;
 mod opening;
 mod plain;
@@ -12,5 +13,6 @@ mod seeded_orders;
 mod seeded_tables;
 mod texts;
 
+pub use filled::fill;
 pub use opening::{Opening, opening_is_sound};
 pub use scale::{Scale, ScaleFault};

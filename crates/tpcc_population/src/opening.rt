@@ -32,13 +32,13 @@ pub fn opening_is_sound(opening: Opening)
     }
 }
 
-fn plain_is_sound(scale: Scale)
+pub(crate) fn plain_is_sound(scale: Scale)
     ensures { IsSoundOpening scale.customers (plain_rows scale) }
 {
     let _ = scale.customers();
 }
 
-fn seeded_is_sound(scale: Scale, seed: u64, moment: Moment)
+pub(crate) fn seeded_is_sound(scale: Scale, seed: u64, moment: Moment)
     ensures { IsSoundOpening scale.customers (seeded_rows (record { scale = scale; seed = seed; moment = moment })) }
 {
     let _ = scale.customers();
