@@ -16,3 +16,6 @@ mod texts;
 pub use filled::fill;
 pub use opening::{Opening, opening_is_sound};
 pub use scale::{Scale, ScaleFault};
+
+#[cfg(test)]
+mod tests;
