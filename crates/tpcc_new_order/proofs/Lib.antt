@@ -1,0 +1,3 @@
+pub mod SupplyLemmas
+pub mod RefusalLemmas
+pub mod LineLemmas
