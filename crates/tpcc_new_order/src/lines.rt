@@ -1,5 +1,5 @@
 //! The values of an order's lines (2.4.2.2, 2.4.3.3).
-ghost use Rattle.std.specs.Prelude.{◌≡◌, ◌≤◌, ◌≤ℤ◌, ◌+◌, IfOk, true, pos, map, length};
+ghost use Rattle.std.specs.Prelude.{◌≡◌, ◌≤◌, ◌≤ℤ◌, ◌++◌, [], ◌∷◌, IfOk, OnOk, true, pos, map, length};
 ghost use Rattle.std.specs.List.{enumerate_from};
 ghost use Rattle.tpcc_money.specs.Amounts.{total};
 ghost use Rattle.tpcc_rows.specs.Ranges.{is_within, is_stock_row};
@@ -17,6 +17,7 @@ use tpcc_rows::rows::{OrderLineRow, StockRow};
 use tpcc_rows::text::Text;
 use tpcc_tables::tables::Tables;
 
+#[tactic(auto, using(crate::proofs::LineLemmas::price_tells, crate::proofs::LineLemmas::amount_tells))]
 /// OL_AMOUNT of a line.
 pub fn amount_of(tables: &Tables, line: &Line) -> Cents
     requires line { is_servable_line tables.now.rows line.now ≡ true }
@@ -24,7 +25,9 @@ pub fn amount_of(tables: &Tables, line: &Line) -> Cents
     ensures low { pos 0 ≤ℤ result }
     ensures high { result ≤ℤ pos 999999 }
 {
-    line_amount(item_of(tables, line).price, line.quantity)
+    tables.well_keyed();
+    let item = item_of(tables, line);
+    line_amount(item.price, line.quantity)
 }
 
 /// The sum of the lines' amounts.
@@ -77,4 +80,83 @@ fn order_line(
         amount,
         district_information,
     })
+}
+
+/// One more item, where its growth is not refused.
+fn append<T: Drop>(items: &mut Vec<T>, item: T) -> Result<(), NoMemory>
+    ensures { OnOk result (items.new.items ≡ items.old.items ++ item ∷ []) }
+{
+    match items.push(item) {
+        Ok(()) => Ok(()),
+        Err(_) => Err(NoMemory),
+    }
+}
+
+/// The ORDER-LINE rows of an order's lines, in the order of that id.
+pub fn order_lines(
+    alloc: Global,
+    tables: &Tables,
+    order: &Order,
+    id: u32,
+    lines: &[Line],
+) -> Result<Vec<OrderLineRow>, NoMemory>
+    requires district { is_within 1 10 order.now.district ≡ true }
+    requires id { id ≡ order_number tables.now.rows order.now }
+    requires servable { IsServable tables.now.rows lines.now }
+    ensures { IfOk result (λ rows. rows.items ≡ map (λ line. order_line_row tables.now.rows order.now line.0 line.1) (enumerate_from 1 lines.now)) }
+{
+    let mut rows = Vec::new(alloc);
+    for (index, line) in lines.iter().enumerate() {
+        let row = order_line(tables, order, id, index as u32 + 1, line)?;
+        append(&mut rows, row)?;
+    }
+    Ok(rows)
+}
+
+/// The line with that number, as the terminal shows it.
+fn entered_line(
+    tables: &Tables,
+    order: &Order,
+    number: u32,
+    line: &Line,
+) -> Result<EnteredLine, NoMemory>
+    requires servable { IsServable tables.now.rows order.now.lines }
+    requires number { number ≤ length order.now.lines }
+    requires line { is_servable_line tables.now.rows line.now ≡ true }
+    ensures { IfOk result (λ shown. shown ≡ entered_line tables.now.rows order.now number line.now) }
+{
+    let item = item_of(tables, line);
+    let stock = stock_of(tables, line);
+    let taken = &order.lines.as_slice()[..number as usize];
+    let name = item.name.duplicate()?;
+    Ok(EnteredLine {
+        number,
+        supply: line.supply,
+        item: line.item,
+        name,
+        quantity: line.quantity,
+        stock: numbers_after(stock, order.warehouse, taken).quantity,
+        brand: brand(item, stock),
+        price: item.price,
+        amount: amount_of(tables, line),
+    })
+}
+
+/// The lines as the terminal shows them.
+pub fn entered_lines(
+    alloc: Global,
+    tables: &Tables,
+    order: &Order,
+    lines: &[Line],
+) -> Result<EnteredLines, NoMemory>
+    requires lines { lines.now ≡ order.now.lines }
+    requires servable { IsServable tables.now.rows lines.now }
+    ensures { IfOk result (λ shown. shown ≡ map (λ line. entered_line tables.now.rows order.now line.0 line.1) (enumerate_from 1 lines.now)) }
+{
+    let mut shown = Vec::new(alloc);
+    for (index, line) in lines.iter().enumerate() {
+        let line = entered_line(tables, order, index as u32 + 1, line)?;
+        append(&mut shown, line)?;
+    }
+    Ok(EnteredLines::new(shown))
 }
