@@ -1,3 +1,4 @@
 pub mod SupplyLemmas
 pub mod RefusalLemmas
 pub mod LineLemmas
+pub mod PrepareLemmas

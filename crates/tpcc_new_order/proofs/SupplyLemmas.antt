@@ -1,12 +1,12 @@
 -- The numbers of a STOCK row, line after line.
-use Rattle.std.proofs.Common.{◌≡◌, ℕ, zero, suc, ◌+◌, ◌*◌, ◌<◌, ◌≤◌, ◌==◌, Bool, true, false, List, [], ◌∷◌, length, get_or, take, refl, sym, ap, ◌∙◌, arith}
+use Rattle.std.proofs.Common.{◌≡◌, ℕ, zero, suc, ◌+◌, ◌<◌, ◌≤◌, ◌==◌, Bool, true, false, List, [], ◌∷◌, length, get_or, refl, sym, ap, ◌∙◌, arith}
 use Rattle.std.specs.Prelude.{◌&&◌, fold, filter, if◌then◌else◌}
 use Rattle.std.specs.List.{list_all}
 use Rattle.std.proofs.lemmas.Bool.Decides.{nat_tests}
 use Rattle.tpcc_rows.specs.declared.rows.StockRow.{StockRow}
 use Rattle.tpcc_rows.specs.declared.requests.Line.{Line}
 use Rattle.tpcc_rows.specs.Ranges.{is_within, is_stock_row, is_text, is_exact_text, greatest_count, greatest_stock_ytd}
-use Rattle.tpcc_rows.specs.NewOrder.{quantity_after, stock_after_line, stock_after, lines_from}
+use Rattle.tpcc_rows.specs.NewOrder.{quantity_after, stock_after_line, stock_after}
 use Rattle.tpcc_rows.proofs.OrderParents.{split}
 use Rattle.tpcc_rows.proofs.Numbers.{within}
 use Rattle.tpcc_new_order.specs.declared.supply.StockNumbers.{StockNumbers}

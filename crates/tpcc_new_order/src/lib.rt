@@ -6,4 +6,10 @@ mod lines;
 mod lookups;
 mod named;
 mod ranges;
+mod replies;
 mod supply;
+pub mod transaction;
+
+pub use tpcc_rows::replies::Entered;
+pub use tpcc_rows::requests::{Line, Order};
+pub use transaction::{NewRows, Prepared, enter, finish, prepare};

@@ -1,4 +1,4 @@
-use Rattle.std.proofs.Common.{◌∙◌, ap, sym}
+use Rattle.std.proofs.Common.{◌∙◌, sym}
 use Rattle.std.specs.Prelude.{unwrap_or}
 use Rattle.tpcc_rows.specs.Ranges.{is_stock_row}
 use Rattle.tpcc_rows.specs.Tables.{no_stock}

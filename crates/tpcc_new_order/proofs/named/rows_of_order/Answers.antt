@@ -1,5 +1,4 @@
 use Rattle.std.proofs.Common.{◌∙◌, sym, ap}
-use Rattle.std.specs.Prelude.{◌≡◌}
 use Rattle.tpcc_rows.specs.Lists.{first_finding}
 use Rattle.tpcc_new_order.specs.Tests.{line_tests}
 use Rattle.tpcc_new_order.proofs.RefusalLemmas.{warehouse_missing, district_missing, customer_missing, by_lines, copied, copied_none}
