@@ -2,3 +2,4 @@ pub mod SupplyLemmas
 pub mod RefusalLemmas
 pub mod LineLemmas
 pub mod PrepareLemmas
+pub mod StockedLemmas

@@ -13,3 +13,6 @@ pub mod transaction;
 pub use tpcc_rows::replies::Entered;
 pub use tpcc_rows::requests::{Line, Order};
 pub use transaction::{NewRows, Prepared, enter, finish, prepare};
+
+#[cfg(test)]
+mod tests;

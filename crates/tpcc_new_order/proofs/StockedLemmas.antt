@@ -1,0 +1,35 @@
+-- Whole tables tested row by row.
+use Rattle.std.proofs.Common.{◌≡◌, ℕ, zero, suc, ◌+◌, Bool, true, false, List, [], ◌∷◌, take, refl, sym, ap, ◌∙◌, arith, Option, Some, None}
+use Rattle.std.specs.Prelude.{◌&&◌, option_map, slice_get}
+use Rattle.std.specs.List.{list_all}
+use Rattle.tpcc_rows.specs.declared.rows.WarehouseRow.{WarehouseRow}
+use Rattle.tpcc_rows.specs.declared.rows.ItemRow.{ItemRow}
+use Rattle.tpcc_rows.specs.declared.row.Row.TheVariants as row
+use Rattle.tpcc_rows.specs.declared.row.Table.TheVariants as table
+use Rattle.tpcc_rows.specs.Tables.{Rows}
+use Rattle.tpcc_tables.specs.Positions.{row_at}
+
+is_that_item : (x : ItemRow) (o : Option ItemRow) → Some (row.Item x) ≡ option_map row.Item o → o ≡ Some x
+is_that_item x None e = cc
+is_that_item x (Some y) e = cc
+
+is_that_warehouse : (x : WarehouseRow) (o : Option WarehouseRow) → Some (row.Warehouse x) ≡ option_map row.Warehouse o → o ≡ Some x
+is_that_warehouse x None e = cc
+is_that_warehouse x (Some y) e = cc
+
+pub item_there : (rows : Rows) (i : ℕ) (x : ItemRow) → Some (row.Item x) ≡ row_at rows table.Item i → slice_get rows.items i ≡ Some x
+unfolding row_at
+item_there rows i x e = is_that_item x (slice_get rows.items i) e
+
+pub warehouse_there : (rows : Rows) (i : ℕ) (x : WarehouseRow) → Some (row.Warehouse x) ≡ row_at rows table.Warehouse i → slice_get rows.warehouses i ≡ Some x
+unfolding row_at
+warehouse_there rows i x e = is_that_warehouse x (slice_get rows.warehouses i) e
+
+all_next : {X : Type 0} (p : X → Bool) (xs : List X) (i : ℕ) (x : X) → slice_get xs i ≡ Some x → list_all p (take i xs) ≡ true → p x ≡ true → list_all p (take (suc i) xs) ≡ true
+all_next p [] i x e h k = refl
+all_next p (y ∷ xs) zero x e h k = grind arith
+all_next p (y ∷ xs) (suc i) x e h k = grind (arith, all_next p xs i x)
+
+-- the rows up to a place pass, and so does the one that stands there
+pub all_more : {X : Type 0} (p : X → Bool) (xs : List X) (i : ℕ) (x : X) → slice_get xs i ≡ Some x → list_all p (take i xs) ≡ true → p x ≡ true → list_all p (take (i + 1) xs) ≡ true
+all_more p xs i x e h k = let next : i + 1 ≡ suc i = omega arith in (λ j. list_all p (take (next j) xs)) ∙ all_next p xs i x e h k
