@@ -25,24 +25,26 @@ fn accepted_of(
     requires high { sum ≤ℤ pos 15000000 }
     ensures { IfOk result (λ reply. reply ≡ accepted_from order.now named.now.warehouse.now named.now.district.now named.now.customer.now sum lines) }
 {
-    let last = named.customer.last.duplicate()?;
-    let credit = named.customer.credit.duplicate()?;
-    let discount = named.customer.discount;
-    let warehouse_tax = named.warehouse.tax;
-    let district_tax = named.district.tax;
+    let NamedRows {
+        warehouse,
+        district,
+        customer,
+    } = named;
+    let last = customer.last.duplicate()?;
+    let credit = customer.credit.duplicate()?;
     Ok(AcceptedOrder {
         warehouse: order.warehouse,
         district: order.district,
         customer: order.customer,
         last,
         credit,
-        discount,
-        order: named.district.next_order,
+        discount: customer.discount,
+        order: district.next_order,
         line_count: order.lines.as_slice().len() as u32,
-        warehouse_tax,
-        district_tax,
+        warehouse_tax: warehouse.tax,
+        district_tax: district.tax,
         entry_date: order.moment,
-        total: order_total(sum, discount, warehouse_tax, district_tax),
+        total: order_total(sum, customer.discount, warehouse.tax, district.tax),
         lines,
     })
 }

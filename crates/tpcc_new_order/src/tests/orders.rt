@@ -78,7 +78,13 @@ pub fn number_rolled_back(
 fn of_five_items(rt: HostRuntime) -> Result<(), Fail> {
     let alloc = rt.alloc();
     let mut tables = opened(alloc, 1, &[11, 12, 20, 21, 26], 11, 0)?;
-    let lines = [(20, 1, 10), (26, 1, 8), (12, 1, 10), (21, 1, 5), (11, 1, 10)];
+    let lines = [
+        (20, 1, 10),
+        (26, 1, 8),
+        (12, 1, 10),
+        (21, 1, 5),
+        (11, 1, 10),
+    ];
     let reply = accepted(alloc, &mut tables, &lines)?;
     assert_eq!(rt; reply.order, 11);
     assert_eq!(rt; reply.line_count, 5);
@@ -105,7 +111,10 @@ fn of_five_items(rt: HostRuntime) -> Result<(), Fail> {
     let line = tables.line(1, 1, 11, 4).ok_or("line")?;
     assert_eq!(rt; line.item, 21);
     assert_eq!(rt; line.amount, Cents::new(600));
-    assert_eq!(rt; line.district_information.bytes(), b"01dddddddddddddddddddddd".as_slice());
+    assert_eq!(rt;
+        line.district_information.bytes(),
+        b"01dddddddddddddddddddddd".as_slice()
+    );
     assert_eq!(rt; tables.stock(1, 21).ok_or("stock")?.quantity, 26);
     Ok(())
 }
@@ -116,7 +125,9 @@ fn of_one_item_fifteen_times(rt: HostRuntime) -> Result<(), Fail> {
     let mut tables = opened(alloc, 1, &[1], 11, 0)?;
     let reply = accepted(alloc, &mut tables, &[(1, 1, 1); 15])?;
     assert_eq!(rt; reply.total, Cents::new(1648));
-    let shown = [10u32, 100, 99, 98, 97, 96, 95, 94, 93, 92, 91, 90, 89, 88, 87];
+    let shown = [
+        10u32, 100, 99, 98, 97, 96, 95, 94, 93, 92, 91, 90, 89, 88, 87,
+    ];
     for (line, stock) in reply.lines.as_slice().iter().zip(shown.iter()) {
         assert_eq!(rt; line.stock, *stock);
     }
@@ -141,7 +152,12 @@ fn of_an_unused_item(rt: HostRuntime) -> Result<(), Fail> {
     let reply = accepted(alloc, &mut tables, &used)?;
     assert_eq!(rt; reply.order, 11);
     assert_eq!(rt; reply.total, Cents::new(560));
-    for (line, stock) in reply.lines.as_slice().iter().zip([10u32, 11, 12, 13, 14].iter()) {
+    for (line, stock) in reply
+        .lines
+        .as_slice()
+        .iter()
+        .zip([10u32, 11, 12, 13, 14].iter())
+    {
         assert_eq!(rt; line.stock, *stock);
     }
     Ok(())

@@ -9,6 +9,7 @@ use tpcc_rows::refusals::{Field, Refusal};
 use tpcc_tables::tables::Tables;
 
 const USED: [(u32, u32, u32); 5] = [(1, 1, 1), (2, 1, 1), (3, 1, 1), (4, 1, 1), (5, 1, 1)];
+
 const UNUSED: [(u32, u32, u32); 5] = [(1, 1, 1), (2, 1, 1), (101, 1, 1), (3, 1, 1), (4, 1, 1)];
 
 fn assert_refused(

@@ -1,4 +1,4 @@
-use Rattle.std.proofs.Common.{◌∙◌, sym, ap, arith, true, refl}
+use Rattle.std.proofs.Common.{◌∙◌, sym, ap, arith}
 use Rattle.std.specs.Prelude.{is_some, option_map, Some}
 use Rattle.std.specs.List.{list_all}
 use Rattle.tpcc_rows.specs.declared.rows.ItemRow.{ItemRow}
