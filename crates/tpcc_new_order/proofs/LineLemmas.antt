@@ -4,14 +4,13 @@ use Rattle.std.specs.Prelude.{◌&&◌, ◌||◌, is_some, not, nat_lt, unwrap_o
 use Rattle.std.specs.List.{list_all, list_any, enumerate_from}
 use Rattle.std.proofs.lemmas.Int.{ints}
 use Rattle.std.proofs.lemmas.List.{take_more, length-take-le}
-use Rattle.tpcc_money.specs.Amounts.{total}
+use Rattle.tpcc_money.specs.Amounts.{line_amount, total}
 use Rattle.tpcc_rows.specs.declared.rows.ItemRow.{ItemRow}
 use Rattle.tpcc_rows.specs.declared.rows.StockRow.{StockRow}
 use Rattle.tpcc_rows.specs.declared.requests.Line.{Line}
 use Rattle.tpcc_rows.specs.Ranges.{is_within, is_item_row, is_stock_row, is_count, greatest_stock_ytd, is_amount_within}
 use Rattle.tpcc_rows.specs.Tables.{Rows, is_item, is_stock, find_item, find_stock, item_at, stock_at, no_item, no_stock}
 use Rattle.tpcc_rows.specs.WellKeyed.{IsInRange}
-use Rattle.tpcc_rows.specs.NewOrder.{amount_of}
 use Rattle.tpcc_rows.proofs.ListLemmas.{list_all-mono}
 use Rattle.tpcc_rows.proofs.RemoveLemmas.{found_passes}
 use Rattle.tpcc_rows.proofs.OrderParents.{split}
@@ -81,9 +80,8 @@ price_in_range i h = grind arith
 pub price_tells : (i : ItemRow) → is_item_row i ≡ true → (pos 1 ≤ℤ i.price) × (i.price ≤ℤ pos 99999)
 price_tells i h = amount_within (pos 1) (pos 99999) i.price (price_in_range i h)
 
-pub amount_tells : (rows : Rows) (l : Line) → IsInRange rows → is_servable_line rows l ≡ true → (pos 0 ≤ℤ amount_of rows l) × (amount_of rows l ≤ℤ pos 999999)
-amount_tells rows l h k =
-    amount_within (pos 0) (pos 999999) (amount_of rows l) (amount_fits l.quantity (item_at rows l.item).price (servable_tells rows l k).0 (price_in_range (item_at rows l.item) (item_in_range rows l h k)))
+pub amount_tells : (i : ItemRow) (q : ℕ) → is_item_row i ≡ true → is_within 1 10 q ≡ true → (pos 0 ≤ℤ line_amount i.price q) × (line_amount i.price q ≤ℤ pos 999999)
+amount_tells i q h k = amount_within (pos 0) (pos 999999) (line_amount i.price q) (amount_fits q i.price k (price_in_range i h))
 
 none_added : (a : ℤ) → a +ℤ pos 0 ≡ pos 0 +ℤ a
 none_added a = omega (arith, ints)

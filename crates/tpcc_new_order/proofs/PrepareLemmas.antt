@@ -22,7 +22,7 @@ use Rattle.tpcc_rows.proofs.TurnKeys.{lines_stocked}
 use Rattle.tpcc_rows.proofs.Numbers.{within, not_false}
 use Rattle.tpcc_tables.specs.Writes.{IsOrderOf}
 use Rattle.tpcc_tables.proofs.EnterLemmas.{order_is, enterable}
-use Rattle.tpcc_new_order.specs.declared.transaction.NewRows.{NewRows}
+use Rattle.tpcc_new_order.specs.declared.written.NewRows.{NewRows}
 use Rattle.tpcc_new_order.specs.declared.named.NamedRows.{NamedRows}
 use Rattle.tpcc_new_order.specs.Supplied.{IsServable}
 use Rattle.tpcc_new_order.specs.Tests.{IsNamed}

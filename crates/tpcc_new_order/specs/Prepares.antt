@@ -13,7 +13,7 @@ use Rattle.tpcc_rows.specs.declared.replies.RolledBackOrder.{RolledBackOrder}
 use Rattle.tpcc_rows.specs.Tables.{Rows}
 use Rattle.tpcc_rows.specs.NewOrder.{order_refusal, order_reply, rows_after_order, is_rolled_back}
 use Rattle.tpcc_tables.specs.Writes.{with_entered_order, IsOrderOf}
-use Rattle.tpcc_new_order.specs.declared.transaction.NewRows.{NewRows}
+use Rattle.tpcc_new_order.specs.declared.written.NewRows.{NewRows}
 use Rattle.tpcc_new_order.specs.declared.transaction.Prepared.{Prepared}
 
 -- the rows of an order that is entered; an order that is rolled back has none

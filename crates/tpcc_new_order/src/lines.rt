@@ -1,48 +1,21 @@
 //! The values of an order's lines (2.4.2.2, 2.4.3.3).
-ghost use Rattle.std.specs.Prelude.{◌≡◌, ◌≤◌, ◌≤ℤ◌, ◌++◌, [], ◌∷◌, IfOk, OnOk, true, pos, map, length};
+ghost use Rattle.std.specs.Prelude.{◌≡◌, ◌≤◌, ◌++◌, [], ◌∷◌, IfOk, OnOk, true, map, length};
 ghost use Rattle.std.specs.List.{enumerate_from};
-ghost use Rattle.tpcc_money.specs.Amounts.{total};
 ghost use Rattle.tpcc_rows.specs.Ranges.{is_within, is_stock_row};
-ghost use Rattle.tpcc_rows.specs.NewOrder.{amount_of, district_information_of, entered_line, order_line_row, order_line_rows, order_number};
+ghost use Rattle.tpcc_rows.specs.NewOrder.{district_information_of, entered_line, order_line_row, order_number};
 ghost use Rattle.tpcc_new_order.specs.Supplied.{is_servable_line, IsServable};
 
+use crate::amounts::amount;
 use crate::brand::brand;
 use crate::lookups::{item_of, stock_of};
 use crate::supply::numbers_after;
 use std::alloc::Global;
-use tpcc_money::{Cents, NoMemory, line_amount};
+use tpcc_money::NoMemory;
 use tpcc_rows::replies::{EnteredLine, EnteredLines};
 use tpcc_rows::requests::{Line, Order};
 use tpcc_rows::rows::{OrderLineRow, StockRow};
 use tpcc_rows::text::Text;
 use tpcc_tables::tables::Tables;
-
-#[tactic(auto, using(crate::proofs::LineLemmas::price_tells, crate::proofs::LineLemmas::amount_tells))]
-/// OL_AMOUNT of a line.
-pub fn amount_of(tables: &Tables, line: &Line) -> Cents
-    requires line { is_servable_line tables.now.rows line.now ≡ true }
-    ensures amount { result ≡ amount_of tables.now.rows line.now }
-    ensures low { pos 0 ≤ℤ result }
-    ensures high { result ≤ℤ pos 999999 }
-{
-    tables.well_keyed();
-    let item = item_of(tables, line);
-    line_amount(item.price, line.quantity)
-}
-
-/// The sum of the lines' amounts.
-pub fn sum_of(tables: &Tables, lines: &[Line]) -> Cents
-    requires servable { IsServable tables.now.rows lines.now }
-    ensures sum { result ≡ total (amount_of tables.now.rows) lines.now }
-    ensures low { pos 0 ≤ℤ result }
-    ensures high { result ≤ℤ pos 15000000 }
-{
-    let mut sum = Cents::new(0);
-    for line in lines {
-        sum = sum.plus(amount_of(tables, line));
-    }
-    sum
-}
 
 /// S_DIST_xx of a district.
 fn district_information(stock: &StockRow, district: u32) -> Result<Text, NoMemory>
@@ -66,8 +39,9 @@ fn order_line(
     requires line { is_servable_line tables.now.rows line.now ≡ true }
     ensures { IfOk result (λ row. row ≡ order_line_row tables.now.rows order.now number line.now) }
 {
-    let amount = amount_of(tables, line);
-    let district_information = district_information(stock_of(tables, line), order.district)?;
+    let amount = amount(item_of(tables, line), line);
+    let stock = stock_of(tables, line);
+    let district_information = district_information(stock, order.district)?;
     Ok(OrderLineRow {
         order: id,
         district: order.district,
@@ -138,7 +112,7 @@ fn entered_line(
         stock: numbers_after(stock, order.warehouse, taken).quantity,
         brand: brand(item, stock),
         price: item.price,
-        amount: amount_of(tables, line),
+        amount: amount(item, line),
     })
 }
 

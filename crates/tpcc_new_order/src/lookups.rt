@@ -1,7 +1,8 @@
-//! The ITEM and STOCK rows of a line.
-ghost use Rattle.std.specs.Prelude.{◌≡◌, true};
+//! The ITEM and STOCK rows of lines.
+ghost use Rattle.std.specs.Prelude.{◌≡◌, true, is_none};
+ghost use Rattle.std.specs.List.{list_any};
 ghost use Rattle.tpcc_rows.specs.Ranges.{is_item_row, is_stock_row};
-ghost use Rattle.tpcc_rows.specs.Tables.{item_at, stock_at};
+ghost use Rattle.tpcc_rows.specs.Tables.{find_item, item_at, stock_at};
 ghost use Rattle.tpcc_new_order.specs.Supplied.{is_servable_line};
 
 use tpcc_rows::requests::Line;
@@ -26,4 +27,17 @@ pub fn stock_of<'a>(tables: &'a Tables, line: &Line) -> &'a StockRow
 {
     tables.well_keyed();
     tables.stock(line.supply, line.item).unwrap()
+}
+
+fn is_unused(tables: &Tables, line: &Line) -> bool
+    ensures { result ≡ is_none (find_item tables.now.rows line.now.item) }
+{
+    tables.item(line.item).is_none()
+}
+
+/// Whether some line's item is in no ITEM row (2.4.2.3).
+pub fn has_unused_item(tables: &Tables, lines: &[Line]) -> bool
+    ensures { result ≡ list_any (λ l. is_none (find_item tables.now.rows l.item)) lines.now }
+{
+    lines.iter().any(|line| is_unused(tables, line))
 }

@@ -5,7 +5,8 @@ ghost use Rattle.tpcc_new_order.specs.Supplied.{IsServable};
 ghost use Rattle.tpcc_new_order.specs.Tests.{IsNamed};
 ghost use Rattle.tpcc_new_order.specs.Prepares.{accepted_from, rolled_back_from};
 
-use crate::lines::{entered_lines, sum_of};
+use crate::amounts::sum_of;
+use crate::lines::entered_lines;
 use crate::named::NamedRows;
 use std::alloc::Global;
 use tpcc_money::{Cents, NoMemory, order_total};

@@ -1,102 +1,33 @@
 //! An order in two halves: what may fail, and what can't.
-ghost use Rattle.std.specs.Prelude.{◌≡◌, ◌==◌, ◌<◌, ◌≤◌, IfOk, IfErr, OnOk, OnErr, Some, None, true, false, is_none, length};
-ghost use Rattle.std.specs.List.{list_all, list_any};
+ghost use Rattle.std.specs.Prelude.{◌≡◌, IfOk, IfErr, OnOk, OnErr, Some, None, true, false};
 ghost use Rattle.std.specs.Option.{option_or};
 ghost use Rattle.tpcc_rows.specs.declared.requests.Order.{Order};
-ghost use Rattle.tpcc_rows.specs.Tables.{find_item};
 ghost use Rattle.tpcc_rows.specs.WellKeyed.{IsStocked};
 ghost use Rattle.tpcc_rows.specs.NewOrder.{is_rolled_back, order_refusal, order_reply, rows_after_order};
 ghost use Rattle.tpcc_new_order.specs.Supplied.{IsServable};
 ghost use Rattle.tpcc_new_order.specs.Tests.{IsNamed};
-ghost use Rattle.tpcc_new_order.specs.Prepares.{AreRowsOf, IsPrepared, HasRoom, HasRoomForRows, with_new_rows, order_row_from};
+ghost use Rattle.tpcc_new_order.specs.Prepares.{IsPrepared, HasRoom};
 
-use crate::lines::order_lines;
+use crate::lookups::has_unused_item;
 use crate::named::{NamedRows, rows_of_order};
 use crate::ranges::range_refusal;
 use crate::replies::{accepted, rolled_back};
+use crate::written::{NewRows, make_room, new_rows, write};
 use std::alloc::Global;
 use tpcc_money::NoMemory;
 use tpcc_rows::refusals::Refusal;
 use tpcc_rows::replies::Entered;
-use tpcc_rows::requests::{Line, Order};
-use tpcc_rows::rows::{OrderLineRow, OrderRow};
+use tpcc_rows::requests::Order;
 use tpcc_tables::tables::Tables;
 
-/// The rows that an order writes: ORDER, which tells the NEW-ORDER row too, and ORDER-LINE.
-#[derive(Drop)]
-pub struct NewRows {
-    pub order: OrderRow,
-    pub lines: Vec<OrderLineRow>,
-}
-
-/// An order that nothing refuses, with all that it writes and shows. An order that is rolled back
-/// writes nothing.
+/// An order that nothing refuses, with all that it writes and shows.
 #[derive(Drop)]
 pub struct Prepared {
+    /// What is written; nothing of an order that is rolled back (2.4.2.3).
     pub rows: Option<NewRows>,
+    /// What the terminal shows (2.4.3.3, 2.4.3.4).
     pub reply: Entered,
     pub copy: Entered,
-}
-
-fn is_unused(tables: &Tables, line: &Line) -> bool
-    ensures { result ≡ is_none (find_item tables.now.rows line.now.item) }
-{
-    tables.item(line.item).is_none()
-}
-
-/// Whether some line's item is in no ITEM row (2.4.2.3).
-fn has_unused_item(tables: &Tables, lines: &[Line]) -> bool
-    ensures { result ≡ list_any (λ l. is_none (find_item tables.now.rows l.item)) lines.now }
-{
-    lines.iter().any(|line| is_unused(tables, line))
-}
-
-fn are_local(warehouse: u32, lines: &[Line]) -> bool
-    ensures { result ≡ list_all (λ l. l.supply == warehouse) lines.now }
-{
-    lines.iter().all(|line| line.supply == warehouse)
-}
-
-/// The ORDER row (2.4.2.2) of the order with that number.
-fn order_row(order: &Order, number: u32) -> OrderRow
-    requires few { length order.now.lines ≤ 15 }
-    ensures { result ≡ order_row_from number order.now }
-{
-    let lines = order.lines.as_slice();
-    OrderRow {
-        id: number,
-        district: order.district,
-        warehouse: order.warehouse,
-        customer: order.customer,
-        entry_date: order.moment,
-        carrier: None,
-        line_count: lines.len() as u32,
-        all_local: are_local(order.warehouse, lines),
-    }
-}
-
-/// The rows that an order writes.
-fn new_rows(
-    alloc: Global,
-    tables: &Tables,
-    order: &Order,
-    named: &NamedRows,
-) -> Result<NewRows, NoMemory>
-    requires stocked { IsStocked tables.now.rows }
-    requires named { IsNamed tables.now.rows order.now named.now }
-    requires accepted { order_refusal tables.now.rows order.now ≡ None }
-    requires entered { is_rolled_back tables.now.rows order.now ≡ false }
-    requires servable { IsServable tables.now.rows order.now.lines }
-    ensures { IfOk result (λ new. AreRowsOf tables.now.rows order.now (Some new)) }
-{
-    tables.well_keyed();
-    let _moment = order.moment.seconds();
-    let number = named.district.next_order;
-    let lines = order_lines(alloc, tables, order, number, order.lines.as_slice())?;
-    Ok(NewRows {
-        order: order_row(order, number),
-        lines,
-    })
 }
 
 /// What an order that is entered writes and shows.
@@ -138,6 +69,7 @@ fn unwritten(tables: &Tables, order: &Order, named: &NamedRows) -> Result<Prepar
     })
 }
 
+/// The refusal of an order, or what it writes and shows.
 fn worked_out(alloc: Global, tables: &Tables, order: &Order) -> Result<Prepared, Refusal>
     requires stocked { IsStocked tables.now.rows }
     ensures ok { IfOk result (IsPrepared tables.now.rows order.now) }
@@ -159,20 +91,13 @@ fn worked_out(alloc: Global, tables: &Tables, order: &Order) -> Result<Prepared,
     }
 }
 
-/// Room for the rows, if there are any.
-fn make_room(tables: &mut Tables, rows: &Option<NewRows>) -> Result<(), NoMemory>
-    requires few { HasRoomForRows 16 rows.now }
-    ensures same { tables.new.rows ≡ tables.old.rows }
-    ensures room { OnOk result (HasRoomForRows tables.new.order_room rows.now) }
-{
-    match rows {
-        Some(new) => tables.reserve_order(new.lines.len() as u32),
-        None => Ok(()),
-    }
-}
-
-/// Tells every refusal and makes every growth; no row changes. An order with an unused item is
-/// refused for its input alone: it is rolled back whatever its ranges.
+/// Tells every refusal and makes every growth of an order (2.4.2); no row changes.
+///
+/// The refusals, in the order of the tests: `NoWarehouse`, `NoDistrict`, `NoCustomer`, `LineCount` unless there are
+/// 5 to 15 lines, `Quantity` unless each is 1 to 10, `NoSupply`. An order that none of them refuses and that has an
+/// unused item is rolled back (2.4.2.3). Any other is tested for its number and for its STOCK rows as they would be
+/// after it: `OrderNumbers`, `Count(StockOrders)`, `Count(RemoteOrders)`, `Total(StockYtd)`. Last comes `NoMemory`,
+/// where a growth is refused.
 pub fn prepare(alloc: Global, tables: &mut Tables, order: &Order) -> Result<Prepared, Refusal>
     requires stocked { IsStocked tables.old.rows }
     ensures ok { IfOk result (IsPrepared tables.old.rows order.now) }
@@ -188,18 +113,8 @@ pub fn prepare(alloc: Global, tables: &mut Tables, order: &Order) -> Result<Prep
     }
 }
 
-/// Writes the rows, if there are any.
-fn write(tables: &mut Tables, rows: Option<NewRows>)
-    requires room { HasRoomForRows tables.old.order_room rows }
-    requires rows { (order : Order) × AreRowsOf tables.old.rows order rows }
-    ensures { tables.new.rows ≡ with_new_rows tables.old.rows rows }
-{
-    if let Some(new) = rows {
-        tables.append_order(new.order, new.lines);
-    }
-}
-
-/// Writes a prepared order; takes no memory. The reply comes with its copy.
+/// Writes a prepared order (2.4.2.2), or nothing where it is rolled back; takes no memory. The reply comes with its
+/// copy.
 pub fn finish(tables: &mut Tables, prepared: Prepared) -> (Entered, Entered)
     requires room { HasRoom tables.old.order_room prepared }
     requires prepared { (order : Order) × IsPrepared tables.old.rows order prepared }
@@ -211,7 +126,7 @@ pub fn finish(tables: &mut Tables, prepared: Prepared) -> (Entered, Entered)
     (prepared.reply, prepared.copy)
 }
 
-/// One order.
+/// One order: the refusals of [`prepare`], which leave all rows as they were, or the reply of [`finish`].
 pub fn enter(alloc: Global, tables: &mut Tables, order: &Order) -> Result<Entered, Refusal>
     requires stocked { IsStocked tables.old.rows }
     ensures rows { OnOk result (tables.new.rows ≡ rows_after_order tables.old.rows order.now) }

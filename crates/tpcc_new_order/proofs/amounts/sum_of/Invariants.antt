@@ -1,7 +1,7 @@
 use Rattle.std.proofs.Common.{◌≡◌, ◌*◌, ◌≤ℤ◌, pos, take}
 use Rattle.tpcc_money.specs.Amounts.{total}
 use Rattle.tpcc_rows.specs.NewOrder.{amount_of}
-use Rattle.tpcc_new_order.proofs.lines.sum_of.Given as goal
+use Rattle.tpcc_new_order.proofs.amounts.sum_of.Given as goal
 
 abbrev pub invariant-loop-line : goal.invariant-loop-line
 invariant-loop-line l = record {
