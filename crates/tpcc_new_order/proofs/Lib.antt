@@ -1,0 +1,5 @@
+pub mod SupplyLemmas
+pub mod RefusalLemmas
+pub mod LineLemmas
+pub mod PrepareLemmas
+pub mod StockedLemmas

@@ -1,0 +1,31 @@
+//! The brand of a line (2.4.2.2).
+ghost use Rattle.std.specs.Prelude.{◌≡◌, codes};
+ghost use Rattle.tpcc_rows.specs.Lists.{has_text};
+ghost use Rattle.tpcc_rows.specs.NewOrder.{brand_of};
+
+use tpcc_rows::replies::Brand;
+use tpcc_rows::rows::{ItemRow, StockRow};
+
+/// Whether ORIGINAL stands somewhere in the bytes.
+fn has_original(bytes: &[u8]) -> bool
+    ensures { result ≡ has_text (codes "ORIGINAL") bytes.now }
+{
+    if bytes.starts_with(b"ORIGINAL".as_slice()) {
+        return true;
+    }
+    match bytes.split_first() {
+        Some((_, rest)) => has_original(rest),
+        None => false,
+    }
+}
+
+/// B where I_DATA and S_DATA both contain ORIGINAL, else G.
+pub fn brand(item: &ItemRow, stock: &StockRow) -> Brand
+    ensures { result ≡ brand_of item.now stock.now }
+{
+    if has_original(item.information.bytes()) && has_original(stock.information.bytes()) {
+        Brand::Original
+    } else {
+        Brand::Generic
+    }
+}

@@ -1,0 +1,21 @@
+//! New-Order (2.4): one transaction in two halves.
+#![tactic(auto)]
+
+mod amounts;
+mod brand;
+mod lines;
+mod lookups;
+mod named;
+mod ranges;
+mod replies;
+mod supply;
+pub mod transaction;
+mod written;
+
+pub use tpcc_rows::replies::Entered;
+pub use tpcc_rows::requests::{Line, Order};
+pub use transaction::{Prepared, enter, finish, prepare};
+pub use written::NewRows;
+
+#[cfg(test)]
+mod tests;

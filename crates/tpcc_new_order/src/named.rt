@@ -1,0 +1,86 @@
+//! The rows that an order names, and why its input may be refused.
+ghost use Rattle.std.specs.Prelude.{◌≡◌, IfOk, IfErr, Some, is_none, not};
+ghost use Rattle.std.specs.List.{list_any};
+ghost use Rattle.tpcc_rows.specs.Lists.{first_finding};
+ghost use Rattle.tpcc_rows.specs.Ranges.{is_within};
+ghost use Rattle.tpcc_rows.specs.Tables.{find_warehouse};
+ghost use Rattle.tpcc_rows.specs.NewOrder.{order_refusal_by_input};
+ghost use Rattle.tpcc_new_order.specs.Tests.{IsNamed, line_tests};
+
+use tpcc_rows::refusals::Refusal;
+use tpcc_rows::requests::{Line, Order};
+use tpcc_rows::rows::{CustomerRow, DistrictRow, WarehouseRow};
+use tpcc_tables::tables::Tables;
+
+/// The rows that an order names.
+#[derive(Drop)]
+pub struct NamedRows<'a> {
+    pub warehouse: &'a WarehouseRow,
+    pub district: &'a DistrictRow,
+    pub customer: &'a CustomerRow,
+}
+
+fn has_wrong_quantity(line: &Line) -> bool
+    ensures { result ≡ not (is_within 1 10 line.now.quantity) }
+{
+    line.quantity < 1 || 10 < line.quantity
+}
+
+fn has_no_supply(tables: &Tables, line: &Line) -> bool
+    ensures { result ≡ is_none (find_warehouse tables.now.rows line.now.supply) }
+{
+    tables.warehouse(line.supply).is_none()
+}
+
+fn has_wrong_quantities(lines: &[Line]) -> bool
+    ensures { result ≡ list_any (λ l. not (is_within 1 10 l.quantity)) lines.now }
+{
+    lines.iter().any(|line| has_wrong_quantity(line))
+}
+
+fn has_no_supplies(tables: &Tables, lines: &[Line]) -> bool
+    ensures { result ≡ list_any (λ l. is_none (find_warehouse tables.now.rows l.supply)) lines.now }
+{
+    lines.iter().any(|line| has_no_supply(tables, line))
+}
+
+#[tactic(auto, unfolding(crate::specs::Tests::line_tests))]
+/// The first refusal of an order's lines, if there is one.
+fn line_refusal(tables: &Tables, lines: &[Line]) -> Option<Refusal>
+    ensures { result ≡ first_finding (line_tests tables.now.rows lines.now) }
+{
+    if lines.len() < 5 || 15 < lines.len() {
+        return Some(Refusal::LineCount);
+    }
+    if has_wrong_quantities(lines) {
+        return Some(Refusal::Quantity);
+    }
+    if has_no_supplies(tables, lines) {
+        return Some(Refusal::NoSupply);
+    }
+    None
+}
+
+/// The rows of an order whose input nothing refuses.
+pub fn rows_of_order<'a>(tables: &'a Tables, order: &Order) -> Result<NamedRows<'a>, Refusal>
+    ensures ok { IfOk result (IsNamed tables.now.rows order.now) }
+    ensures err { IfErr result (λ refusal. order_refusal_by_input tables.now.rows order.now ≡ Some refusal) }
+{
+    let Some(warehouse) = tables.warehouse(order.warehouse) else {
+        return Err(Refusal::NoWarehouse);
+    };
+    let Some(district) = tables.district(order.warehouse, order.district) else {
+        return Err(Refusal::NoDistrict);
+    };
+    let Some(customer) = tables.customer(order.warehouse, order.district, order.customer) else {
+        return Err(Refusal::NoCustomer);
+    };
+    match line_refusal(tables, order.lines.as_slice()) {
+        Some(refusal) => Err(refusal),
+        None => Ok(NamedRows {
+            warehouse,
+            district,
+            customer,
+        }),
+    }
+}

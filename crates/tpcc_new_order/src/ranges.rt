@@ -1,0 +1,87 @@
+//! The order's number and the columns of its STOCK rows, tested against their ranges.
+ghost use Rattle.std.specs.Prelude.{◌≡◌, nat_lt, not, true, map};
+ghost use Rattle.tpcc_rows.specs.Lists.{first_finding};
+ghost use Rattle.tpcc_rows.specs.Ranges.{is_count, greatest_stock_ytd};
+ghost use Rattle.tpcc_rows.specs.Tables.{stock_at};
+ghost use Rattle.tpcc_rows.specs.NewOrder.{order_number, order_refusal_by_range, stock_after, stocks_after};
+ghost use Rattle.tpcc_new_order.specs.Supplied.{numbers_of, is_servable_line, IsServable};
+ghost use Rattle.tpcc_new_order.specs.Tests.{overruns_of, overruns_with, range_tests};
+
+use crate::lookups::stock_of;
+use crate::supply::{StockNumbers, numbers_after};
+use tpcc_rows::refusals::{Field, Refusal};
+use tpcc_rows::requests::{Line, Order};
+use tpcc_tables::tables::Tables;
+
+/// Which columns would leave their ranges in some STOCK row of an order.
+#[derive(Clone, Copy)]
+pub struct Overruns {
+    orders: bool,
+    remotes: bool,
+    ytd: bool,
+}
+
+fn with_row(over: Overruns, numbers: StockNumbers) -> Overruns
+    ensures { result ≡ overruns_with over numbers }
+{
+    Overruns {
+        orders: over.orders || 999_999_999 < numbers.order_count,
+        remotes: over.remotes || 999_999_999 < numbers.remote_count,
+        ytd: over.ytd || 99_999_999 < numbers.ytd,
+    }
+}
+
+/// The numbers of a line's STOCK row after all the lines.
+fn numbers_of_line(tables: &Tables, home: u32, lines: &[Line], line: &Line) -> StockNumbers
+    requires servable { IsServable tables.now.rows lines.now }
+    requires line { is_servable_line tables.now.rows line.now ≡ true }
+    ensures { result ≡ numbers_of (stock_after home lines.now (stock_at tables.now.rows line.now.supply line.now.item)) }
+{
+    numbers_after(stock_of(tables, line), home, lines)
+}
+
+/// Which columns of the lines' STOCK rows would leave their ranges.
+fn overruns_after(tables: &Tables, home: u32, lines: &[Line]) -> Overruns
+    requires servable { IsServable tables.now.rows lines.now }
+    ensures { result ≡ overruns_of (map (λ l. stock_after home lines.now (stock_at tables.now.rows l.supply l.item)) lines.now) }
+{
+    let mut over = Overruns {
+        orders: false,
+        remotes: false,
+        ytd: false,
+    };
+    for line in lines {
+        over = with_row(over, numbers_of_line(tables, home, lines, line));
+    }
+    over
+}
+
+#[tactic(auto, unfolding(crate::specs::Tests::range_tests))]
+fn first_overrun(number: u32, over: Overruns) -> Option<Refusal>
+    ensures { result ≡ first_finding (range_tests number over) }
+{
+    if number == 9_999_999 {
+        return Some(Refusal::OrderNumbers);
+    }
+    if over.orders {
+        return Some(Refusal::Count(Field::StockOrders));
+    }
+    if over.remotes {
+        return Some(Refusal::Count(Field::RemoteOrders));
+    }
+    if over.ytd {
+        return Some(Refusal::Total(Field::StockYtd));
+    }
+    None
+}
+
+#[tactic(auto, unfolding(tpcc_rows::specs::NewOrder::order_range_tests, crate::specs::Tests::range_tests))]
+/// The first refusal of an order that would take the number, if there is one.
+pub fn range_refusal(tables: &Tables, order: &Order, number: u32) -> Option<Refusal>
+    requires servable { IsServable tables.now.rows order.now.lines }
+    requires number { number ≡ order_number tables.now.rows order.now }
+    ensures { result ≡ order_refusal_by_range tables.now.rows order.now }
+{
+    let over = overruns_after(tables, order.warehouse, order.lines.as_slice());
+    first_overrun(number, over)
+}

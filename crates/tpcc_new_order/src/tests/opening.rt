@@ -1,0 +1,164 @@
+//! Rows of the plain opening: ten customers and a hundred items to a warehouse, and of them the few that orders name.
+use std::alloc::Global;
+use std::test::Fail;
+use tpcc_money::{Cents, Moment, Rate};
+use tpcc_rows::row::Row;
+use tpcc_rows::rows::*;
+use tpcc_rows::text::Text;
+use tpcc_tables::LoadFault;
+use tpcc_tables::tables::Tables;
+
+fn text(alloc: Global, bytes: &[u8]) -> Result<Text, Fail> {
+    Ok(Text::new(alloc, bytes, bytes.len())?)
+}
+
+/// A text, and a number in decimal with leading zeros in so many places.
+fn numbered(alloc: Global, text: &[u8], places: u32, number: u32) -> Result<Text, Fail> {
+    let mut bytes = Vec::from_slice(alloc, text)?;
+    for place in 0..places {
+        let power = 10u32.saturating_pow(places.saturating_sub(place).saturating_sub(1));
+        bytes.push(b'0' + (number / power.max(1) % 10) as u8)?;
+    }
+    Ok(Text::new(alloc, bytes.as_slice(), 500)?)
+}
+
+/// So many times one letter, behind a text.
+fn repeated(alloc: Global, text: &[u8], letter: u8, times: u32) -> Result<Text, Fail> {
+    let mut bytes = Vec::from_slice(alloc, text)?;
+    for _ in 0..times {
+        bytes.push(letter)?;
+    }
+    Ok(Text::new(alloc, bytes.as_slice(), 500)?)
+}
+
+/// 26 bytes, with ORIGINAL at the left or without.
+fn information(alloc: Global, letter: u8, is_original: bool) -> Result<Text, Fail> {
+    if is_original {
+        repeated(alloc, b"ORIGINAL".as_slice(), letter, 18)
+    } else {
+        repeated(alloc, b"".as_slice(), letter, 26)
+    }
+}
+
+fn address(alloc: Global) -> Result<Address, Fail> {
+    Ok(Address {
+        street_1: text(alloc, b"MAINSTREET".as_slice())?,
+        street_2: text(alloc, b"SIDESTREET".as_slice())?,
+        city: text(alloc, b"CITYCENTRE".as_slice())?,
+        state: text(alloc, b"AB".as_slice())?,
+        zip: text(alloc, b"000111111".as_slice())?,
+    })
+}
+
+fn warehouse(alloc: Global, id: u32) -> Result<Row, Fail> {
+    Ok(Row::Warehouse(WarehouseRow {
+        id,
+        name: numbered(alloc, b"WARE".as_slice(), 3, id)?,
+        address: address(alloc)?,
+        tax: Rate::new(1000),
+        ytd: Cents::new(100_000),
+    }))
+}
+
+fn district(alloc: Global, next_order: u32) -> Result<Row, Fail> {
+    Ok(Row::District(DistrictRow {
+        id: 1,
+        warehouse: 1,
+        name: text(alloc, b"DIST01".as_slice())?,
+        address: address(alloc)?,
+        tax: Rate::new(100),
+        ytd: Cents::new(10_000),
+        next_order,
+    }))
+}
+
+fn customer(alloc: Global) -> Result<Row, Fail> {
+    Ok(Row::Customer(CustomerRow {
+        id: 1,
+        district: 1,
+        warehouse: 1,
+        first: text(alloc, b"FIRST9998".as_slice())?,
+        middle: text(alloc, b"OE".as_slice())?,
+        last: text(alloc, b"BARBARBAR".as_slice())?,
+        address: address(alloc)?,
+        phone: text(alloc, b"0000000000000001".as_slice())?,
+        since: Moment::new(0),
+        credit: text(alloc, b"GC".as_slice())?,
+        credit_limit: Cents::new(5_000_000),
+        discount: Rate::new(100),
+        balance: Cents::new(-1000),
+        ytd_payment: Cents::new(1000),
+        payment_count: 1,
+        delivery_count: 0,
+        information: repeated(alloc, b"".as_slice(), b'x', 300)?,
+    }))
+}
+
+fn item(alloc: Global, id: u32) -> Result<Row, Fail> {
+    Ok(Row::Item(ItemRow {
+        id,
+        image: id,
+        name: numbered(alloc, b"ITEMNAME".as_slice(), 6, id)?,
+        price: Cents::new(99 + i64::from(id)),
+        information: information(alloc, b'i', id % 10 == 0)?,
+    }))
+}
+
+fn stock(alloc: Global, warehouse: u32, item: u32, order_count: u32) -> Result<Row, Fail> {
+    Ok(Row::Stock(StockRow {
+        item,
+        warehouse,
+        quantity: 10u32.saturating_add(item % 91),
+        district_information: [
+            repeated(alloc, b"01".as_slice(), b'd', 22)?,
+            repeated(alloc, b"02".as_slice(), b'd', 22)?,
+            repeated(alloc, b"03".as_slice(), b'd', 22)?,
+            repeated(alloc, b"04".as_slice(), b'd', 22)?,
+            repeated(alloc, b"05".as_slice(), b'd', 22)?,
+            repeated(alloc, b"06".as_slice(), b'd', 22)?,
+            repeated(alloc, b"07".as_slice(), b'd', 22)?,
+            repeated(alloc, b"08".as_slice(), b'd', 22)?,
+            repeated(alloc, b"09".as_slice(), b'd', 22)?,
+            repeated(alloc, b"10".as_slice(), b'd', 22)?,
+        ],
+        ytd: 0,
+        order_count,
+        remote_count: 0,
+        information: information(alloc, b's', item % 20 == 0)?,
+    }))
+}
+
+/// Loads a row; a growth that is refused once is tried again with the row that came back.
+fn put(tables: &mut Tables, row: Row) -> Result<(), LoadFault> {
+    match tables.load(row) {
+        Ok(()) => Ok(()),
+        Err((row, LoadFault::NoMemory)) => tables.load(row).map_err(|(_, fault)| fault),
+        Err((_, fault)) => Err(fault),
+    }
+}
+
+/// So many warehouses with these items in stock, of which the first has one district, with that next number, and one
+/// customer. The STOCK rows of item 1 have that S_ORDER_CNT.
+pub fn opened(
+    alloc: Global,
+    warehouses: u32,
+    items: &[u32],
+    next_order: u32,
+    order_count: u32,
+) -> Result<Tables, Fail> {
+    let mut tables = Tables::empty(alloc);
+    for id in items {
+        put(&mut tables, item(alloc, *id)?)?;
+    }
+    for id in 0..warehouses {
+        let id = id.saturating_add(1);
+        put(&mut tables, warehouse(alloc, id)?)?;
+        for item in items {
+            let count = if *item == 1 { order_count } else { 0 };
+            put(&mut tables, stock(alloc, id, *item, count)?)?;
+        }
+    }
+    put(&mut tables, district(alloc, next_order)?)?;
+    put(&mut tables, customer(alloc)?)?;
+    Ok(tables)
+}
