@@ -1,7 +1,6 @@
 -- The lines of an order number by number, and the lines of a district order by order.
-use Rattle.std.proofs.Common.{◌≡◌, ℕ, ◌+◌, ◌≤◌, Bool, true, false, List, [], ◌∷◌, ◌++◌, refl, sym, ap, ◌∙◌, arith, Option, Some, None, map, append-nil, append_assoc}
-use Rattle.std.specs.Prelude.{filter, find, ◌&&◌, ◌==◌, nat_lt, nat_le, pos}
-use Rattle.std.specs.List.{list_all}
+use Rattle.std.proofs.Common.{◌≡◌, ℕ, ◌+◌, ◌≤◌, Bool, true, false, List, [], ◌∷◌, ◌++◌, refl, sym, ap, ◌∙◌, arith, map, append-nil, append_assoc}
+use Rattle.std.specs.Prelude.{filter, ◌&&◌, ◌==◌, nat_lt, nat_le, pos}
 use Rattle.std.proofs.lemmas.Bool.Decides.{nat_tests}
 use Rattle.tpcc_rows.specs.declared.rows.OrderLineRow.{OrderLineRow}
 use Rattle.tpcc_rows.specs.declared.replies.StatusLine.{StatusLine}

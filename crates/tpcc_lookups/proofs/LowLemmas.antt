@@ -1,7 +1,8 @@
 -- Distinct items that are low in stock.
-use Rattle.std.proofs.Common.{◌≡◌, ℕ, suc, ◌+◌, ◌<◌, ◌≤◌, Bool, true, false, List, [], ◌∷◌, refl, sym, ap, ◌∙◌, arith, Option, Some, None, length, map, get_or, drop}
+use Rattle.std.proofs.Common.{◌≡◌, ℕ, suc, ◌+◌, ◌<◌, Bool, true, false, List, [], ◌∷◌, refl, sym, ap, ◌∙◌, arith, Option, Some, None, length, map, get_or, drop}
 use Rattle.std.specs.Prelude.{filter, find, ◌&&◌, ◌==◌, not, ◌||◌, nat_lt, if◌then◌else◌, is_some, unwrap_or, ◌-◌}
-use Rattle.std.specs.List.{list_any, list_all}
+use Rattle.std.specs.List.{list_any}
+use Rattle.std.proofs.Math.Seq.{drop-cons}
 use Rattle.std.proofs.lemmas.Bool.Decides.{nat_tests}
 use Rattle.tpcc_rows.specs.declared.rows.StockRow.{StockRow}
 use Rattle.tpcc_rows.specs.declared.rows.OrderRow.{OrderRow}
@@ -41,11 +42,15 @@ next_count false false rest here total count k f h = omega (arith, k)
 next_count true false rest here total count k f h = cc
 next_count false true rest here total count k f h = cc
 
+drop_next : (lines : List StatusLine) (i : ℕ) (d : StatusLine) → i < length lines → drop i lines ≡ get_or lines i d ∷ drop (i + 1) lines
+drop_next lines i d h = let e : suc i ≡ i + 1 = omega arith in drop-cons lines i d h ∙ (λ j. get_or lines i d ∷ drop (e j) lines)
+
 -- the count after the line at a place
-pub next_place : (low : ℕ → Bool) (lines : List StatusLine) (i : ℕ) (l : StatusLine) (rest : List StatusLine) (b : Bool) (total count : ℕ) → drop i lines ≡ l ∷ rest → b ≡ not (list_any (λ x. x.item == l.item) rest) && low l.item → count + passing low (drop i lines) ≡ total → (if b then count + 1 else count) + passing low rest ≡ total
-next_place low lines i l rest b total count e f h =
-    let k = ap (passing low) e ∙ one_more low l rest in
-    next_count b (not (list_any (λ x. x.item == l.item) rest) && low l.item) (passing low rest) (passing low (drop i lines)) total count k f h
+pub next_place : (low : ℕ → Bool) (lines later : List StatusLine) (i : ℕ) (d : StatusLine) (b : Bool) (total count : ℕ) → i < length lines → later ≡ drop (i + 1) lines → b ≡ not (list_any (λ x. x.item == (get_or lines i d).item) later) && low (get_or lines i d).item → count + passing low (drop i lines) ≡ total → (if b then count + 1 else count) + passing low (drop (i + 1) lines) ≡ total
+next_place low lines later i d b total count h k f e =
+    let l = get_or lines i d in
+    let rest = drop (i + 1) lines in
+    next_count b (not (list_any (λ x. x.item == l.item) rest) && low l.item) (passing low rest) (passing low (drop i lines)) total count (ap (passing low) (drop_next lines i d h) ∙ one_more low l rest) (f ∙ (λ j. not (list_any (λ x. x.item == l.item) (k j)) && low l.item)) e
 
 -- ---- a customer's last order is there
 

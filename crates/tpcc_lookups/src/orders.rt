@@ -83,11 +83,7 @@ fn status(
 
 /// One Order-Status. The refusals are NoWarehouse, NoDistrict and NoCustomer, the first that
 /// applies, and then NoMemory.
-pub fn order_status(
-    alloc: Global,
-    tables: &Tables,
-    query: &StatusQuery,
-) -> Result<Status, Refusal>
+pub fn order_status(alloc: Global, tables: &Tables, query: &StatusQuery) -> Result<Status, Refusal>
     ensures accepted { OnOk result (status_refusal tables.now.rows query.now ≡ None) }
     ensures reply { IfOk result (λ status. status ≡ status_reply tables.now.rows query.now) }
     ensures refused { IfErr result (λ refusal. option_or (status_refusal tables.now.rows query.now) (Some Refusal.NoMemory) ≡ Some refusal) }

@@ -1,5 +1,5 @@
 //! Stock-Level (2.8): how many of the items that a district ordered last are low in stock.
-ghost use Rattle.std.specs.Prelude.{◌≡◌, ◌≤◌, ◌-◌, ◌<◌, ◌==◌, ◌&&◌, not, nat_lt, nat_le, IfOk, IfErr, OnOk, Some, None, length, map, filter};
+ghost use Rattle.std.specs.Prelude.{◌≡◌, ◌≤◌, ◌+◌, ◌-◌, ◌<◌, ◌==◌, ◌&&◌, not, nat_lt, nat_le, IfOk, IfErr, OnOk, Some, None, length, drop, map, filter};
 ghost use Rattle.std.specs.Option.{option_or};
 ghost use Rattle.std.specs.List.{list_any};
 ghost use Rattle.tpcc_rows.specs.Lists.{distinct};
@@ -61,6 +61,14 @@ fn is_counted(tables: &Tables, query: &StockQuery, item: u32, later: &[StatusLin
     !has_item(later, item) && is_short(tables, query.warehouse, query.threshold, item)
 }
 
+/// The lines behind a place.
+fn behind(lines: &[StatusLine], position: usize) -> &[StatusLine]
+    requires { position < length lines.now }
+    ensures { result.now ≡ drop (position + 1) lines.now }
+{
+    &lines[position + 1..]
+}
+
 /// How many distinct items of the lines are below the threshold in the warehouse.
 fn count_short(tables: &Tables, query: &StockQuery, lines: &[StatusLine]) -> u32
     requires { length lines.now ≤ 300 }
@@ -68,7 +76,7 @@ fn count_short(tables: &Tables, query: &StockQuery, lines: &[StatusLine]) -> u32
 {
     let mut count = 0;
     for position in 0..lines.len() {
-        if is_counted(tables, query, lines[position].item, &lines[position + 1..]) {
+        if is_counted(tables, query, lines[position].item, behind(lines, position)) {
             count += 1;
         }
     }
@@ -77,11 +85,7 @@ fn count_short(tables: &Tables, query: &StockQuery, lines: &[StatusLine]) -> u32
 
 /// One Stock-Level. The refusals are NoWarehouse, NoDistrict and Threshold, the first that
 /// applies, and then NoMemory.
-pub fn stock_level(
-    alloc: Global,
-    tables: &Tables,
-    query: &StockQuery,
-) -> Result<Level, Refusal>
+pub fn stock_level(alloc: Global, tables: &Tables, query: &StockQuery) -> Result<Level, Refusal>
     ensures accepted { OnOk result (stock_refusal tables.now.rows query.now ≡ None) }
     ensures reply { IfOk result (λ level. level ≡ stock_reply tables.now.rows query.now) }
     ensures refused { IfErr result (λ refusal. option_or (stock_refusal tables.now.rows query.now) (Some Refusal.NoMemory) ≡ Some refusal) }

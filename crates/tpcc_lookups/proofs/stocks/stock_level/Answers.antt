@@ -1,4 +1,4 @@
-use Rattle.std.proofs.Common.{sym, ap, ◌∙◌}
+use Rattle.std.proofs.Common.{ap, ◌∙◌}
 use Rattle.tpcc_rows.specs.Lookups.{is_low, stock_reply}
 use Rattle.tpcc_lookups.proofs.LowLemmas.{level_is, passing}
 use Rattle.tpcc_lookups.proofs.stocks.stock_level.Goals as goal
