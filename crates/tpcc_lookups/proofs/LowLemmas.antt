@@ -46,11 +46,11 @@ drop_next : (lines : List StatusLine) (i : ℕ) (d : StatusLine) → i < length 
 drop_next lines i d h = let e : suc i ≡ i + 1 = omega arith in drop-cons lines i d h ∙ (λ j. get_or lines i d ∷ drop (e j) lines)
 
 -- the count after the line at a place
-pub next_place : (low : ℕ → Bool) (lines later : List StatusLine) (i : ℕ) (d : StatusLine) (b : Bool) (total count : ℕ) → i < length lines → later ≡ drop (i + 1) lines → b ≡ not (list_any (λ x. x.item == (get_or lines i d).item) later) && low (get_or lines i d).item → count + passing low (drop i lines) ≡ total → (if b then count + 1 else count) + passing low (drop (i + 1) lines) ≡ total
-next_place low lines later i d b total count h k f e =
-    let l = get_or lines i d in
+pub next_place : (low : ℕ → Bool) (lines later : List StatusLine) (i : ℕ) (l : StatusLine) (b : Bool) (total count : ℕ) → i < length lines → l ≡ get_or lines i l → later ≡ drop (i + 1) lines → b ≡ not (list_any (λ x. x.item == l.item) later) && low l.item → count + passing low (drop i lines) ≡ total → (if b then count + 1 else count) + passing low (drop (i + 1) lines) ≡ total
+next_place low lines later i l b total count h at k f e =
     let rest = drop (i + 1) lines in
-    next_count b (not (list_any (λ x. x.item == l.item) rest) && low l.item) (passing low rest) (passing low (drop i lines)) total count (ap (passing low) (drop_next lines i d h) ∙ one_more low l rest) (f ∙ (λ j. not (list_any (λ x. x.item == l.item) (k j)) && low l.item)) e
+    let here = drop_next lines i l h ∙ (λ j. sym at j ∷ rest) in
+    next_count b (not (list_any (λ x. x.item == l.item) rest) && low l.item) (passing low rest) (passing low (drop i lines)) total count (ap (passing low) here ∙ one_more low l rest) (f ∙ (λ j. not (list_any (λ x. x.item == l.item) (k j)) && low l.item)) e
 
 -- ---- a customer's last order is there
 

@@ -54,11 +54,11 @@ fn has_item(lines: &[StatusLine], item: u32) -> bool
     lines.iter().any(|line| line.item == item)
 }
 
-/// Whether an item is below the threshold and none of the later lines orders it too.
-fn is_counted(tables: &Tables, query: &StockQuery, item: u32, later: &[StatusLine]) -> bool
-    ensures { result ≡ not (list_any (λ l. l.item == item) later.now) && is_low tables.now.rows query.now.warehouse query.now.threshold item }
+/// Whether a line's item is below the threshold and none of the later lines orders it too.
+fn is_counted(tables: &Tables, query: &StockQuery, line: StatusLine, later: &[StatusLine]) -> bool
+    ensures { result ≡ not (list_any (λ l. l.item == line.item) later.now) && is_low tables.now.rows query.now.warehouse query.now.threshold line.item }
 {
-    !has_item(later, item) && is_short(tables, query.warehouse, query.threshold, item)
+    !has_item(later, line.item) && is_short(tables, query.warehouse, query.threshold, line.item)
 }
 
 /// The lines behind a place.
@@ -76,7 +76,7 @@ fn count_short(tables: &Tables, query: &StockQuery, lines: &[StatusLine]) -> u32
 {
     let mut count = 0;
     for position in 0..lines.len() {
-        if is_counted(tables, query, lines[position].item, behind(lines, position)) {
+        if is_counted(tables, query, lines[position], behind(lines, position)) {
             count += 1;
         }
     }

@@ -222,6 +222,42 @@ fn counts_an_item_once_by_the_home_stock(rt: HostRuntime) -> Result<(), Fail> {
     Ok(())
 }
 
+/// Run with `rt try --test --fail-alloc N`: a growth that is refused is told, and the query made
+/// again is answered as ever.
+#[test]
+fn answers_after_a_refused_growth(rt: HostRuntime) -> Result<(), Fail> {
+    let alloc = rt.alloc();
+    let scale = Scale {
+        customers: 1,
+        items: 5,
+        delivered: 0,
+    };
+    let tables = opened(alloc, scale)?;
+    let query = by_number(1, 1);
+    let status = match order_status(alloc, &tables, &query) {
+        Ok(status) => status,
+        Err(refusal) => {
+            assert_eq!(rt; refusal, Refusal::NoMemory);
+            order_status(alloc, &tables, &query).map_err(|_| "refused twice")?
+        }
+    };
+    assert_eq!(rt; status.order.ok_or("order")?.lines.as_slice().len(), 5);
+    let query = StockQuery {
+        warehouse: 1,
+        district: 1,
+        threshold: 12,
+    };
+    let level = match stock_level(alloc, &tables, &query) {
+        Ok(level) => level,
+        Err(refusal) => {
+            assert_eq!(rt; refusal, Refusal::NoMemory);
+            stock_level(alloc, &tables, &query).map_err(|_| "refused twice")?
+        }
+    };
+    assert_eq!(rt; level.low_stock, 1);
+    Ok(())
+}
+
 #[test]
 fn refuses_a_stock_level(rt: HostRuntime) -> Result<(), Fail> {
     let alloc = rt.alloc();

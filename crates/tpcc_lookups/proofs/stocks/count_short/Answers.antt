@@ -10,7 +10,7 @@ loop-position-preserved c =
     let count = c.loop-position.count in
     let lines = c.args.lines.now in
     let rest = passing low (drop (c.loop-position.position + 1) lines) in
-    let next = next_place low lines c.behind.result.now c.loop-position.position c.index-lines-position.result c.is_counted.result (passing low lines) count (omega arith) c.behind.ensures c.is_counted.ensures c.loop-position.invariant.counted in
+    let next = next_place low lines c.behind.result.now c.loop-position.position c.index-lines-position.result c.is_counted.result (passing low lines) count (omega arith) c.index-lines-position.is c.behind.ensures c.is_counted.ensures c.loop-position.invariant.counted in
     elim c.if-is_counted.branch [
       | then-is_counted w ↦
           record {
