@@ -1,0 +1,6 @@
+//! The consistency conditions of clause 3.3.2, tested over all rows. Nothing here takes memory.
+#![tactic(auto)]
+
+mod column;
+mod places;
+mod sums;
