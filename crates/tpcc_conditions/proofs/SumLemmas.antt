@@ -1,7 +1,9 @@
 -- Sums over the first rows of a table.
 use Rattle.std.proofs.Common.{◌≡◌, ℕ, zero, suc, ◌+◌, Bool, true, false, List, [], ◌∷◌, length, take, refl, sym, ap, ◌∙◌, arith, Option, Some, None}
-use Rattle.std.specs.Prelude.{ℤ, pos, ◌+ℤ◌, filter, slice_get, sum_by, if◌then◌else◌}
+use Rattle.std.specs.Ordering.{int_eq}
+use Rattle.std.specs.Prelude.{◌==◌, ℤ, pos, ◌+ℤ◌, filter, slice_get, sum_by, if◌then◌else◌}
 use Rattle.std.proofs.lemmas.Int.{ints}
+use Rattle.std.proofs.lemmas.Bool.Decides.{nat_tests}
 use Rattle.std.proofs.lemmas.List.Sums.{sum_by-cons}
 use Rattle.tpcc_money.specs.Amounts.{total}
 use Rattle.tpcc_rows.specs.Tables.{Rows, districts_of, paid_into_warehouse, paid_into_district, paid_by, orders_in, order_lines_in, lines_of, new_orders_in, is_paid_by, is_line_of}
@@ -88,3 +90,6 @@ lines_of_are rows w d o = all_length (is_line_of w d o) rows.order_lines
 pub new_orders_are : (rows : Rows) (w d : ℕ) → whole (NewOrders w d) rows ≡ pos (length (new_orders_in rows w d))
 unfolding sum_to count_of
 new_orders_are rows w d = all_length (new_order_in w d) rows.new_orders
+
+pub pos_eq : (a b : ℕ) → int_eq (pos a) (pos b) ≡ (a == b)
+pos_eq a b = grind (arith, ints, nat_tests)

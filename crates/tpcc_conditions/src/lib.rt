@@ -2,5 +2,6 @@
 #![tactic(auto)]
 
 mod column;
+mod keeps;
 mod places;
 mod sums;
