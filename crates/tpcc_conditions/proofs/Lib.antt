@@ -1,1 +1,2 @@
 mod SumLemmas
+mod NumberLemmas

@@ -3,5 +3,6 @@
 
 mod column;
 mod keeps;
+mod numbers;
 mod places;
 mod sums;
