@@ -1,6 +1,6 @@
 -- The greatest number of the first rows of a table.
 use Rattle.std.proofs.Common.{◌≡◌, ℕ, zero, suc, ◌+◌, Bool, true, false, List, [], ◌∷◌, length, take, map, refl, sym, ap, ◌∙◌, arith, Option, Some, None}
-use Rattle.std.specs.Prelude.{filter, slice_get, max, unwrap_or, if◌then◌else◌, ◌==◌, ◌&&◌, ◌||◌, is_none, ℤ, pos, ◌+ℤ◌, ◌-ℤ◌}
+use Rattle.std.specs.Prelude.{filter, slice_get, max, unwrap_or, if◌then◌else◌, ◌==◌, ◌&&◌, ◌||◌, is_none, is_some, not, ℤ, pos, ◌+ℤ◌, ◌-ℤ◌}
 use Rattle.std.specs.Ordering.{int_eq}
 use Rattle.std.proofs.lemmas.Int.{ints}
 use Rattle.std.proofs.lemmas.Bool.Decides.{nat_tests}
@@ -51,9 +51,24 @@ pub no_smallest : (ns : List ℕ) → is_none (smallest ns) ≡ (length ns == 0)
 no_smallest [] = refl
 no_smallest (n ∷ ns) = grind (arith, nat_tests)
 
-length_map : {X Y : Type 0} (f : X → Y) (xs : List X) → length (map f xs) ≡ length xs
+pub length_map : {X Y : Type 0} (f : X → Y) (xs : List X) → length (map f xs) ≡ length xs
 length_map f [] = refl
 length_map f (x ∷ xs) = ap suc (length_map f xs)
 
-span : (most least count : ℕ) → int_eq (pos most +ℤ pos 1 -ℤ pos least) (pos count) ≡ (most + 1 == least + count)
+pub span : (most least count : ℕ) → int_eq (pos most +ℤ pos 1 -ℤ pos least) (pos count) ≡ (most + 1 == least + count)
 span most least count = grind (arith, ints, nat_tests)
+
+-- of at least one number or of none
+pub some_length : (ns : List ℕ) (n : ℕ) → smallest ns ≡ Some n → (length ns == 0) ≡ false
+some_length [] n e = cc
+some_length (m ∷ ns) n e = grind (arith, nat_tests)
+
+pub none_length : (ns : List ℕ) → smallest ns ≡ None → (length ns == 0) ≡ true
+none_length [] e = refl
+none_length (m ∷ ns) e = cc
+
+pub none_by : {X : Type 0} (o : Option X) (b : Bool) → is_some o ≡ not b → b ≡ is_none o
+none_by None true e = refl
+none_by None false e = cc
+none_by (Some x) true e = cc
+none_by (Some x) false e = refl

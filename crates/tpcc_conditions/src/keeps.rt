@@ -1,9 +1,10 @@
 //! Conditions of one row (3.3.2).
-ghost use Rattle.std.specs.Prelude.{◌≡◌, is_none};
+ghost use Rattle.std.specs.Prelude.{◌≡◌, ◌+◌, ◌==◌, is_none, length, unwrap_or};
+ghost use Rattle.tpcc_rows.specs.Lists.{largest};
 ghost use Rattle.tpcc_rows.specs.Tables.{order_at};
-ghost use Rattle.tpcc_rows.specs.Conditions.{keeps_1, keeps_4, keeps_5, keeps_6, keeps_7, keeps_8, keeps_9};
+ghost use Rattle.tpcc_rows.specs.Conditions.{keeps_1, keeps_2, keeps_3, keeps_4, keeps_5, keeps_6, keeps_7, keeps_8, keeps_9, new_order_numbers};
 
-use crate::sums;
+use crate::{numbers, sums};
 use tpcc_rows::rows::*;
 use tpcc_tables::tables::Tables;
 
@@ -13,6 +14,52 @@ pub fn totals_of_districts(tables: &Tables, row: &WarehouseRow) -> bool
     ensures { result ≡ keeps_1 tables.now.rows row.now }
 {
     i128::from(row.ytd.value()) == sums::district_totals(tables, row.id)
+}
+
+/// Whether a district has no NEW-ORDER row.
+#[tactic(auto, using(crate::proofs::NumberLemmas::no_smallest))]
+fn has_no_new_order(tables: &Tables, row: &DistrictRow) -> bool
+    ensures { result ≡ (length (new_order_numbers tables.now.rows row.now) == 0) }
+{
+    tables.oldest_new(row.warehouse, row.id).is_none()
+}
+
+/// Whether D_NEXT_O_ID follows a number.
+fn is_next(row: &DistrictRow, number: u32) -> bool
+    ensures { result ≡ (row.now.next_order == number + 1) }
+{
+    u64::from(row.next_order) == u64::from(number) + 1
+}
+
+#[tactic(auto, unfolding(tpcc_rows::specs::Conditions::keeps_2))]
+/// Condition 2: D_NEXT_O_ID follows the largest O_ID and the largest NO_O_ID.
+pub fn next_number(tables: &Tables, row: &DistrictRow) -> bool
+    ensures { result ≡ keeps_2 tables.now.rows row.now }
+{
+    let order = numbers::largest_order(tables, row.warehouse, row.id);
+    let new_order = numbers::largest_new(tables, row.warehouse, row.id);
+    is_next(row, order) && (has_no_new_order(tables, row) || is_next(row, new_order))
+}
+
+#[tactic(auto, using(crate::proofs::NumberLemmas::span, crate::proofs::NumberLemmas::length_map))]
+/// Whether the NO_O_IDs of a district are as many as from the oldest one to the newest.
+fn is_span(tables: &Tables, row: &DistrictRow, oldest: u32) -> bool
+    ensures { result ≡ (unwrap_or (largest (new_order_numbers tables.now.rows row.now)) 0 + 1 == oldest + length (new_order_numbers tables.now.rows row.now)) }
+{
+    let newest = numbers::largest_new(tables, row.warehouse, row.id);
+    i128::from(newest) + 1 - i128::from(oldest)
+        == sums::new_orders(tables, row.warehouse, row.id)
+}
+
+#[tactic(auto, unfolding(tpcc_rows::specs::Conditions::keeps_3), using(crate::proofs::NumberLemmas::none_length))]
+/// Condition 3: the NO_O_IDs have no gap.
+pub fn no_gap(tables: &Tables, row: &DistrictRow) -> bool
+    ensures { result ≡ keeps_3 tables.now.rows row.now }
+{
+    match tables.oldest_new(row.warehouse, row.id) {
+        Some(oldest) => is_span(tables, row, oldest),
+        None => true,
+    }
 }
 
 #[tactic(auto, unfolding(tpcc_rows::specs::Conditions::keeps_4), using(crate::proofs::SumLemmas::pos_eq))]
