@@ -1,0 +1,2 @@
+mod SumLemmas
+mod NumberLemmas

@@ -1,0 +1,124 @@
+//! Conditions of one row (3.3.2).
+ghost use Rattle.std.specs.Prelude.{◌≡◌, ◌+◌, ◌==◌, is_none, length, unwrap_or};
+ghost use Rattle.tpcc_rows.specs.Lists.{largest};
+ghost use Rattle.tpcc_rows.specs.Tables.{order_at};
+ghost use Rattle.tpcc_rows.specs.Conditions.{keeps_1, keeps_2, keeps_3, keeps_4, keeps_5, keeps_6, keeps_7, keeps_8, keeps_9, new_order_numbers};
+
+use crate::{numbers, sums};
+use tpcc_rows::rows::*;
+use tpcc_tables::tables::Tables;
+
+#[tactic(auto, unfolding(tpcc_rows::specs::Conditions::keeps_1))]
+/// Condition 1: W_YTD is the sum of D_YTD.
+pub fn totals_of_districts(tables: &Tables, row: &WarehouseRow) -> bool
+    ensures { result ≡ keeps_1 tables.now.rows row.now }
+{
+    i128::from(row.ytd.value()) == sums::district_totals(tables, row.id)
+}
+
+/// Whether a district has no NEW-ORDER row.
+#[tactic(auto, using(crate::proofs::NumberLemmas::no_smallest))]
+fn has_no_new_order(tables: &Tables, row: &DistrictRow) -> bool
+    ensures { result ≡ (length (new_order_numbers tables.now.rows row.now) == 0) }
+{
+    tables.oldest_new(row.warehouse, row.id).is_none()
+}
+
+/// Whether D_NEXT_O_ID follows a number.
+fn is_next(row: &DistrictRow, number: u32) -> bool
+    ensures { result ≡ (row.now.next_order == number + 1) }
+{
+    u64::from(row.next_order) == u64::from(number) + 1
+}
+
+#[tactic(auto, unfolding(tpcc_rows::specs::Conditions::keeps_2))]
+/// Condition 2: D_NEXT_O_ID follows the largest O_ID and the largest NO_O_ID.
+pub fn next_number(tables: &Tables, row: &DistrictRow) -> bool
+    ensures { result ≡ keeps_2 tables.now.rows row.now }
+{
+    let order = numbers::largest_order(tables, row.warehouse, row.id);
+    let new_order = numbers::largest_new(tables, row.warehouse, row.id);
+    is_next(row, order) && (has_no_new_order(tables, row) || is_next(row, new_order))
+}
+
+#[tactic(auto, using(crate::proofs::NumberLemmas::span, crate::proofs::NumberLemmas::length_map))]
+/// Whether the NO_O_IDs of a district are as many as from the oldest one to the newest.
+fn is_span(tables: &Tables, row: &DistrictRow, oldest: u32) -> bool
+    ensures { result ≡ (unwrap_or (largest (new_order_numbers tables.now.rows row.now)) 0 + 1 == oldest + length (new_order_numbers tables.now.rows row.now)) }
+{
+    let newest = numbers::largest_new(tables, row.warehouse, row.id);
+    i128::from(newest) + 1 - i128::from(oldest)
+        == sums::new_orders(tables, row.warehouse, row.id)
+}
+
+#[tactic(auto, unfolding(tpcc_rows::specs::Conditions::keeps_3), using(crate::proofs::NumberLemmas::none_length))]
+/// Condition 3: the NO_O_IDs have no gap.
+pub fn no_gap(tables: &Tables, row: &DistrictRow) -> bool
+    ensures { result ≡ keeps_3 tables.now.rows row.now }
+{
+    match tables.oldest_new(row.warehouse, row.id) {
+        Some(oldest) => is_span(tables, row, oldest),
+        None => true,
+    }
+}
+
+#[tactic(auto, unfolding(tpcc_rows::specs::Conditions::keeps_4), using(crate::proofs::SumLemmas::pos_eq))]
+/// Condition 4: the sum of O_OL_CNT is the number of ORDER-LINE rows.
+pub fn lines_of_district(tables: &Tables, row: &DistrictRow) -> bool
+    ensures { result ≡ keeps_4 tables.now.rows row.now }
+{
+    sums::line_counts(tables, row.warehouse, row.id) == sums::lines(tables, row.warehouse, row.id)
+}
+
+#[tactic(auto, unfolding(tpcc_rows::specs::Conditions::keeps_5))]
+/// Condition 5: O_CARRIER_ID is null exactly if there is a NEW-ORDER row.
+pub fn carrier(tables: &Tables, row: &OrderRow) -> bool
+    ensures { result ≡ keeps_5 tables.now.rows row.now }
+{
+    row.carrier.is_none()
+        == tables
+            .new_order(row.warehouse, row.district, row.id)
+            .is_some()
+}
+
+#[tactic(auto, unfolding(tpcc_rows::specs::Conditions::keeps_6), using(crate::proofs::SumLemmas::pos_eq))]
+/// Condition 6: O_OL_CNT is the number of the order's ORDER-LINE rows.
+pub fn lines_of_order(tables: &Tables, row: &OrderRow) -> bool
+    ensures { result ≡ keeps_6 tables.now.rows row.now }
+{
+    i128::from(row.line_count) == sums::lines_of(tables, row.warehouse, row.district, row.id)
+}
+
+/// Whether an order's carrier is null; so it is of no order.
+fn waits(tables: &Tables, warehouse: u32, district: u32, order: u32) -> bool
+    ensures { result ≡ is_none (order_at tables.now.rows warehouse district order).carrier }
+{
+    match tables.order(warehouse, district, order) {
+        Some(row) => row.carrier.is_none(),
+        None => true,
+    }
+}
+
+#[tactic(auto, unfolding(tpcc_rows::specs::Conditions::keeps_7))]
+/// Condition 7: OL_DELIVERY_D is null exactly if the order's O_CARRIER_ID is.
+pub fn delivery_date(tables: &Tables, row: &OrderLineRow) -> bool
+    ensures { result ≡ keeps_7 tables.now.rows row.now }
+{
+    row.delivered.is_none() == waits(tables, row.warehouse, row.district, row.order)
+}
+
+#[tactic(auto, unfolding(tpcc_rows::specs::Conditions::keeps_8))]
+/// Condition 8: W_YTD is the sum of H_AMOUNT paid into the warehouse.
+pub fn payments_of_warehouse(tables: &Tables, row: &WarehouseRow) -> bool
+    ensures { result ≡ keeps_8 tables.now.rows row.now }
+{
+    i128::from(row.ytd.value()) == sums::paid_into_warehouse(tables, row.id)
+}
+
+#[tactic(auto, unfolding(tpcc_rows::specs::Conditions::keeps_9))]
+/// Condition 9: D_YTD is the sum of H_AMOUNT paid into the district.
+pub fn payments_of_district(tables: &Tables, row: &DistrictRow) -> bool
+    ensures { result ≡ keeps_9 tables.now.rows row.now }
+{
+    i128::from(row.ytd.value()) == sums::paid_into_district(tables, row.warehouse, row.id)
+}

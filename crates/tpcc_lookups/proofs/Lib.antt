@@ -1,0 +1,3 @@
+mod FilterLemmas
+mod LineLemmas
+mod LowLemmas

@@ -1,0 +1,16 @@
+//! Order-Status (2.6) and Stock-Level (2.8): they read the tables and change no row.
+#![tactic(auto)]
+
+mod asked;
+mod lines;
+#[cfg(test)]
+mod opening;
+pub mod orders;
+pub mod stocks;
+#[cfg(test)]
+mod tests;
+
+pub use orders::order_status;
+pub use stocks::stock_level;
+pub use tpcc_rows::replies::{LastOrder, Level, Status, StatusLine};
+pub use tpcc_rows::requests::{StatusQuery, StockQuery};
