@@ -1,0 +1,128 @@
+//! The book: a register with the totals of its purses.
+ghost use Rattle.std.specs.Prelude.{◌≡◌, IfOk, pos};
+ghost use Rattle.tpcc_book.specs.Past.{IsKept, opened};
+ghost use Rattle.tpcc_book.specs.Turn.{TakesTurn, MakesTurn};
+ghost use Rattle.tpcc_book.specs.Serve.{IsServed};
+
+use crate::answer::Answer;
+use crate::naming::{Blanks, Entries, Naming, PaidCents};
+use crate::purse::Purse;
+use crate::register::Register;
+use crate::turned::Turned;
+use std::alloc::Global;
+use std::marker::Model;
+use std::sync::ledger::Book as LedgerBook;
+use tpcc_delivery::Queue;
+use tpcc_journal::Journal;
+use tpcc_money::NoMemory;
+use tpcc_population::Opening;
+use tpcc_rows::Request;
+use tpcc_tables::tables::Tables;
+
+/// A register, and the two totals that its purses share: the journal's length, and by how much the
+/// sum of W_YTD rose since the opening.
+#[derive(Drop)]
+pub struct Book<N: Naming> {
+    register: Register,
+    entries: LedgerBook<Entries<N>>,
+    cents: LedgerBook<PaidCents<N>>,
+}
+
+impl<N: Naming> Model for Book<N> {
+    ghost use Rattle.std.specs.Prelude.{◌≡◌, length, pos};
+    ghost use Rattle.tpcc_book.specs.Past.{Past, rise_of};
+
+    ghost Value = { Past };
+
+    ghost view = { λ b. b.register };
+
+    ghost invariant = { λ b. (b.entries.total ≡ length b.register.entries) × (pos b.cents.total ≡ rise_of b.register) };
+}
+
+impl<N: Naming> Book<N> {
+    /// The book of an opening, with an empty journal, and its first purse: of terminal 0, with room
+    /// for 10,000 more. Refused only for want of memory.
+    pub fn start(
+        alloc: Global,
+        opening: &Opening,
+        blanks: Blanks,
+    ) -> Result<(Book<N>, Purse<N>), NoMemory>
+        requires entries { blanks.entries.name ≡ N.entries }
+        requires cents { blanks.cents.name ≡ N.cents }
+        ensures book { IfOk result (λ r. r.0 ≡ opened opening.now) }
+        ensures purse { IfOk result (λ r. r.1 ≡ record { terminal = 0; entries = 0; paid = pos 0; room = 10000 }) }
+    {
+        let register = Register::start(alloc, opening)?;
+        let (entries, entry_share) = blanks.entries.open::<Entries<N>>();
+        let (cents, cent_share) = blanks.cents.open::<PaidCents<N>>();
+        let book = Book {
+            register,
+            entries,
+            cents,
+        };
+        Ok((book, Purse::first(entry_share, cent_share)))
+    }
+
+    /// The rows.
+    pub fn tables(&self) -> &Tables
+        ensures rows { result.now.rows ≡ self.now.state.rows }
+        ensures kept { IsKept self.now }
+    {
+        self.register.tables()
+    }
+
+    /// The queue of deliveries.
+    pub fn queue(&self) -> &Queue
+        ensures tickets { result.now.tickets ≡ self.now.state.queue }
+        ensures kept { IsKept self.now }
+    {
+        self.register.queue()
+    }
+
+    /// The journal.
+    pub fn journal(&self) -> &Journal
+        ensures entries { result.now.entries ≡ self.now.entries }
+        ensures kept { IsKept self.now }
+    {
+        self.register.journal()
+    }
+
+    /// Serves a request for a purse: one transaction and one entry at its place, or the first refusal and nothing.
+    pub fn serve(&mut self, request: Request, purse: Purse<N>) -> Answer<Purse<N>>
+        ensures served { IsServed self.old request purse result self.new }
+    {
+        self.serve_by(
+            request,
+            purse,
+            |register: &mut Register, request: Request, terminal: u32, number: u64| {
+                register.turn(request, terminal, number)
+            },
+        )
+    }
+
+    /// The same by a call that makes a turn.
+    pub fn serve_by<F: FnOnce(&mut Register, Request, u32, u64) -> Turned>(
+        &mut self,
+        request: Request,
+        purse: Purse<N>,
+        turn: F,
+    ) -> Answer<Purse<N>>
+        requires takes { TakesTurn (F.pre turn) }
+        requires turns { MakesTurn (F.post turn) }
+        ensures served { IsServed self.old request purse result self.new }
+    {
+        let mut purse = purse;
+        let paid = request.paid();
+        let Turned {
+            request,
+            outcome,
+            place,
+        } = self
+            .register
+            .turn_by(request, purse.terminal(), purse.entries(), turn);
+        if outcome.is_ok() {
+            purse.credit(&mut self.entries, &mut self.cents, paid);
+        }
+        Answer::new(request, outcome, place, purse)
+    }
+}

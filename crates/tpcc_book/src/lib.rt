@@ -1,0 +1,18 @@
+//! The book: tables, queue and journal, served one transaction at a time, and the purses that share its totals.
+#![tactic(auto)]
+
+mod answer;
+mod book;
+mod naming;
+mod prepared;
+mod purse;
+mod register;
+mod steps;
+mod turned;
+
+pub use answer::Answer;
+pub use book::Book;
+pub use naming::{Blanks, Entries, Naming, PaidCents};
+pub use purse::Purse;
+pub use register::Register;
+pub use turned::Turned;

@@ -1,0 +1,162 @@
+//! Purses: shares of a book's two totals.
+ghost use Rattle.std.specs.Prelude.{◌≡◌, ◌+◌, ◌-◌, ◌<◌, ◌≤◌, ◌^◌, ◌≤ℤ◌, ◌+ℤ◌, pos};
+ghost use Rattle.tpcc_book.specs.Serve.{credited, joined};
+
+use crate::naming::{Entries, Naming, PaidCents};
+use std::marker::Model;
+use std::sync::ledger::{Book as LedgerBook, Share};
+use tpcc_money::Cents;
+
+/// A terminal's token for the entries that it made and the payments among them. A request is served
+/// only with a purse, and the purse's entries and cents are shares of the book's two totals: all
+/// purses of a book together have the journal's length and the rise of the warehouses.
+#[derive(Drop)]
+pub struct Purse<N: Naming> {
+    terminal: u32,
+    entries: u64,
+    cents: u64,
+    room: u32,
+    entry_share: Share<Entries<N>>,
+    cent_share: Share<PaidCents<N>>,
+}
+
+impl<N: Naming> Model for Purse<N> {
+    ghost use Rattle.std.specs.Prelude.{◌≡◌, ◌+◌, ◌<◌, ◌≤◌, ◌^◌, pos};
+    ghost use Rattle.tpcc_book.specs.Purses.{Held};
+
+    ghost Value = { Held };
+
+    ghost view = { λ p. record { terminal = p.terminal; entries = p.entries; paid = pos p.cents; room = p.room } };
+
+    ghost invariant = { λ p. (p.entry_share.parts ≡ p.room + 1) × (p.entry_share.amount ≡ p.entries) × (p.cent_share.parts ≡ p.room + 1) × (p.cent_share.amount ≡ p.cents) × (p.room ≤ 10000) × (p.cents < 2 ^ 63) };
+}
+
+impl<N: Naming> Purse<N> {
+    /// The terminal whose purse it is.
+    pub fn terminal(&self) -> u32
+        ensures terminal { result ≡ self.now.terminal }
+    {
+        self.terminal
+    }
+
+    /// How many entries of the journal were made by this purse.
+    pub fn entries(&self) -> u64
+        ensures entries { result ≡ self.now.entries }
+    {
+        self.entries
+    }
+
+    /// The sum of the payments that were made by this purse.
+    pub fn paid(&self) -> Cents
+        ensures paid { result ≡ self.now.paid }
+    {
+        Cents::new(self.cents as i64)
+    }
+
+    /// How many purses can still be split off, 10,000 at first.
+    pub fn room(&self) -> u32
+        ensures room { result ≡ self.now.room }
+    {
+        self.room
+    }
+
+    /// An empty purse of a terminal, which takes one of the rooms.
+    pub fn split(&mut self, terminal: u32) -> Purse<N>
+        requires room { 0 < self.old.room }
+        ensures new { result ≡ record { terminal = terminal; entries = 0; paid = pos 0; room = 0 } }
+        ensures rest { self.old ≡ record self.new { room = self.new.room + 1 } }
+    {
+        self.room -= 1;
+        Purse {
+            terminal,
+            entries: 0,
+            cents: 0,
+            room: 0,
+            entry_share: self.entry_share.split_off(1, 0),
+            cent_share: self.cent_share.split_off(1, 0),
+        }
+    }
+
+    pub(crate) fn first(entry_share: Share<Entries<N>>, cent_share: Share<PaidCents<N>>) -> Purse<N>
+        requires parts { (entry_share.parts ≡ 10001) × (cent_share.parts ≡ 10001) }
+        requires amounts { (entry_share.amount ≡ 0) × (cent_share.amount ≡ 0) }
+        ensures { result ≡ record { terminal = 0; entries = 0; paid = pos 0; room = 10000 } }
+    {
+        Purse {
+            terminal: 0,
+            entries: 0,
+            cents: 0,
+            room: 10_000,
+            entry_share,
+            cent_share,
+        }
+    }
+
+    // One more entry, and an amount that was paid.
+    pub(crate) fn credit(
+        &mut self,
+        entries: &mut LedgerBook<Entries<N>>,
+        cents: &mut LedgerBook<PaidCents<N>>,
+        amount: Cents,
+    )
+        requires entries { entries.old.total < 2 ^ 63 }
+        requires least { pos 0 ≤ℤ amount }
+        requires cents { (pos cents.old.total +ℤ amount) ≤ℤ pos 9223372036854775807 }
+        ensures purse { self.new ≡ credited self.old amount }
+        ensures entries { entries.new.total ≡ entries.old.total + 1 }
+        ensures cents { pos cents.new.total ≡ pos cents.old.total +ℤ amount }
+    {
+        let paid = amount.value().unsigned_abs();
+        entries.add(&mut self.entry_share, 1);
+        entries.audit(&mut self.entry_share);
+        cents.add(&mut self.cent_share, paid);
+        cents.audit(&mut self.cent_share);
+        self.entries += 1;
+        self.cents += paid;
+    }
+
+    // Takes another purse in.
+    pub(crate) fn join(
+        &mut self,
+        other: Purse<N>,
+        entries: &mut LedgerBook<Entries<N>>,
+        cents: &mut LedgerBook<PaidCents<N>>,
+    )
+        requires entries { entries.old.total < 2 ^ 64 }
+        requires cents { cents.old.total < 2 ^ 63 }
+        ensures purse { self.new ≡ joined self.old other }
+        ensures entries { entries.new.total ≡ entries.old.total }
+        ensures cents { cents.new.total ≡ cents.old.total }
+    {
+        let Purse {
+            terminal: _,
+            entries: more_entries,
+            cents: more_cents,
+            room: more_room,
+            entry_share,
+            cent_share,
+        } = other;
+        self.entry_share.merge(entry_share);
+        entries.audit(&mut self.entry_share);
+        self.cent_share.merge(cent_share);
+        cents.audit(&mut self.cent_share);
+        self.entries += more_entries;
+        self.cents += more_cents;
+        self.room += more_room + 1;
+    }
+
+    // A purse with every room has all entries and all cents.
+    pub(crate) fn audit(
+        &mut self,
+        entries: &mut LedgerBook<Entries<N>>,
+        cents: &mut LedgerBook<PaidCents<N>>,
+    )
+        requires { self.old.room ≡ 10000 }
+        ensures same { self.new ≡ self.old }
+        ensures entries { (entries.new.total ≡ entries.old.total) × (self.old.entries ≡ entries.old.total) }
+        ensures cents { (cents.new.total ≡ cents.old.total) × (self.old.paid ≡ pos cents.old.total) }
+    {
+        entries.audit(&mut self.entry_share);
+        cents.audit(&mut self.cent_share);
+    }
+}

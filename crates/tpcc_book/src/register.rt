@@ -1,0 +1,170 @@
+//! The register: the rows of an opening, and the journal that they are the replay of.
+ghost use Rattle.std.specs.Prelude.{◌≡◌, Some, None, IfOk, IfErr, OnOk};
+ghost use Rattle.tpcc_book.specs.Past.{IsKept, Rises, opened};
+ghost use Rattle.tpcc_book.specs.Turn.{IsTurn, TakesTurn, MakesTurn, Accepts, Refuses};
+
+use crate::steps::{commit, make_ready};
+use crate::turned::Turned;
+use std::alloc::Global;
+use std::marker::Model;
+use tpcc_delivery::Queue;
+use tpcc_journal::Journal;
+use tpcc_money::NoMemory;
+use tpcc_population::{Opening, fill, opening_is_sound};
+use tpcc_rows::{Refusal, Reply, Request, laws};
+use tpcc_tables::tables::Tables;
+
+/// Tables, queue and journal of one opening. Whenever it can be seen, its rows satisfy the
+/// consistency conditions 1 to 10 and 12 (3.3.2) and are the opening's rows followed by the journal
+/// one transaction at a time, and each entry's reply is what its request gave at its place.
+#[derive(Drop)]
+pub struct Register {
+    opening: Opening,
+    tables: Tables,
+    queue: Queue,
+    journal: Journal,
+    alloc: Global,
+}
+
+impl Model for Register {
+    ghost use Rattle.tpcc_book.specs.Past.{Past, IsKept};
+
+    ghost Value = { Past };
+
+    ghost view = { λ r. record { opening = r.opening; state = record { rows = r.tables.rows; queue = r.queue.tickets }; entries = r.journal.entries } };
+
+    ghost invariant = { λ r. IsKept (record { opening = r.opening; state = record { rows = r.tables.rows; queue = r.queue.tickets }; entries = r.journal.entries }) };
+}
+
+impl Register {
+    /// The register of an opening, with no ticket and no entry. Refused only for want of memory.
+    pub fn start(alloc: Global, opening: &Opening) -> Result<Register, NoMemory>
+        ensures started { IfOk result (λ r. r ≡ opened opening.now) }
+    {
+        let tables = fill(alloc, opening)?;
+        opening_is_sound(*opening);
+        Ok(Register {
+            opening: *opening,
+            tables,
+            queue: Queue::new(alloc),
+            journal: Journal::new(alloc),
+            alloc,
+        })
+    }
+
+    /// The rows.
+    pub fn tables(&self) -> &Tables
+        ensures rows { result.now.rows ≡ self.now.state.rows }
+        ensures kept { IsKept self.now }
+    {
+        &self.tables
+    }
+
+    /// The queue of deliveries.
+    pub fn queue(&self) -> &Queue
+        ensures tickets { result.now.tickets ≡ self.now.state.queue }
+        ensures kept { IsKept self.now }
+    {
+        &self.queue
+    }
+
+    /// The journal.
+    pub fn journal(&self) -> &Journal
+        ensures entries { result.now.entries ≡ self.now.entries }
+        ensures kept { IsKept self.now }
+    {
+        &self.journal
+    }
+
+    /// The opening that the register was started with.
+    pub fn opening(&self) -> Opening
+        ensures opening { result ≡ self.now.opening }
+    {
+        self.opening
+    }
+
+    /// Serves a request of a terminal that made `number` entries: one transaction and one entry, or
+    /// the first refusal and nothing.
+    pub fn turn(&mut self, request: Request, terminal: u32, number: u64) -> Turned
+        ensures turn { IsTurn self.old terminal number request result self.new }
+    {
+        match self.try_turn(&request, terminal, number) {
+            Ok((reply, place)) => Turned {
+                request,
+                outcome: Ok(reply),
+                place: Some(place),
+            },
+            Err(refusal) => Turned {
+                request,
+                outcome: Err(refusal),
+                place: None,
+            },
+        }
+    }
+
+    // The turn of a call that makes one.
+    pub(crate) fn turn_by<F: FnOnce(&mut Register, Request, u32, u64) -> Turned>(
+        &mut self,
+        request: Request,
+        terminal: u32,
+        number: u64,
+        turn: F,
+    ) -> Turned
+        requires takes { TakesTurn (F.pre turn) }
+        requires turns { MakesTurn (F.post turn) }
+        ensures turn { IsTurn self.old terminal number request result self.new }
+        ensures rise { OnOk result.outcome (Rises self.old request self.new) }
+    {
+        let _opening = self.opening;
+        laws::turn_pays();
+        called(self, request, terminal, number, turn)
+    }
+
+    // Makes the turn, or tells why not.
+    fn try_turn(
+        &mut self,
+        request: &Request,
+        terminal: u32,
+        number: u64,
+    ) -> Result<(Reply, u64), Refusal>
+        ensures ok { IfOk result (λ r. Accepts self.old terminal number request.now (Some r.1) self.new r.0) }
+        ensures err { IfErr result (λ e. Refuses self.old terminal number request.now None self.new e) }
+    {
+        let ready = make_ready(
+            self.alloc,
+            &mut self.tables,
+            &mut self.queue,
+            &mut self.journal,
+            request,
+            terminal,
+            number,
+        )?;
+        let made = commit(
+            &mut self.tables,
+            &mut self.queue,
+            &mut self.journal,
+            ready,
+            terminal,
+            number,
+        );
+        request.moment_in_range();
+        laws::turn_keeps();
+        laws::turn_pays();
+        laws::journal_grows();
+        Ok(made)
+    }
+}
+
+fn called<F: FnOnce(&mut Register, Request, u32, u64) -> Turned>(
+    register: &mut Register,
+    request: Request,
+    terminal: u32,
+    number: u64,
+    turn: F,
+) -> Turned
+    requires takes { TakesTurn (F.pre turn) }
+    requires turns { MakesTurn (F.post turn) }
+    ensures turn { IsTurn register.old terminal number request result register.new }
+{
+    turn(register, request, terminal, number)
+}

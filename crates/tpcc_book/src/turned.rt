@@ -1,0 +1,11 @@
+//! What a turn gives back.
+use tpcc_rows::{Refusal, Reply, Request};
+
+/// A request with its outcome: a reply and the place of its entry in the journal, or a refusal and no place.
+#[derive(Debug, Drop)]
+pub struct Turned {
+    pub request: Request,
+    pub outcome: Result<Reply, Refusal>,
+    /// The entry's place, counted from 0.
+    pub place: Option<u64>,
+}
