@@ -1,5 +1,0 @@
-use Rattle.std.specs.Io.KnownBytes.{Keeps}
-use Rattle.tpcc.proofs.reader.next_byte.Given as goal
-
-abbrev pub invariant-turns : goal.invariant-turns
-invariant-turns g l = Keeps (g.R.Read.remaining l.initial.input) (g.R.Read.remaining l.input)

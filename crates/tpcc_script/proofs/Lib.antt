@@ -1,0 +1,10 @@
+mod WorkedScripts
+pub mod Parts
+pub mod Turns
+pub mod Runs
+pub mod Plainly
+pub mod Lines
+pub mod Parting
+pub mod Ordering
+pub mod EmptyBook
+pub mod Sessions

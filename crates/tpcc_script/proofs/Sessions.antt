@@ -1,0 +1,69 @@
+-- A session between two requests.
+use Rattle.std.proofs.Common.{◌≡◌, ◌∙◌, sym, refl, ap, subst, ℕ, ◌+◌, List, [], ◌∷◌, ◌++◌, arith}
+use Rattle.std.specs.Prelude.{Bool, cond, Option, Some, None, Result, Ok, Err, ◌==◌, true}
+use Rattle.std.specs.List.{count_by}
+use Rattle.std.specs.Option.{option_or}
+use Rattle.std.proofs.lemmas.List.Sums.{sum_by_push}
+use Rattle.std.proofs.lemmas.Bool.Decides.{nat_tests}
+use Rattle.tpcc_rows.specs.declared.entry.Entry.{Entry}
+use Rattle.tpcc_rows.specs.declared.requests.Request.{Request}
+use Rattle.tpcc_rows.specs.declared.refusals.Refusal.{Refusal}
+use Rattle.tpcc_rows.specs.declared.refusals.Refusal.TheVariants.{NoMemory}
+use Rattle.tpcc_rows.specs.declared.replies.Reply.{Reply}
+use Rattle.tpcc_rows.specs.Replay.{count_of}
+use Rattle.tpcc_rows.specs.Turn.{reply_to}
+use Rattle.tpcc_book.specs.Past.{Past}
+use Rattle.tpcc_book.specs.Purses.{Held}
+use Rattle.tpcc_book.specs.Told.{Told}
+use Rattle.tpcc_book.specs.Turn.{turn_refusal, Accepts, Refuses}
+use Rattle.tpcc_book.specs.Serve.{IsServed}
+use Rattle.tpcc_script.specs.Book.{Book, terminal, accepting, request_refusal}
+use Rattle.tpcc_script.specs.Session.{IsAtHand, seen}
+use Rattle.tpcc_script.specs.Steps.{IsTurn}
+
+-- one more entry of the terminal
+count-push : (t : ℕ) (entries : List Entry) (e : Entry) → e.terminal ≡ t → count_of t (entries ++ e ∷ []) ≡ count_of t entries + 1
+count-push t entries e own =
+    let is : (e.terminal == t) ≡ true = grind (arith, nat_tests) in
+    sum_by_push (λ x. cond (x.terminal == t) 1 0) entries e ∙ ap (λ (b : Bool). count_of t entries + cond b 1 0) is
+
+at_hand-by : (old new : Past) (purse : Held) (request asked : Request) (o : Result Reply Refusal) (place : Option ℕ) (after : Held)
+    → purse.terminal ≡ terminal → purse.entries ≡ count_of terminal old.entries
+    → IsServed old request purse (record { request = asked; outcome = o; place = place; purse = after }) new → IsAtHand new (Some after)
+at_hand-by old new purse request asked (Ok reply) place after own all served =
+    let accepts = served.turn.accepts reply refl in
+    let grown = served.fits.purse_is in
+    let counted = count-push terminal old.entries (record { terminal = purse.terminal; number = purse.entries; request = request; reply = reply_to old.state request }) own in
+    record {
+      purse = after;
+      held_is = refl;
+      terminal_is = ap (λ (p : Held). p.terminal) grown ∙ own;
+      entries = ap (λ (p : Held). p.entries) grown ∙ ap (λ n. n + 1) all ∙ sym counted ∙ ap (λ (p : Past). count_of terminal p.entries) (sym accepts.new_is);
+    }
+at_hand-by old new purse request asked (Err r) place after own all served =
+    let refuses = served.turn.refuses r refl in
+    let same = served.fits.purse_is in
+    record {
+      purse = after;
+      held_is = refl;
+      terminal_is = ap (λ (p : Held). p.terminal) same ∙ own;
+      entries = ap (λ (p : Held). p.entries) same ∙ all ∙ ap (λ (p : Past). count_of terminal p.entries) (sym refuses.same);
+    }
+
+-- the purse comes back with every entry of its terminal
+pub at_hand : (old new : Past) (purse : Held) (request : Request) (answer : Told Held)
+    → purse.terminal ≡ terminal → purse.entries ≡ count_of terminal old.entries
+    → IsServed old request purse answer new → IsAtHand new (Some answer.purse)
+at_hand old new purse request answer own all served =
+    at_hand-by old new purse request answer.request answer.outcome answer.place answer.purse own all served
+
+same-held : (a b : Held) → Some a ≡ Some b → a ≡ b
+same-held a b h = cc
+
+-- the purse that was taken out made each entry of its terminal, and so did the one that is put back
+pub back_at_hand : (old new : Past) (held taken : Option Held) (purse back : Held) (request : Request) (answer : Told Held)
+    → (at : IsAtHand old held) → taken ≡ held → taken ≡ Some purse → back ≡ answer.purse
+    → IsServed old request purse answer new → IsAtHand new (Some back)
+back_at_hand old new held taken purse back request answer at out is put served =
+    let same = same-held purse at.purse (sym is ∙ out ∙ at.held_is) in
+    rw put (at_hand old new purse request answer (ap (λ (p : Held). p.terminal) same ∙ at.terminal_is) (ap (λ (p : Held). p.entries) same ∙ at.entries) served)

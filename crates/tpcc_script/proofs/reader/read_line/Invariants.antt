@@ -1,0 +1,10 @@
+use Rattle.std.proofs.Common.{◌≡◌, ℕ, ◌≤◌, ◌<◌, List, Some, length}
+use Rattle.tpcc_script.proofs.Lines.{Reading}
+use Rattle.tpcc_script.proofs.reader.read_line.Given as goal
+
+abbrev pub invariant-bytes : goal.invariant-bytes
+invariant-bytes g l = record {
+  short : length l.line.items ≤ 4096;
+  fits : 0 < length l.line.items → l.number ≤ 1000000;
+  reading : (bytes : List ℕ) → g.R.Read.remaining l.fn.input ≡ Some bytes → Reading bytes l.line.items (g.R.Read.remaining l.input);
+}

@@ -1,0 +1,69 @@
+-- What a script's calls print, and the book that they leave.
+use Rattle.std.specs.Prelude.{ℕ, List, [], ◌∷◌, ◌++◌, Option, Some, None}
+use Rattle.tpcc_rows.specs.declared.requests.Request.{Request}
+use Rattle.tpcc_rows.specs.declared.refusals.Refusal.{Refusal}
+use Rattle.tpcc_rows.specs.declared.entry.Entry.{Entry}
+use Rattle.tpcc_rows.specs.Conditions.{first_broken}
+use Rattle.tpcc_rows.specs.Tables.{State}
+use Rattle.tpcc_rows.specs.Turn.{state_after, reply_to}
+use Rattle.tpcc_book.specs.Turn.{turn_refusal}
+use Rattle.tpcc_rows.specs.Replay.{count_of, results_of}
+use Rattle.tpcc_terminal.specs.Screens.{reply_screen, refused_screen, check_screen, results_screen}
+use Rattle.tpcc_script.specs.declared.call.Call.{Call}
+use Rattle.tpcc_script.specs.declared.call.Call.TheVariants.{Ask, Check, Results}
+
+-- the state and the journal that led to it
+pub record Book : Type 0 where
+  pub state : State
+  pub journal : List Entry
+
+-- a book with no rows and no entries
+abbrev pub no_rows : Book
+no_rows = record {
+  state = record {
+    rows = record { warehouses = []; districts = []; customers = []; histories = []; orders = []; order_lines = []; new_orders = []; items = []; stocks = [] };
+    queue = [];
+  };
+  journal = [];
+}
+
+-- the terminal of a script's requests
+abbrev pub terminal : ℕ
+terminal = 1
+
+-- why a request is refused, want of memory aside: the purse has made each entry of its terminal
+abbrev pub request_refusal : Book → Request → Option Refusal
+request_refusal b request = turn_refusal b.state b.journal terminal (count_of terminal b.journal) request
+
+-- the book after a request that is not refused: one transaction and one entry
+abbrev pub accepting : Book → Request → Book
+accepting b request = record {
+  state = state_after b.state request;
+  journal = b.journal ++ record { terminal = terminal; number = count_of terminal b.journal; request = request; reply = reply_to b.state request } ∷ [];
+}
+
+-- a request's screen and the book after it
+abbrev pub screen_by : Book → Request → Option Refusal → List ℕ
+screen_by b request None = reply_screen (reply_to b.state request)
+screen_by b request (Some r) = refused_screen r
+
+abbrev pub book_by : Book → Request → Option Refusal → Book
+book_by b request None = accepting b request
+book_by b request (Some r) = b
+
+-- a call's screen at a book
+unfoldable pub screen_of : Book → Call → List ℕ
+screen_of b (Ask request) = screen_by b request (request_refusal b request)
+screen_of b Check = check_screen (first_broken b.state.rows)
+screen_of b Results = results_screen (results_of b.journal)
+
+-- the book after a call
+unfoldable pub book_after : Book → Call → Book
+book_after b (Ask request) = book_by b request (request_refusal b request)
+book_after b Check = b
+book_after b Results = b
+
+-- the screens of calls, each at the book that those before it left
+abbrev pub screens_of : Book → List Call → List ℕ
+screens_of b [] = []
+screens_of b (call ∷ calls) = screen_of b call ++ screens_of (book_after b call) calls

@@ -1,0 +1,7 @@
+pub mod Script
+pub mod Book
+pub mod Run
+pub mod Steps
+pub mod Part
+pub mod Reading
+pub mod Session

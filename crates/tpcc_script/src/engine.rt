@@ -1,0 +1,29 @@
+//! What serves a script's calls.
+ghost use Rattle.std.specs.Prelude.{◌≡◌, IfOk};
+ghost use Rattle.tpcc_rows.specs.Conditions.{first_broken};
+ghost use Rattle.tpcc_rows.specs.Replay.{results_of};
+ghost use Rattle.tpcc_terminal.specs.Screens as screens;
+ghost use Rattle.tpcc_script.specs.Book.{Book};
+ghost use Rattle.tpcc_script.specs.Steps.{IsTurn};
+
+use std::alloc::Global;
+use tpcc_money::NoMemory;
+use tpcc_rows::{Refusal, Reply, Request};
+use tpcc_terminal::Screen;
+
+/// Tables with the journal that led to them.
+pub trait Engine {
+    ghost book: { Self → Book };
+
+    /// One turn: a transaction and its entry, or a refusal and no change.
+    fn serve(&mut self, request: Request) -> Result<Reply, Refusal>
+        ensures { IsTurn (book self.old) request result (book self.new) };
+
+    /// The screen of the consistency conditions (3.3.2).
+    fn check(&self, alloc: Global) -> Result<Screen, NoMemory>
+        ensures { IfOk result (λ s. s ≡ screens.check_screen (first_broken (book self.now).state.rows)) };
+
+    /// The screens of the delivery result log (2.7.2.2).
+    fn results(&self, alloc: Global) -> Result<Screen, NoMemory>
+        ensures { IfOk result (λ s. s ≡ screens.results_screen (results_of (book self.now).journal)) };
+}

@@ -1,0 +1,24 @@
+//! Scripts: lines of requests and calls, and the screens that answer them.
+#![tactic(auto)]
+
+mod call;
+mod engine;
+mod fault;
+mod parse;
+mod reader;
+#[cfg(test)]
+mod run_tests;
+mod script;
+mod session;
+mod show;
+#[cfg(test)]
+mod tests;
+mod words;
+mod writer;
+
+pub use call::Call;
+pub use engine::Engine;
+pub use fault::ScriptFault;
+pub use parse::parse_line;
+pub use script::run_script;
+

@@ -1,0 +1,86 @@
+//! A book that serves the requests of one script.
+ghost use Rattle.std.specs.Prelude.{◌≡◌, IfOk};
+ghost use Rattle.tpcc_book.specs.Past.{opened};
+
+use crate::engine::Engine;
+use std::alloc::Global;
+use std::marker::Model;
+use tpcc_book::{Answer, Blanks, Book, Naming, Purse};
+use tpcc_journal::results;
+use tpcc_money::NoMemory;
+use tpcc_population::Opening;
+use tpcc_rows::{Refusal, Reply, Request, laws};
+use tpcc_terminal::{Screen, consistent_screen, results_screen};
+
+/// A book, with the purse of terminal 1, which makes each of the script's requests.
+#[derive(Drop)]
+pub(crate) struct Session<N: Naming> {
+    book: Book<N>,
+    purse: Option<Purse<N>>,
+}
+
+impl<N: Naming> Model for Session<N> {
+    ghost use Rattle.tpcc_book.specs.Past.{Past};
+    ghost use Rattle.tpcc_script.specs.Session.{IsAtHand};
+
+    ghost Value = { Past };
+
+    ghost view = { λ s. s.book };
+
+    ghost invariant = { λ s. IsAtHand s.book s.purse };
+}
+
+impl<N: Naming> Session<N> {
+    /// The session of an opening. Refused only for want of memory.
+    pub(crate) fn start(
+        alloc: Global,
+        opening: &Opening,
+        blanks: Blanks,
+    ) -> Result<Session<N>, NoMemory>
+        requires entries { blanks.entries.name ≡ N.entries }
+        requires cents { blanks.cents.name ≡ N.cents }
+        ensures started { IfOk result (λ s. s ≡ opened opening.now) }
+    {
+        let (book, first) = Book::start(alloc, opening, blanks)?;
+        let mut first = first;
+        let purse = first.split(1);
+        Ok(Session {
+            book,
+            purse: Some(purse),
+        })
+    }
+}
+
+impl<N: Naming> Engine for Session<N> {
+    ghost use Rattle.tpcc_script.specs.Session.{seen};
+
+    ghost book = { seen };
+
+    fn serve(&mut self, request: Request) -> Result<Reply, Refusal> {
+        let Some(purse) = self.purse.take() else {
+            unreachable!()
+        };
+        let (outcome, purse) = parts(self.book.serve(request, purse));
+        self.purse = Some(purse);
+        outcome
+    }
+
+    fn check(&self, alloc: Global) -> Result<Screen, NoMemory> {
+        let _tables = self.book.tables();
+        laws::nothing_broken();
+        consistent_screen(alloc)
+    }
+
+    fn results(&self, alloc: Global) -> Result<Screen, NoMemory> {
+        let log = results(alloc, self.book.journal())?;
+        results_screen(alloc, log.as_slice())
+    }
+}
+
+fn parts<P>(answer: Answer<P>) -> (Result<Reply, Refusal>, P)
+    ensures outcome { result.0 ≡ answer.outcome }
+    ensures purse { result.1 ≡ answer.purse }
+{
+    let (_, outcome, _, purse) = answer.into_parts();
+    (outcome, purse)
+}
