@@ -6,14 +6,13 @@ use Rattle.std.specs.Option.{option_or}
 use Rattle.tpcc_money.specs.Amounts.{total}
 use Rattle.tpcc_rows.specs.declared.requests.Line.{Line}
 use Rattle.tpcc_rows.specs.declared.requests.Order.{Order}
-use Rattle.tpcc_rows.specs.declared.refusals.Refusal.{Refusal}
 use Rattle.tpcc_rows.specs.declared.replies.AcceptedOrder.{AcceptedOrder}
 use Rattle.tpcc_rows.specs.declared.replies.RolledBackOrder.{RolledBackOrder}
 use Rattle.tpcc_rows.specs.declared.replies.Entered.TheVariants.{Accepted, RolledBack}
 use Rattle.tpcc_rows.specs.Ranges.{is_within, is_district_row}
 use Rattle.tpcc_rows.specs.Tables.{Rows, is_district, find_item, find_stock, no_warehouse, no_district, no_customer}
 use Rattle.tpcc_rows.specs.WellKeyed.{IsInRange, IsStocked}
-use Rattle.tpcc_rows.specs.NewOrder.{is_rolled_back, order_number, order_refusal, order_refusal_by_input, order_refusal_by_range, order_input_tests, accepted_order, rolled_back_order, amount_of, entered_line, order_reply, rows_after_order, after_order}
+use Rattle.tpcc_rows.specs.NewOrder.{is_rolled_back, order_refusal, order_refusal_by_input, order_refusal_by_range, order_input_tests, accepted_order, rolled_back_order, amount_of, entered_line, order_reply, rows_after_order, after_order}
 use Rattle.tpcc_rows.proofs.ListLemmas.{list_all_both}
 use Rattle.tpcc_rows.proofs.RemoveLemmas.{found_passes}
 use Rattle.tpcc_rows.proofs.PaymentRanges.{district_tells, district_key_is}
@@ -38,9 +37,6 @@ accepted_is rows o n h =
 pub rolled_back_is : (rows : Rows) (o : Order) (n : NamedRows) → IsNamed rows o n → rolled_back_from o n.district.now n.customer.now ≡ rolled_back_order rows o
 unfolding rolled_back_order
 rolled_back_is rows o n h = λ i. rolled_back_from o (unwrap_or (sym h.district i) no_district) (unwrap_or (sym h.customer i) no_customer)
-
-pub number_is : (rows : Rows) (o : Order) (n : NamedRows) → IsNamed rows o n → n.district.now.next_order ≡ order_number rows o
-number_is rows o n h = λ i. (unwrap_or (sym h.district i) no_district).next_order
 
 -- ---- what is known of an order that its input does not refuse
 
@@ -73,14 +69,8 @@ servable rows o stocked accepted used =
 
 -- ---- why an order is refused, and that it is not
 
-pub refused_by_input : (rows : Rows) (o : Order) (r : Refusal) → order_refusal_by_input rows o ≡ Some r → order_refusal rows o ≡ Some r
-refused_by_input rows o r e = λ i. option_or (e i) (if is_rolled_back rows o then None else order_refusal_by_range rows o)
-
 pub not_refused_back : (rows : Rows) (o : Order) → order_refusal_by_input rows o ≡ None → is_rolled_back rows o ≡ true → order_refusal rows o ≡ None
 not_refused_back rows o e b = λ i. option_or (e i) (if b i then None else order_refusal_by_range rows o)
-
-pub by_range : (rows : Rows) (o : Order) → order_refusal_by_input rows o ≡ None → is_rolled_back rows o ≡ false → order_refusal rows o ≡ order_refusal_by_range rows o
-by_range rows o e b = λ i. option_or (e i) (if b i then None else order_refusal_by_range rows o)
 
 -- ---- what an order does
 

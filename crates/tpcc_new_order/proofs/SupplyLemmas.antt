@@ -1,15 +1,13 @@
 -- The numbers of a STOCK row, line after line.
-use Rattle.std.proofs.Common.{◌≡◌, ℕ, zero, suc, ◌+◌, ◌<◌, ◌≤◌, ◌==◌, Bool, true, false, List, [], ◌∷◌, length, get_or, refl, sym, ap, ◌∙◌, arith}
+use Rattle.std.proofs.Common.{◌≡◌, ℕ, ◌+◌, ◌==◌, Bool, true, false, List, [], ◌∷◌, length, refl, sym, ap, ◌∙◌, arith}
 use Rattle.std.specs.Prelude.{◌&&◌, fold, filter, if◌then◌else◌}
 use Rattle.std.specs.List.{list_all}
-use Rattle.std.proofs.lemmas.Bool.Decides.{nat_tests}
 use Rattle.tpcc_rows.specs.declared.rows.StockRow.{StockRow}
 use Rattle.tpcc_rows.specs.declared.requests.Line.{Line}
 use Rattle.tpcc_rows.specs.Ranges.{is_within, is_stock_row, is_text, is_exact_text, greatest_count, greatest_stock_ytd}
 use Rattle.tpcc_rows.specs.NewOrder.{quantity_after, stock_after_line, stock_after}
 use Rattle.tpcc_rows.proofs.OrderParents.{split}
 use Rattle.tpcc_rows.proofs.Numbers.{within}
-use Rattle.tpcc_new_order.specs.declared.supply.StockNumbers.{StockNumbers}
 use Rattle.tpcc_new_order.specs.Supplied.{numbers_of, numbers_after_line, IsNear}
 
 abbrev supplied : ℕ → ℕ → Line → Bool
@@ -57,34 +55,3 @@ near_start s h =
       orders = omega (arith, (within 0 greatest_count s.order_count o.1).1);
       remotes = omega (arith, (within 0 greatest_count s.remote_count r.1).1);
     }
-
-quantity_stays : (stock q : ℕ) → stock ≤ 100 → q ≤ 10 → quantity_after stock q ≤ 100
-quantity_stays stock q h k = grind (arith, nat_tests)
-
-remote_stays : (b : Bool) (r m n : ℕ) → r ≤ m + n → (if b then r else r + 1) ≤ m + (n + 1)
-remote_stays true r m n h = omega arith
-remote_stays false r m n h = omega arith
-
-near_taken : (home n : ℕ) (s : StockRow) (l : Line) (k : StockNumbers) (b : Bool) → supplied s.warehouse s.item l ≡ b → l.quantity ≤ 10 → IsNear n k → IsNear (n + 1) (if b then record { quantity = quantity_after k.quantity l.quantity; ytd = k.ytd + l.quantity; order_count = k.order_count + 1; remote_count = if s.warehouse == home then k.remote_count else k.remote_count + 1 } else k)
-near_taken home n s l k true e q h =
-    record {
-      quantity = quantity_stays k.quantity l.quantity h.quantity q;
-      ytd = omega (arith, h.ytd);
-      orders = omega (arith, h.orders);
-      remotes = remote_stays (s.warehouse == home) k.remote_count greatest_count n h.remotes;
-    }
-near_taken home n s l k false e q h = record { quantity = h.quantity; ytd = omega (arith, h.ytd); orders = omega (arith, h.orders); remotes = omega (arith, h.remotes) }
-
--- and so after each further line
-pub near_later : (home n : ℕ) (s : StockRow) (l : Line) (k : StockNumbers) → l.quantity ≤ 10 → IsNear n k → IsNear (n + 1) (numbers_after_line home s k l)
-near_later home n s l k q h = near_taken home n s l k (supplied s.warehouse s.item l) refl q h
-
--- what is near after fewer lines is near after fifteen
-pub near_before : (n : ℕ) (k : StockNumbers) → n ≤ 15 → IsNear n k → IsNear 15 k
-near_before n k few h = record { quantity = h.quantity; ytd = omega (arith, h.ytd); orders = omega (arith, h.orders); remotes = omega (arith, h.remotes) }
-
--- what a test says of all lines it says of the one at a place
-pub passes_at : {X : Type 0} (test : X → Bool) (xs : List X) (i : ℕ) (x : X) → i < length xs → x ≡ get_or xs i x → list_all test xs ≡ true → test x ≡ true
-passes_at test [] i x lt e h = absurd (omega arith)
-passes_at test (y ∷ xs) zero x lt e h = ap test e ∙ (split (test y) _ h).0
-passes_at test (y ∷ xs) (suc i) x lt e h = passes_at test xs i x (omega arith) e (split (test y) _ h).1

@@ -41,31 +41,40 @@ fn information(alloc: Global, letter: u8, is_original: bool) -> Result<Text, Fai
 }
 
 fn address(alloc: Global) -> Result<Address, Fail> {
+    let street_1 = text(alloc, b"MAINSTREET".as_slice())?;
+    let street_2 = text(alloc, b"SIDESTREET".as_slice())?;
+    let city = text(alloc, b"CITYCENTRE".as_slice())?;
+    let state = text(alloc, b"AB".as_slice())?;
+    let zip = text(alloc, b"000111111".as_slice())?;
     Ok(Address {
-        street_1: text(alloc, b"MAINSTREET".as_slice())?,
-        street_2: text(alloc, b"SIDESTREET".as_slice())?,
-        city: text(alloc, b"CITYCENTRE".as_slice())?,
-        state: text(alloc, b"AB".as_slice())?,
-        zip: text(alloc, b"000111111".as_slice())?,
+        street_1,
+        street_2,
+        city,
+        state,
+        zip,
     })
 }
 
 fn warehouse(alloc: Global, id: u32) -> Result<Row, Fail> {
+    let name = numbered(alloc, b"WARE".as_slice(), 3, id)?;
+    let address = address(alloc)?;
     Ok(Row::Warehouse(WarehouseRow {
         id,
-        name: numbered(alloc, b"WARE".as_slice(), 3, id)?,
-        address: address(alloc)?,
+        name,
+        address,
         tax: Rate::new(1000),
         ytd: Cents::new(100_000),
     }))
 }
 
 fn district(alloc: Global, next_order: u32) -> Result<Row, Fail> {
+    let name = text(alloc, b"DIST01".as_slice())?;
+    let address = address(alloc)?;
     Ok(Row::District(DistrictRow {
         id: 1,
         warehouse: 1,
-        name: text(alloc, b"DIST01".as_slice())?,
-        address: address(alloc)?,
+        name,
+        address,
         tax: Rate::new(100),
         ytd: Cents::new(10_000),
         next_order,
@@ -73,58 +82,72 @@ fn district(alloc: Global, next_order: u32) -> Result<Row, Fail> {
 }
 
 fn customer(alloc: Global) -> Result<Row, Fail> {
+    let first = text(alloc, b"FIRST9998".as_slice())?;
+    let middle = text(alloc, b"OE".as_slice())?;
+    let last = text(alloc, b"BARBARBAR".as_slice())?;
+    let address = address(alloc)?;
+    let phone = text(alloc, b"0000000000000001".as_slice())?;
+    let credit = text(alloc, b"GC".as_slice())?;
+    let information = repeated(alloc, b"".as_slice(), b'x', 300)?;
     Ok(Row::Customer(CustomerRow {
         id: 1,
         district: 1,
         warehouse: 1,
-        first: text(alloc, b"FIRST9998".as_slice())?,
-        middle: text(alloc, b"OE".as_slice())?,
-        last: text(alloc, b"BARBARBAR".as_slice())?,
-        address: address(alloc)?,
-        phone: text(alloc, b"0000000000000001".as_slice())?,
+        first,
+        middle,
+        last,
+        address,
+        phone,
         since: Moment::new(0),
-        credit: text(alloc, b"GC".as_slice())?,
+        credit,
         credit_limit: Cents::new(5_000_000),
         discount: Rate::new(100),
         balance: Cents::new(-1000),
         ytd_payment: Cents::new(1000),
         payment_count: 1,
         delivery_count: 0,
-        information: repeated(alloc, b"".as_slice(), b'x', 300)?,
+        information,
     }))
 }
 
 fn item(alloc: Global, id: u32) -> Result<Row, Fail> {
+    let name = numbered(alloc, b"ITEMNAME".as_slice(), 6, id)?;
+    let information = information(alloc, b'i', id % 10 == 0)?;
     Ok(Row::Item(ItemRow {
         id,
         image: id,
-        name: numbered(alloc, b"ITEMNAME".as_slice(), 6, id)?,
+        name,
         price: Cents::new(99 + i64::from(id)),
-        information: information(alloc, b'i', id % 10 == 0)?,
+        information,
     }))
 }
 
+fn district_texts(alloc: Global) -> Result<[Text; 10], Fail> {
+    let d1 = repeated(alloc, b"01".as_slice(), b'd', 22)?;
+    let d2 = repeated(alloc, b"02".as_slice(), b'd', 22)?;
+    let d3 = repeated(alloc, b"03".as_slice(), b'd', 22)?;
+    let d4 = repeated(alloc, b"04".as_slice(), b'd', 22)?;
+    let d5 = repeated(alloc, b"05".as_slice(), b'd', 22)?;
+    let d6 = repeated(alloc, b"06".as_slice(), b'd', 22)?;
+    let d7 = repeated(alloc, b"07".as_slice(), b'd', 22)?;
+    let d8 = repeated(alloc, b"08".as_slice(), b'd', 22)?;
+    let d9 = repeated(alloc, b"09".as_slice(), b'd', 22)?;
+    let d10 = repeated(alloc, b"10".as_slice(), b'd', 22)?;
+    Ok([d1, d2, d3, d4, d5, d6, d7, d8, d9, d10])
+}
+
 fn stock(alloc: Global, warehouse: u32, item: u32, order_count: u32) -> Result<Row, Fail> {
+    let district_information = district_texts(alloc)?;
+    let information = information(alloc, b's', item % 20 == 0)?;
     Ok(Row::Stock(StockRow {
         item,
         warehouse,
         quantity: 10u32.saturating_add(item % 91),
-        district_information: [
-            repeated(alloc, b"01".as_slice(), b'd', 22)?,
-            repeated(alloc, b"02".as_slice(), b'd', 22)?,
-            repeated(alloc, b"03".as_slice(), b'd', 22)?,
-            repeated(alloc, b"04".as_slice(), b'd', 22)?,
-            repeated(alloc, b"05".as_slice(), b'd', 22)?,
-            repeated(alloc, b"06".as_slice(), b'd', 22)?,
-            repeated(alloc, b"07".as_slice(), b'd', 22)?,
-            repeated(alloc, b"08".as_slice(), b'd', 22)?,
-            repeated(alloc, b"09".as_slice(), b'd', 22)?,
-            repeated(alloc, b"10".as_slice(), b'd', 22)?,
-        ],
+        district_information,
         ytd: 0,
         order_count,
         remote_count: 0,
-        information: information(alloc, b's', item % 20 == 0)?,
+        information,
     }))
 }
 
