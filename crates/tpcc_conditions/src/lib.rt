@@ -8,8 +8,12 @@ mod condition;
 mod delivered;
 mod keeps;
 mod numbers;
+#[cfg(test)]
+mod opening;
 mod places;
 mod sums;
+#[cfg(test)]
+mod tests;
 
 pub use all::check;
 pub use broken::Broken;
