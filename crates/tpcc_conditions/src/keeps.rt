@@ -90,7 +90,7 @@ pub fn lines_of_order(tables: &Tables, row: &OrderRow) -> bool
     i128::from(row.line_count) == sums::lines_of(tables, row.warehouse, row.district, row.id)
 }
 
-/// Whether an order's carrier is null; so it is of no order.
+/// Whether an order's carrier is null, as it is of an order that is not there.
 fn waits(tables: &Tables, warehouse: u32, district: u32, order: u32) -> bool
     ensures { result ≡ is_none (order_at tables.now.rows warehouse district order).carrier }
 {

@@ -22,7 +22,7 @@ fn address(alloc: Global) -> Result<Address, Fail> {
     })
 }
 
-pub fn warehouse(alloc: Global, ytd: i64) -> Result<Row, Fail> {
+fn warehouse(alloc: Global, ytd: i64) -> Result<Row, Fail> {
     Ok(Row::Warehouse(WarehouseRow {
         id: 1,
         name: text(alloc, b"WARE001".as_slice())?,
@@ -32,19 +32,19 @@ pub fn warehouse(alloc: Global, ytd: i64) -> Result<Row, Fail> {
     }))
 }
 
-pub fn district(alloc: Global, ytd: i64) -> Result<Row, Fail> {
+fn district(alloc: Global, id: u32, ytd: i64, next_order: u32) -> Result<Row, Fail> {
     Ok(Row::District(DistrictRow {
-        id: 1,
+        id,
         warehouse: 1,
         name: text(alloc, b"DIST01".as_slice())?,
         address: address(alloc)?,
         tax: Rate::new(100),
         ytd: Cents::new(ytd),
-        next_order: 11,
+        next_order,
     }))
 }
 
-pub fn customer(alloc: Global, id: u32, balance: i64, ytd_payment: i64) -> Result<Row, Fail> {
+fn customer(alloc: Global, id: u32, balance: i64, ytd_payment: i64) -> Result<Row, Fail> {
     Ok(Row::Customer(CustomerRow {
         id,
         district: 1,
@@ -66,7 +66,7 @@ pub fn customer(alloc: Global, id: u32, balance: i64, ytd_payment: i64) -> Resul
     }))
 }
 
-pub fn history(alloc: Global, customer: u32) -> Result<Row, Fail> {
+fn history(alloc: Global, customer: u32) -> Result<Row, Fail> {
     Ok(Row::History(HistoryRow {
         customer,
         customer_district: 1,
@@ -79,7 +79,7 @@ pub fn history(alloc: Global, customer: u32) -> Result<Row, Fail> {
     }))
 }
 
-pub fn order(id: u32, line_count: u32) -> Row {
+fn order(id: u32, line_count: u32) -> Row {
     Row::Order(OrderRow {
         id,
         district: 1,
@@ -92,7 +92,7 @@ pub fn order(id: u32, line_count: u32) -> Row {
     })
 }
 
-pub fn line(alloc: Global, order: u32, number: u32, waits: bool) -> Result<Row, Fail> {
+fn line(alloc: Global, order: u32, number: u32, waits: bool) -> Result<Row, Fail> {
     Ok(Row::OrderLine(OrderLineRow {
         order,
         district: 1,
@@ -107,7 +107,7 @@ pub fn line(alloc: Global, order: u32, number: u32, waits: bool) -> Result<Row, 
     }))
 }
 
-pub fn new_order(order: u32) -> Row {
+fn new_order(order: u32) -> Row {
     Row::NewOrder(NewOrderRow {
         order,
         district: 1,
@@ -152,7 +152,7 @@ fn stock(alloc: Global) -> Result<Row, Fail> {
 }
 
 /// Loads a row; a growth that is refused once is tried again with the row that came back.
-pub fn put(tables: &mut Tables, row: Row) -> Result<(), LoadFault> {
+fn put(tables: &mut Tables, row: Row) -> Result<(), LoadFault> {
     match tables.load(row) {
         Ok(()) => Ok(()),
         Err((row, LoadFault::NoMemory)) => tables.load(row).map_err(|(_, fault)| fault),
@@ -166,6 +166,7 @@ pub enum Change {
     Nothing,
     WarehouseTotal,
     BothTotals,
+    CentInAnotherDistrict,
     NewOrderLeftOut(u32),
     LineAdded,
     LineCounts,
@@ -177,15 +178,20 @@ pub enum Change {
 /// The opening with one change.
 pub fn opened(alloc: Global, change: Change) -> Result<Tables, Fail> {
     let mut tables = Tables::empty(alloc);
-    let changed = change == Change::BothTotals;
-    let district_ytd = if changed { 10_001 } else { 10_000 };
-    let warehouse_ytd = if changed || change == Change::WarehouseTotal {
-        10_001
-    } else {
-        10_000
+    let warehouse_ytd = match change {
+        Change::WarehouseTotal | Change::BothTotals => 10_001,
+        _ => 10_000,
+    };
+    let district_ytd = match change {
+        Change::BothTotals => 10_001,
+        Change::CentInAnotherDistrict => 9_999,
+        _ => 10_000,
     };
     put(&mut tables, warehouse(alloc, warehouse_ytd)?)?;
-    put(&mut tables, district(alloc, district_ytd)?)?;
+    put(&mut tables, district(alloc, 1, district_ytd, 11)?)?;
+    if change == Change::CentInAnotherDistrict {
+        put(&mut tables, district(alloc, 2, 1, 1)?)?;
+    }
     put(&mut tables, item(alloc)?)?;
     put(&mut tables, stock(alloc)?)?;
     for id in 1..11u32 {

@@ -24,6 +24,7 @@ fn names_the_first_broken_condition(rt: HostRuntime) -> Result<(), Fail> {
         (Change::LineCounts, at(6, 1, 4)),
         (Change::LineUndelivered, at(7, 1, 2)),
         (Change::BothTotals, at(8, 0, 0)),
+        (Change::CentInAnotherDistrict, at(9, 1, 0)),
         (Change::Balance, at(10, 1, 3)),
         (Change::YtdPayment, at(12, 1, 3)),
     ];
