@@ -1,2 +1,4 @@
 mod SumLemmas
 mod NumberLemmas
+mod DeliveredLemmas
+mod FirstLemmas

@@ -1,10 +1,10 @@
 -- The greatest number of the first rows of a table.
-use Rattle.std.proofs.Common.{◌≡◌, ℕ, zero, suc, ◌+◌, Bool, true, false, List, [], ◌∷◌, length, take, map, refl, sym, ap, ◌∙◌, arith, Option, Some, None}
-use Rattle.std.specs.Prelude.{filter, slice_get, max, unwrap_or, if◌then◌else◌, ◌==◌, ◌&&◌, ◌||◌, is_none, is_some, not, ℤ, pos, ◌+ℤ◌, ◌-ℤ◌}
+use Rattle.std.proofs.Common.{◌≡◌, ℕ, zero, suc, ◌+◌, Bool, true, false, List, [], ◌∷◌, length, take, map, refl, ap, ◌∙◌, arith, Option, Some, None}
+use Rattle.std.specs.Prelude.{filter, slice_get, max, unwrap_or, if◌then◌else◌, ◌==◌, ◌&&◌, is_none, is_some, not, pos, ◌+ℤ◌, ◌-ℤ◌}
 use Rattle.std.specs.Ordering.{int_eq}
 use Rattle.std.proofs.lemmas.Int.{ints}
 use Rattle.std.proofs.lemmas.Bool.Decides.{nat_tests}
-use Rattle.tpcc_rows.specs.Lists.{largest, smallest, larger, smaller}
+use Rattle.tpcc_rows.specs.Lists.{largest, smallest, larger}
 use Rattle.tpcc_rows.specs.Tables.{Rows, orders_in, new_orders_in}
 use Rattle.tpcc_tables.specs.Positions.{count_of}
 use Rattle.tpcc_conditions.specs.declared.numbers.Numbers.{Numbers}

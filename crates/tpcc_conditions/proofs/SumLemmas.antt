@@ -1,15 +1,17 @@
 -- Sums over the first rows of a table.
-use Rattle.std.proofs.Common.{◌≡◌, ℕ, zero, suc, ◌+◌, Bool, true, false, List, [], ◌∷◌, length, take, refl, sym, ap, ◌∙◌, arith, Option, Some, None}
+use Rattle.std.proofs.Common.{◌≡◌, ℕ, zero, suc, ◌+◌, Bool, List, [], ◌∷◌, length, take, refl, ◌∙◌, arith}
 use Rattle.std.specs.Ordering.{int_eq}
-use Rattle.std.specs.Prelude.{◌==◌, ℤ, pos, ◌+ℤ◌, filter, slice_get, sum_by, if◌then◌else◌}
+use Rattle.std.specs.Prelude.{◌==◌, ℤ, pos, ◌+ℤ◌, filter, slice_get, sum_by}
 use Rattle.std.proofs.lemmas.Int.{ints}
 use Rattle.std.proofs.lemmas.Bool.Decides.{nat_tests}
 use Rattle.std.proofs.lemmas.List.Sums.{sum_by-cons}
 use Rattle.tpcc_money.specs.Amounts.{total}
-use Rattle.tpcc_rows.specs.Tables.{Rows, districts_of, paid_into_warehouse, paid_into_district, paid_by, orders_in, order_lines_in, lines_of, new_orders_in, is_paid_by, is_line_of}
+use Rattle.tpcc_rows.specs.Tables.{Rows, districts_of, paid_into_warehouse, paid_into_district, paid_by, orders_in, order_lines_in, lines_of, new_orders_in, is_paid_by, is_line_of, is_order_of}
+use Rattle.tpcc_rows.specs.declared.rows.CustomerRow.{CustomerRow}
+use Rattle.tpcc_rows.specs.Conditions.{delivered_amount, delivered_to}
 use Rattle.tpcc_tables.specs.Positions.{count_of}
 use Rattle.tpcc_conditions.specs.declared.column.Column.{Column}
-use Rattle.tpcc_conditions.specs.declared.column.Column.TheVariants.{DistrictTotals, PaidIntoWarehouse, PaidIntoDistrict, PaidBy, LineCounts, Lines, LinesOf, NewOrders}
+use Rattle.tpcc_conditions.specs.declared.column.Column.TheVariants.{DistrictTotals, PaidIntoWarehouse, PaidIntoDistrict, PaidBy, LineCounts, Lines, LinesOf, NewOrders, DeliveredTo}
 use Rattle.tpcc_conditions.specs.Columns.{of_row, district_of, paid_warehouse, paid_district, order_in, line_in, new_order_in, from_row, term_of, sum_to, table_of}
 
 take_suc : {X : Type 0} (f : X → ℤ) (xs : List X) (i : ℕ) → total f (take (suc i) xs) ≡ total f (take i xs) +ℤ from_row f (slice_get xs i)
@@ -31,6 +33,7 @@ next_term (LineCounts w d) rows i = take_next (of_row (order_in w d) (λ o. pos 
 next_term (Lines w d) rows i = take_next (of_row (line_in w d) (λ _. pos 1)) rows.order_lines i
 next_term (LinesOf w d o) rows i = take_next (of_row (is_line_of w d o) (λ _. pos 1)) rows.order_lines i
 next_term (NewOrders w d) rows i = take_next (of_row (new_order_in w d) (λ _. pos 1)) rows.new_orders i
+next_term (DeliveredTo w d c) rows i = take_next (of_row (is_order_of w d c) (delivered_amount rows)) rows.orders i
 
 pub no_term : (column : Column) (rows : Rows) → pos 0 ≡ sum_to column rows 0
 unfolding sum_to
@@ -42,6 +45,7 @@ no_term (LineCounts w d) rows = refl
 no_term (Lines w d) rows = refl
 no_term (LinesOf w d o) rows = refl
 no_term (NewOrders w d) rows = refl
+no_term (DeliveredTo w d c) rows = refl
 
 -- the sum over all rows is the sum over those that pass
 all_total : {X : Type 0} (p : X → Bool) (f : X → ℤ) (xs : List X) → total (of_row p f) (take (length xs) xs) ≡ total f (filter p xs)
@@ -93,3 +97,7 @@ new_orders_are rows w d = all_length (new_order_in w d) rows.new_orders
 
 pub pos_eq : (a b : ℕ) → int_eq (pos a) (pos b) ≡ (a == b)
 pos_eq a b = grind (arith, ints, nat_tests)
+
+pub delivered_to_is : (rows : Rows) (c : CustomerRow) → whole (DeliveredTo c.warehouse c.district c.id) rows ≡ delivered_to rows c
+unfolding sum_to count_of
+delivered_to_is rows c = all_total (is_order_of c.warehouse c.district c.id) (delivered_amount rows) rows.orders

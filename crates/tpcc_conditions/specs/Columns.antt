@@ -1,5 +1,5 @@
 -- The numbers that the conditions add up (3.3.2): one for each row of a table, 0 for a row of another key.
-use Rattle.std.specs.Prelude.{ℕ, Bool, ◌==◌, ◌&&◌, List, take, ℤ, pos, if◌then◌else◌, Option, Some, None, slice_get}
+use Rattle.std.specs.Prelude.{ℕ, Bool, ◌==◌, ◌&&◌, take, ℤ, pos, if◌then◌else◌, Option, Some, None, slice_get}
 use Rattle.tpcc_money.specs.Amounts.{total}
 use Rattle.tpcc_rows.specs.declared.rows.DistrictRow.{DistrictRow}
 use Rattle.tpcc_rows.specs.declared.rows.HistoryRow.{HistoryRow}
@@ -8,9 +8,10 @@ use Rattle.tpcc_rows.specs.declared.rows.OrderLineRow.{OrderLineRow}
 use Rattle.tpcc_rows.specs.declared.rows.NewOrderRow.{NewOrderRow}
 use Rattle.tpcc_rows.specs.declared.row.Table.{Table}
 use Rattle.tpcc_rows.specs.declared.row.Table.TheVariants as table
-use Rattle.tpcc_rows.specs.Tables.{Rows, is_paid_by, is_line_of}
+use Rattle.tpcc_rows.specs.Tables.{Rows, is_paid_by, is_line_of, is_order_of}
+use Rattle.tpcc_rows.specs.Conditions.{delivered_amount}
 use Rattle.tpcc_conditions.specs.declared.column.Column.{Column}
-use Rattle.tpcc_conditions.specs.declared.column.Column.TheVariants.{DistrictTotals, PaidIntoWarehouse, PaidIntoDistrict, PaidBy, LineCounts, Lines, LinesOf, NewOrders}
+use Rattle.tpcc_conditions.specs.declared.column.Column.TheVariants.{DistrictTotals, PaidIntoWarehouse, PaidIntoDistrict, PaidBy, LineCounts, Lines, LinesOf, NewOrders, DeliveredTo}
 
 -- the number of a row that passes, 0 of another
 abbrev pub of_row : {X : Type 0} → (X → Bool) → (X → ℤ) → X → ℤ
@@ -48,6 +49,7 @@ term_of (LineCounts w d) rows i = from_row (of_row (order_in w d) (λ o. pos o.l
 term_of (Lines w d) rows i = from_row (of_row (line_in w d) (λ _. pos 1)) (slice_get rows.order_lines i)
 term_of (LinesOf w d o) rows i = from_row (of_row (is_line_of w d o) (λ _. pos 1)) (slice_get rows.order_lines i)
 term_of (NewOrders w d) rows i = from_row (of_row (new_order_in w d) (λ _. pos 1)) (slice_get rows.new_orders i)
+term_of (DeliveredTo w d c) rows i = from_row (of_row (is_order_of w d c) (delivered_amount rows)) (slice_get rows.orders i)
 
 -- the sum over the first i rows
 unfoldable pub sum_to : Column → Rows → ℕ → ℤ
@@ -59,6 +61,7 @@ sum_to (LineCounts w d) rows i = total (of_row (order_in w d) (λ o. pos o.line_
 sum_to (Lines w d) rows i = total (of_row (line_in w d) (λ _. pos 1)) (take i rows.order_lines)
 sum_to (LinesOf w d o) rows i = total (of_row (is_line_of w d o) (λ _. pos 1)) (take i rows.order_lines)
 sum_to (NewOrders w d) rows i = total (of_row (new_order_in w d) (λ _. pos 1)) (take i rows.new_orders)
+sum_to (DeliveredTo w d c) rows i = total (of_row (is_order_of w d c) (delivered_amount rows)) (take i rows.orders)
 
 -- the table of a column
 abbrev pub table_of : Column → Table
@@ -70,3 +73,4 @@ table_of (LineCounts w d) = table.Order
 table_of (Lines w d) = table.OrderLine
 table_of (LinesOf w d o) = table.OrderLine
 table_of (NewOrders w d) = table.NewOrder
+table_of (DeliveredTo w d c) = table.Order

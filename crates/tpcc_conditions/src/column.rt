@@ -1,10 +1,11 @@
 //! What is summed up over the rows of a table.
 ghost use Rattle.std.specs.Prelude.{◌≡◌, pos};
-ghost use Rattle.tpcc_rows.specs.Tables.{is_paid_by, is_line_of};
+ghost use Rattle.tpcc_rows.specs.Tables.{is_paid_by, is_line_of, is_order_of};
+ghost use Rattle.tpcc_rows.specs.Conditions.{delivered_amount};
 ghost use Rattle.tpcc_tables.specs.Positions.{count_of};
 ghost use Rattle.tpcc_conditions.specs.Columns.{of_row, district_of, paid_warehouse, paid_district, order_in, line_in, new_order_in, term_of, table_of};
 
-use crate::places;
+use crate::{delivered, places};
 use tpcc_rows::row::Table;
 use tpcc_rows::rows::*;
 use tpcc_tables::tables::Tables;
@@ -28,6 +29,8 @@ pub enum Column {
     LinesOf(u32, u32, u32),
     /// One for each NEW-ORDER row of a warehouse and district.
     NewOrders(u32, u32),
+    /// OL_AMOUNT of the delivered lines of the orders of a customer of a warehouse and district.
+    DeliveredTo(u32, u32, u32),
 }
 
 fn district_total(row: &DistrictRow, warehouse: u32) -> i64
@@ -113,6 +116,22 @@ fn one_new_order(row: NewOrderRow, warehouse: u32, district: u32) -> i64
     }
 }
 
+fn delivered_to(
+    tables: &Tables,
+    row: &OrderRow,
+    warehouse: u32,
+    district: u32,
+    customer: u32,
+) -> i64
+    ensures { result ≡ of_row (is_order_of warehouse district customer) (delivered_amount tables.now.rows) row.now }
+{
+    if row.warehouse == warehouse && row.district == district && row.customer == customer {
+        delivered::amount(tables, row)
+    } else {
+        0
+    }
+}
+
 #[tactic(auto, unfolding(crate::specs::Columns::term_of))]
 /// The number of the row at a place, 0 behind the last row.
 pub fn term(tables: &Tables, column: Column, position: usize) -> i64
@@ -151,6 +170,12 @@ pub fn term(tables: &Tables, column: Column, position: usize) -> i64
             Some(row) => one_new_order(row, warehouse, district),
             None => 0,
         },
+        Column::DeliveredTo(warehouse, district, customer) => {
+            match places::order(tables, position) {
+                Some(row) => delivered_to(tables, row, warehouse, district, customer),
+                None => 0,
+            }
+        }
     }
 }
 
@@ -166,6 +191,7 @@ fn table(column: Column) -> Table
         Column::Lines(_, _) => Table::OrderLine,
         Column::LinesOf(_, _, _) => Table::OrderLine,
         Column::NewOrders(_, _) => Table::NewOrder,
+        Column::DeliveredTo(_, _, _) => Table::Order,
     }
 }
 

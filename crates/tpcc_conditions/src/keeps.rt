@@ -1,10 +1,12 @@
 //! Conditions of one row (3.3.2).
-ghost use Rattle.std.specs.Prelude.{◌≡◌, ◌+◌, ◌==◌, is_none, length, unwrap_or};
+ghost use Rattle.std.specs.Prelude.{◌≡◌, ◌+ℤ◌, ◌-ℤ◌, ◌+◌, ◌==◌, is_none, length, unwrap_or};
+ghost use Rattle.std.specs.Ordering.{int_eq};
 ghost use Rattle.tpcc_rows.specs.Lists.{largest};
 ghost use Rattle.tpcc_rows.specs.Tables.{order_at};
-ghost use Rattle.tpcc_rows.specs.Conditions.{keeps_1, keeps_2, keeps_3, keeps_4, keeps_5, keeps_6, keeps_7, keeps_8, keeps_9, new_order_numbers};
+ghost use Rattle.tpcc_rows.specs.Conditions.{keeps_1, keeps_2, keeps_3, keeps_4, keeps_5, keeps_6, keeps_7, keeps_8, keeps_9, keeps_10, keeps_12, new_order_numbers};
 
 use crate::{numbers, sums};
+use tpcc_money::Cents;
 use tpcc_rows::rows::*;
 use tpcc_tables::tables::Tables;
 
@@ -47,8 +49,7 @@ fn is_span(tables: &Tables, row: &DistrictRow, oldest: u32) -> bool
     ensures { result ≡ (unwrap_or (largest (new_order_numbers tables.now.rows row.now)) 0 + 1 == oldest + length (new_order_numbers tables.now.rows row.now)) }
 {
     let newest = numbers::largest_new(tables, row.warehouse, row.id);
-    i128::from(newest) + 1 - i128::from(oldest)
-        == sums::new_orders(tables, row.warehouse, row.id)
+    i128::from(newest) + 1 - i128::from(oldest) == sums::new_orders(tables, row.warehouse, row.id)
 }
 
 #[tactic(auto, unfolding(tpcc_rows::specs::Conditions::keeps_3), using(crate::proofs::NumberLemmas::none_length))]
@@ -89,7 +90,7 @@ pub fn lines_of_order(tables: &Tables, row: &OrderRow) -> bool
     i128::from(row.line_count) == sums::lines_of(tables, row.warehouse, row.district, row.id)
 }
 
-/// Whether an order's carrier is null; so it is of no order.
+/// Whether an order's carrier is null, as it is of an order that is not there.
 fn waits(tables: &Tables, warehouse: u32, district: u32, order: u32) -> bool
     ensures { result ≡ is_none (order_at tables.now.rows warehouse district order).carrier }
 {
@@ -121,4 +122,39 @@ pub fn payments_of_district(tables: &Tables, row: &DistrictRow) -> bool
     ensures { result ≡ keeps_9 tables.now.rows row.now }
 {
     i128::from(row.ytd.value()) == sums::paid_into_district(tables, row.warehouse, row.id)
+}
+
+/// Whether a balance is what was delivered less what was paid.
+fn is_difference(balance: Cents, delivered: i128, paid: i128) -> bool
+    ensures { result ≡ int_eq balance (delivered -ℤ paid) }
+{
+    match delivered.checked_sub(paid) {
+        Some(difference) => i128::from(balance.value()) == difference,
+        None => false,
+    }
+}
+
+#[tactic(auto, unfolding(tpcc_rows::specs::Conditions::keeps_10))]
+/// Condition 10: C_BALANCE is the sum of the delivered OL_AMOUNT less the sum of H_AMOUNT.
+pub fn balance(tables: &Tables, row: &CustomerRow) -> bool
+    ensures { result ≡ keeps_10 tables.now.rows row.now }
+{
+    let delivered = sums::delivered_to(tables, row);
+    let paid = sums::paid_by(tables, row.warehouse, row.district, row.id);
+    is_difference(row.balance, delivered, paid)
+}
+
+/// The sum of two amounts.
+fn both(a: Cents, b: Cents) -> i128
+    ensures { result ≡ a +ℤ b }
+{
+    i128::from(a.value()) + i128::from(b.value())
+}
+
+#[tactic(auto, unfolding(tpcc_rows::specs::Conditions::keeps_12))]
+/// Condition 12: C_BALANCE and C_YTD_PAYMENT together are the sum of the delivered OL_AMOUNT.
+pub fn balance_and_payments(tables: &Tables, row: &CustomerRow) -> bool
+    ensures { result ≡ keeps_12 tables.now.rows row.now }
+{
+    both(row.balance, row.ytd_payment) == sums::delivered_to(tables, row)
 }

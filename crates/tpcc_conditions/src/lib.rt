@@ -1,8 +1,19 @@
 //! The consistency conditions of clause 3.3.2, tested over all rows. Nothing here takes memory.
 #![tactic(auto)]
 
+pub mod all;
+pub mod broken;
 mod column;
+mod condition;
+mod delivered;
 mod keeps;
 mod numbers;
+#[cfg(test)]
+mod opening;
 mod places;
 mod sums;
+#[cfg(test)]
+mod tests;
+
+pub use all::check;
+pub use broken::Broken;

@@ -2,10 +2,12 @@
 ghost use Rattle.std.specs.Prelude.{◌≡◌, pos, length, sum_by};
 ghost use Rattle.tpcc_money.specs.Amounts.{total};
 ghost use Rattle.tpcc_rows.specs.Tables.{districts_of, paid_into_warehouse, paid_into_district, paid_by, orders_in, order_lines_in, lines_of, new_orders_in};
+ghost use Rattle.tpcc_rows.specs.Conditions.{delivered_to};
 ghost use Rattle.tpcc_tables.specs.Positions.{count_of};
 ghost use Rattle.tpcc_conditions.specs.Columns.{sum_to, table_of};
 
 use crate::column::{Column, len, term};
+use tpcc_rows::rows::CustomerRow;
 use tpcc_tables::tables::Tables;
 
 /// The sum of a column. It fits: a table has fewer than 2^64 rows, each with a number of 64 bits.
@@ -77,4 +79,15 @@ pub fn new_orders(tables: &Tables, warehouse: u32, district: u32) -> i128
     ensures { result ≡ pos (length (new_orders_in tables.now.rows warehouse district)) }
 {
     sum(tables, Column::NewOrders(warehouse, district))
+}
+
+#[tactic(auto, using(crate::proofs::SumLemmas::delivered_to_is))]
+/// The sum of OL_AMOUNT of all delivered lines of a customer.
+pub fn delivered_to(tables: &Tables, row: &CustomerRow) -> i128
+    ensures { result ≡ delivered_to tables.now.rows row.now }
+{
+    sum(
+        tables,
+        Column::DeliveredTo(row.warehouse, row.district, row.id),
+    )
 }

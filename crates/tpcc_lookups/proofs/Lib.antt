@@ -1,3 +1,3 @@
-mod FilterLemmas
-mod LineLemmas
+pub mod FilterLemmas
+pub mod LineLemmas
 mod LowLemmas

@@ -40,16 +40,16 @@ numbers_rise w d o a b ha hb h = grind (arith, nat_tests)
 lines_apart : (w d o n : ℕ) (a b : OrderLineRow) → is_order_line w d o n a ≡ true → is_order_line w d o n b ≡ true → key_before (order_line_key a) (order_line_key b) ≡ false
 lines_apart w d o n a b ha hb = grind (arith, nat_tests)
 
-no_lines : (rows : Rows) (w d o : ℕ) → IsWellKeyed rows → lines_below rows w d o 1 ≡ []
+pub no_lines : (rows : Rows) (w d o : ℕ) → IsWellKeyed rows → lines_below rows w d o 1 ≡ []
 no_lines rows w d o well =
     filter-agree is_order_line_row (below (is_line_of w d o) (λ l. l.number) 1) (λ _. false) (λ l h. let k = number_within l h in grind (arith, nat_tests)) rows.order_lines well.ranges.order_lines
     ∙ filter-nothing (λ _. false) (λ _. refl) rows.order_lines
 
-all_lines : (rows : Rows) (w d o : ℕ) → IsWellKeyed rows → lines_below rows w d o 16 ≡ lines_of rows w d o
+pub all_lines : (rows : Rows) (w d o : ℕ) → IsWellKeyed rows → lines_below rows w d o 16 ≡ lines_of rows w d o
 all_lines rows w d o well =
     filter-agree is_order_line_row (below (is_line_of w d o) (λ l. l.number) 16) (is_line_of w d o) (λ l h. let k = number_within l h in grind (arith, nat_tests)) rows.order_lines well.ranges.order_lines
 
-next_line : (rows : Rows) (w d o n : ℕ) → IsWellKeyed rows → lines_below rows w d o (n + 1) ≡ lines_below rows w d o n ++ found_list (find_order_line rows w d o n)
+pub next_line : (rows : Rows) (w d o n : ℕ) → IsWellKeyed rows → lines_below rows w d o (n + 1) ≡ lines_below rows w d o n ++ found_list (find_order_line rows w d o n)
 next_line rows w d o n well =
     filter-next order_line_key (is_line_of w d o) (λ l. l.number) (numbers_rise w d o) n rows.order_lines well.keyed.order_lines
     ∙ ap (λ ls. lines_below rows w d o n ++ ls) (filter-key order_line_key (is_order_line w d o n) (lines_apart w d o n) rows.order_lines well.keyed.order_lines)

@@ -1,5 +1,4 @@
-use Rattle.std.proofs.Common.{arith, ◌∙◌, ap, sym}
-use Rattle.std.specs.Prelude.{◌+ℤ◌}
+use Rattle.std.proofs.Common.{arith}
 use Rattle.std.proofs.lemmas.Int.{ints, to_z-of_z}
 use Rattle.tpcc_conditions.proofs.SumLemmas.{next_term, no_term}
 use Rattle.tpcc_conditions.proofs.sums.sum.Goals as goal

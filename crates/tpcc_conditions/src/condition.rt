@@ -1,0 +1,127 @@
+//! The conditions, and the first row at which one of them fails.
+ghost use Rattle.std.specs.Prelude.{◌≡◌, IfErr, OnOk, Some, None, option_map, if◌then◌else◌};
+ghost use Rattle.tpcc_conditions.specs.Broken.{as_model};
+ghost use Rattle.tpcc_conditions.specs.First.{failing_at, first_of, tested_table};
+
+use crate::broken::{Broken, at_customer, at_district, at_order, at_order_line, at_warehouse};
+use crate::{keeps, places};
+use tpcc_rows::row::Table;
+use tpcc_tables::tables::Tables;
+
+/// The conditions 3.3.2.1 to 3.3.2.10 and 3.3.2.12.
+#[derive(Clone, Copy, Debug)]
+pub enum Condition {
+    One,
+    Two,
+    Three,
+    Four,
+    Five,
+    Six,
+    Seven,
+    Eight,
+    Nine,
+    Ten,
+    Twelve,
+}
+
+fn unless(keeps: bool, broken: Broken) -> Option<Broken>
+    ensures { option_map as_model result ≡ (if keeps then None else Some (as_model broken)) }
+{
+    if keeps { None } else { Some(broken) }
+}
+
+#[tactic(auto, unfolding(crate::specs::First::failing_at))]
+/// What is broken at the row at a place, if there is a row and it fails.
+fn broken_at(tables: &Tables, condition: Condition, position: usize) -> Option<Broken>
+    ensures { option_map as_model result ≡ failing_at condition tables.now.rows position }
+{
+    match condition {
+        Condition::One => match places::warehouse(tables, position) {
+            Some(row) => unless(
+                keeps::totals_of_districts(tables, row),
+                at_warehouse(1, row),
+            ),
+            None => None,
+        },
+        Condition::Two => match places::district(tables, position) {
+            Some(row) => unless(keeps::next_number(tables, row), at_district(2, row)),
+            None => None,
+        },
+        Condition::Three => match places::district(tables, position) {
+            Some(row) => unless(keeps::no_gap(tables, row), at_district(3, row)),
+            None => None,
+        },
+        Condition::Four => match places::district(tables, position) {
+            Some(row) => unless(keeps::lines_of_district(tables, row), at_district(4, row)),
+            None => None,
+        },
+        Condition::Five => match places::order(tables, position) {
+            Some(row) => unless(keeps::carrier(tables, row), at_order(5, row)),
+            None => None,
+        },
+        Condition::Six => match places::order(tables, position) {
+            Some(row) => unless(keeps::lines_of_order(tables, row), at_order(6, row)),
+            None => None,
+        },
+        Condition::Seven => match places::line(tables, position) {
+            Some(row) => unless(keeps::delivery_date(tables, row), at_order_line(7, row)),
+            None => None,
+        },
+        Condition::Eight => match places::warehouse(tables, position) {
+            Some(row) => unless(
+                keeps::payments_of_warehouse(tables, row),
+                at_warehouse(8, row),
+            ),
+            None => None,
+        },
+        Condition::Nine => match places::district(tables, position) {
+            Some(row) => unless(
+                keeps::payments_of_district(tables, row),
+                at_district(9, row),
+            ),
+            None => None,
+        },
+        Condition::Ten => match places::customer(tables, position) {
+            Some(row) => unless(keeps::balance(tables, row), at_customer(10, row)),
+            None => None,
+        },
+        Condition::Twelve => match places::customer(tables, position) {
+            Some(row) => unless(
+                keeps::balance_and_payments(tables, row),
+                at_customer(12, row),
+            ),
+            None => None,
+        },
+    }
+}
+
+fn table(condition: Condition) -> Table
+    ensures { result ≡ tested_table condition }
+{
+    match condition {
+        Condition::One => Table::Warehouse,
+        Condition::Two => Table::District,
+        Condition::Three => Table::District,
+        Condition::Four => Table::District,
+        Condition::Five => Table::Order,
+        Condition::Six => Table::Order,
+        Condition::Seven => Table::OrderLine,
+        Condition::Eight => Table::Warehouse,
+        Condition::Nine => Table::District,
+        Condition::Ten => Table::Customer,
+        Condition::Twelve => Table::Customer,
+    }
+}
+
+/// Tests a condition at the rows of its table, in the order of their keys.
+pub fn test(tables: &Tables, condition: Condition) -> Result<(), Broken>
+    ensures held { OnOk result (first_of condition tables.now.rows ≡ None) }
+    ensures broken { IfErr result (λ b. first_of condition tables.now.rows ≡ Some (as_model b)) }
+{
+    for position in 0..tables.count(table(condition)) {
+        if let Some(broken) = broken_at(tables, condition, position) {
+            return Err(broken);
+        }
+    }
+    Ok(())
+}

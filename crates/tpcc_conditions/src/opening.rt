@@ -1,0 +1,230 @@
+//! The plain opening (4.3.3) with one district, ten customers and fifty items.
+use std::alloc::Global;
+use std::test::Fail;
+use tpcc_money::{Cents, Moment, Rate};
+use tpcc_rows::{
+    Address, CustomerRow, DistrictRow, HistoryRow, ItemRow, NewOrderRow, OrderLineRow, OrderRow,
+    Row, StockRow, Text, WarehouseRow,
+};
+use tpcc_tables::{LoadFault, Tables};
+
+fn text(alloc: Global, bytes: &[u8]) -> Result<Text, Fail> {
+    Ok(Text::new(alloc, bytes, 500)?)
+}
+
+fn address(alloc: Global) -> Result<Address, Fail> {
+    Ok(Address {
+        street_1: text(alloc, b"MAINSTREET".as_slice())?,
+        street_2: text(alloc, b"SIDESTREET".as_slice())?,
+        city: text(alloc, b"CITYCENTRE".as_slice())?,
+        state: text(alloc, b"AB".as_slice())?,
+        zip: text(alloc, b"000111111".as_slice())?,
+    })
+}
+
+fn warehouse(alloc: Global, ytd: i64) -> Result<Row, Fail> {
+    Ok(Row::Warehouse(WarehouseRow {
+        id: 1,
+        name: text(alloc, b"WARE001".as_slice())?,
+        address: address(alloc)?,
+        tax: Rate::new(1000),
+        ytd: Cents::new(ytd),
+    }))
+}
+
+fn district(alloc: Global, id: u32, ytd: i64, next_order: u32) -> Result<Row, Fail> {
+    Ok(Row::District(DistrictRow {
+        id,
+        warehouse: 1,
+        name: text(alloc, b"DIST01".as_slice())?,
+        address: address(alloc)?,
+        tax: Rate::new(100),
+        ytd: Cents::new(ytd),
+        next_order,
+    }))
+}
+
+fn customer(alloc: Global, id: u32, balance: i64, ytd_payment: i64) -> Result<Row, Fail> {
+    Ok(Row::Customer(CustomerRow {
+        id,
+        district: 1,
+        warehouse: 1,
+        first: text(alloc, b"FIRST".as_slice())?,
+        middle: text(alloc, b"OE".as_slice())?,
+        last: text(alloc, b"BARBARBAR".as_slice())?,
+        address: address(alloc)?,
+        phone: text(alloc, b"0000000000000001".as_slice())?,
+        since: Moment::new(0),
+        credit: text(alloc, b"GC".as_slice())?,
+        credit_limit: Cents::new(5_000_000),
+        discount: Rate::new(0),
+        balance: Cents::new(balance),
+        ytd_payment: Cents::new(ytd_payment),
+        payment_count: 1,
+        delivery_count: 0,
+        information: text(alloc, b"".as_slice())?,
+    }))
+}
+
+fn history(alloc: Global, customer: u32) -> Result<Row, Fail> {
+    Ok(Row::History(HistoryRow {
+        customer,
+        customer_district: 1,
+        customer_warehouse: 1,
+        district: 1,
+        warehouse: 1,
+        date: Moment::new(0),
+        amount: Cents::new(1000),
+        information: text(alloc, b"OPENINGPAYMENT".as_slice())?,
+    }))
+}
+
+fn order(id: u32, line_count: u32) -> Row {
+    Row::Order(OrderRow {
+        id,
+        district: 1,
+        warehouse: 1,
+        customer: id,
+        entry_date: Moment::new(0),
+        carrier: if id <= 7 { Some(id) } else { None },
+        line_count,
+        all_local: true,
+    })
+}
+
+fn line(alloc: Global, order: u32, number: u32, waits: bool) -> Result<Row, Fail> {
+    Ok(Row::OrderLine(OrderLineRow {
+        order,
+        district: 1,
+        warehouse: 1,
+        number,
+        item: 1,
+        supply: 1,
+        delivered: if waits { None } else { Some(Moment::new(0)) },
+        quantity: 5,
+        amount: Cents::new(if waits { i64::from(number) * 100 } else { 0 }),
+        district_information: text(alloc, b"dddddddddddddddddddddd01".as_slice())?,
+    }))
+}
+
+fn new_order(order: u32) -> Row {
+    Row::NewOrder(NewOrderRow {
+        order,
+        district: 1,
+        warehouse: 1,
+    })
+}
+
+fn item(alloc: Global) -> Result<Row, Fail> {
+    Ok(Row::Item(ItemRow {
+        id: 1,
+        image: 1,
+        name: text(alloc, b"ITEMNAME000001".as_slice())?,
+        price: Cents::new(100),
+        information: text(alloc, b"iiiiiiiiiiiiiiiiiiiiiiiiii".as_slice())?,
+    }))
+}
+
+fn stock(alloc: Global) -> Result<Row, Fail> {
+    let information = b"dddddddddddddddddddddd01".as_slice();
+    let texts = [
+        text(alloc, information)?,
+        text(alloc, information)?,
+        text(alloc, information)?,
+        text(alloc, information)?,
+        text(alloc, information)?,
+        text(alloc, information)?,
+        text(alloc, information)?,
+        text(alloc, information)?,
+        text(alloc, information)?,
+        text(alloc, information)?,
+    ];
+    Ok(Row::Stock(StockRow {
+        item: 1,
+        warehouse: 1,
+        quantity: 11,
+        district_information: texts,
+        ytd: 0,
+        order_count: 0,
+        remote_count: 0,
+        information: text(alloc, b"ssssssssssssssssssssssssss".as_slice())?,
+    }))
+}
+
+/// Loads a row; a growth that is refused once is tried again with the row that came back.
+fn put(tables: &mut Tables, row: Row) -> Result<(), LoadFault> {
+    match tables.load(row) {
+        Ok(()) => Ok(()),
+        Err((row, LoadFault::NoMemory)) => tables.load(row).map_err(|(_, fault)| fault),
+        Err((_, fault)) => Err(fault),
+    }
+}
+
+/// What of the opening is changed, so that one condition is broken.
+#[derive(Clone, Copy, Debug, PartialEq, Eq)]
+pub enum Change {
+    Nothing,
+    WarehouseTotal,
+    BothTotals,
+    CentInAnotherDistrict,
+    NewOrderLeftOut(u32),
+    LineAdded,
+    LineCounts,
+    LineUndelivered,
+    Balance,
+    YtdPayment,
+}
+
+/// The opening with one change.
+pub fn opened(alloc: Global, change: Change) -> Result<Tables, Fail> {
+    let mut tables = Tables::empty(alloc);
+    let warehouse_ytd = match change {
+        Change::WarehouseTotal | Change::BothTotals => 10_001,
+        _ => 10_000,
+    };
+    let district_ytd = match change {
+        Change::BothTotals => 10_001,
+        Change::CentInAnotherDistrict => 9_999,
+        _ => 10_000,
+    };
+    put(&mut tables, warehouse(alloc, warehouse_ytd)?)?;
+    put(&mut tables, district(alloc, 1, district_ytd, 11)?)?;
+    if change == Change::CentInAnotherDistrict {
+        put(&mut tables, district(alloc, 2, 1, 1)?)?;
+    }
+    put(&mut tables, item(alloc)?)?;
+    put(&mut tables, stock(alloc)?)?;
+    for id in 1..11u32 {
+        let balance = if id == 3 && change == Change::Balance {
+            -999
+        } else {
+            -1000
+        };
+        let ytd_payment = if id == 3 && change == Change::YtdPayment {
+            1001
+        } else {
+            1000
+        };
+        put(&mut tables, customer(alloc, id, balance, ytd_payment)?)?;
+        put(&mut tables, history(alloc, id)?)?;
+        let line_count = if id == 4 && change == Change::LineCounts {
+            6
+        } else {
+            5
+        };
+        put(&mut tables, order(id, line_count))?;
+        for number in 1..6u32 {
+            let waits = 7 < id || (id == 2 && number == 4 && change == Change::LineUndelivered);
+            put(&mut tables, line(alloc, id, number, waits)?)?;
+        }
+    }
+    for id in 8..11u32 {
+        if change != Change::NewOrderLeftOut(id) {
+            put(&mut tables, new_order(id))?;
+        }
+    }
+    if change == Change::LineAdded || change == Change::LineCounts {
+        put(&mut tables, line(alloc, 9, 6, true)?)?;
+    }
+    Ok(tables)
+}

@@ -1,0 +1,36 @@
+//! Each condition broken by one change of the opening.
+use crate::opening::{Change, opened};
+use crate::{Broken, check};
+use std::test::Fail;
+
+fn at(condition: u32, district: u32, number: u32) -> Result<(), Broken> {
+    Err(Broken {
+        condition,
+        warehouse: 1,
+        district,
+        number,
+    })
+}
+
+#[test]
+fn names_the_first_broken_condition(rt: HostRuntime) -> Result<(), Fail> {
+    let changes = [
+        (Change::Nothing, Ok(())),
+        (Change::WarehouseTotal, at(1, 0, 0)),
+        (Change::NewOrderLeftOut(10), at(2, 1, 0)),
+        (Change::NewOrderLeftOut(9), at(3, 1, 0)),
+        (Change::LineAdded, at(4, 1, 0)),
+        (Change::NewOrderLeftOut(8), at(5, 1, 8)),
+        (Change::LineCounts, at(6, 1, 4)),
+        (Change::LineUndelivered, at(7, 1, 2)),
+        (Change::BothTotals, at(8, 0, 0)),
+        (Change::CentInAnotherDistrict, at(9, 1, 0)),
+        (Change::Balance, at(10, 1, 3)),
+        (Change::YtdPayment, at(12, 1, 3)),
+    ];
+    for (change, answer) in changes {
+        let tables = opened(rt.alloc(), change)?;
+        assert_eq!(rt; check(&tables), answer, "{change:?}");
+    }
+    Ok(())
+}
