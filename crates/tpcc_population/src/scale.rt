@@ -5,12 +5,19 @@ ghost use Rattle.tpcc_rows.specs.Layout.{delivered_orders, is_delivered};
 ghost use Rattle.tpcc_rows.specs.Ranges.{is_within};
 
 use std::marker::Model;
+use thiserror::Error;
 
-/// Why there is no such scale.
-#[derive(Clone, Copy, Debug, PartialEq, Eq)]
+/// Why there is no such scale. The text is the program's line on standard error.
+#[derive(Clone, Copy, Debug, PartialEq, Eq, Error)]
 pub enum ScaleFault {
+    /// Not 1 to 100 warehouses.
+    #[error("fault 1 Warehouses")]
     Warehouses,
+    /// Not 10 to 3,000 customers of each district, or no multiple of 10.
+    #[error("fault 2 Customers")]
     Customers,
+    /// Not 100 to 100,000 items.
+    #[error("fault 3 Items")]
     Items,
 }
 

@@ -6,11 +6,12 @@ use crate::engine::Engine;
 use std::alloc::Global;
 use std::marker::Model;
 use tpcc_book::{Answer, Blanks, Book, Naming, Purse};
+use tpcc_conditions::check;
 use tpcc_journal::results;
 use tpcc_money::NoMemory;
 use tpcc_population::Opening;
-use tpcc_rows::{Refusal, Reply, Request, laws};
-use tpcc_terminal::{Screen, consistent_screen, results_screen};
+use tpcc_rows::{Refusal, Reply, Request};
+use tpcc_terminal::{Screen, broken_screen, consistent_screen, results_screen};
 
 /// A book, with the purse of terminal 1, which makes each of the script's requests.
 #[derive(Drop)]
@@ -66,9 +67,16 @@ impl<N: Naming> Engine for Session<N> {
     }
 
     fn check(&self, alloc: Global) -> Result<Screen, NoMemory> {
-        let _tables = self.book.tables();
-        laws::nothing_broken();
-        consistent_screen(alloc)
+        match check(self.book.tables()) {
+            Ok(()) => consistent_screen(alloc),
+            Err(broken) => broken_screen(
+                alloc,
+                broken.condition,
+                broken.warehouse,
+                broken.district,
+                broken.number,
+            ),
+        }
     }
 
     fn results(&self, alloc: Global) -> Result<Screen, NoMemory> {

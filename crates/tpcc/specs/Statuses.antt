@@ -1,0 +1,23 @@
+-- The exit statuses of the program's faults.
+use Rattle.std.specs.Prelude.{ℕ}
+use Rattle.tpcc_script.specs.declared.fault.ScriptFault.{ScriptFault}
+use Rattle.tpcc_script.specs.declared.fault.ScriptFault.TheVariants as script
+use Rattle.tpcc.specs.declared.fault.ProgramFault.{ProgramFault}
+use Rattle.tpcc.specs.declared.fault.ProgramFault.TheVariants as program
+
+-- 2 for what a script's lines say, 3 for reading and writing, 4 for memory
+abbrev pub status_of_script : ScriptFault → ℕ
+status_of_script (script.Bad line) = 2
+status_of_script (script.Cut line) = 2
+status_of_script (script.LongLine line) = 2
+status_of_script script.TooManyLines = 2
+status_of_script script.Read = 3
+status_of_script script.Write = 3
+status_of_script script.NoMemory = 4
+
+-- 1 for arguments and scale
+abbrev pub status_of : ProgramFault → ℕ
+status_of program.Arguments = 1
+status_of program.NoMemory = 4
+status_of (program.Scale fault) = 1
+status_of (program.Script fault) = status_of_script fault

@@ -1,0 +1,45 @@
+//! Why the program ends early, with its line on standard error and its exit status.
+ghost use Rattle.std.specs.Prelude.{◌≡◌};
+ghost use Rattle.tpcc.specs.Statuses.{status_of};
+
+use thiserror::Error;
+use tpcc_population::ScaleFault;
+use tpcc_script::ScriptFault;
+
+/// Why the program ends early. The text is its line on standard error.
+#[derive(Clone, Copy, Debug, PartialEq, Eq, Error)]
+pub enum ProgramFault {
+    /// The words name no command, or an option or a value that there is not.
+    #[error("fault 1 Arguments")]
+    Arguments,
+    /// A growth was refused while the words were read.
+    #[error("fault 2 NoMemory")]
+    NoMemory,
+    /// There is no such scale.
+    #[error("{0}")]
+    Scale(ScaleFault),
+    /// The script ended early.
+    #[error("{0}")]
+    Script(ScriptFault),
+}
+
+impl ProgramFault {
+    /// The exit status: 1 for arguments and scale, 2 for a script's lines, 3 for reading and
+    /// writing, 4 for memory.
+    pub fn status(&self) -> u8
+        ensures status { result ≡ status_of self.now }
+    {
+        match self {
+            ProgramFault::Arguments | ProgramFault::Scale(_) => 1,
+            ProgramFault::NoMemory => 4,
+            ProgramFault::Script(fault) => match fault {
+                ScriptFault::Bad(_)
+                | ScriptFault::Cut(_)
+                | ScriptFault::LongLine(_)
+                | ScriptFault::TooManyLines => 2,
+                ScriptFault::Read | ScriptFault::Write => 3,
+                ScriptFault::NoMemory => 4,
+            },
+        }
+    }
+}

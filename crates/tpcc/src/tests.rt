@@ -1,0 +1,1 @@
+//! The options, and what they refuse.
