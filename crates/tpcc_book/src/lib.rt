@@ -8,6 +8,8 @@ mod prepared;
 mod purse;
 mod register;
 mod steps;
+#[cfg(test)]
+mod tests;
 mod turned;
 
 pub use answer::Answer;

@@ -14,6 +14,8 @@ mod show;
 #[cfg(test)]
 mod tests;
 mod words;
+#[cfg(test)]
+mod worked_rows;
 mod writer;
 
 pub use call::Call;
