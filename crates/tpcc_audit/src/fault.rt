@@ -1,0 +1,15 @@
+//! Why a dump ends early.
+
+use thiserror::Error;
+
+/// Why a dump ended early. The writer is let go, and what it took by then is unknown. The text is
+/// the program's line on standard error.
+#[derive(Clone, Copy, Debug, PartialEq, Eq, Error)]
+pub enum DumpFault {
+    /// The writer failed or took nothing.
+    #[error("fault 1 Write")]
+    Write,
+    /// A growth was refused.
+    #[error("fault 2 NoMemory")]
+    NoMemory,
+}

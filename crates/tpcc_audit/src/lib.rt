@@ -1,0 +1,13 @@
+//! Audits of order entry: a table written out as comma-separated values.
+#![tactic(auto)]
+
+mod dumping;
+mod fault;
+mod fields;
+mod names;
+mod output;
+mod records;
+
+pub use dumping::dump;
+pub use fault::DumpFault;
+pub use names::table_named;
