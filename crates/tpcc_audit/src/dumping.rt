@@ -46,9 +46,7 @@ fn put_columns<W: Write + Drop>(
     ensures { OnOk result ((start : Option (List ℕ)) (text : List ℕ) → HasTaken W.contents start text writer.old
         → HasTaken W.contents start (text ++ row_text default_writer (columns.columns table)) writer.new) }
 {
-    if fields.put_names(columns(table)).is_err() {
-        return Err(DumpFault::NoMemory);
-    }
+    fields.put_names(columns(table))?;
     put(writer, fields)
 }
 
@@ -63,9 +61,7 @@ fn put_rows<W: Write + Drop>(
 {
     for position in 0..tables.count(table) {
         if let Some(row) = tables.row(table, position) {
-            if put_row(fields, row).is_err() {
-                return Err(DumpFault::NoMemory);
-            }
+            put_row(fields, row)?;
             put(writer, fields)?;
         }
     }

@@ -1,6 +1,8 @@
 //! Why a dump ends early.
 
+use std::convert::From;
 use thiserror::Error;
+use tpcc_money::NoMemory;
 
 /// Why a dump ended early. The writer is let go, and what it took by then is unknown. The text is
 /// the program's line on standard error.
@@ -12,4 +14,10 @@ pub enum DumpFault {
     /// A growth was refused.
     #[error("fault 2 NoMemory")]
     NoMemory,
+}
+
+impl From<NoMemory> for DumpFault {
+    fn from(_refused: NoMemory) -> Self {
+        DumpFault::NoMemory
+    }
 }
