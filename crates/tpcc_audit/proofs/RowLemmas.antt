@@ -50,13 +50,13 @@ one_row xs k x e =
 -- the record of the row at a place, behind those of the rows before it
 pub one_record : (rows : Rows) (t : Table) (k : ℕ) (x : Row) (text : List ℕ) → row_at rows t k ≡ Some x
     → (text ++ records_text (map record_of (take k (rows_of rows t)))) ++ row_text default_writer (record_of x)
-      ≡ text ++ records_text (map record_of (take (k + 1) (rows_of rows t)))
+    ≡ text ++ records_text (map record_of (take (k + 1) (rows_of rows t)))
 one_record rows t k x text e =
     let place = sym (row_of_place rows t k) ∙ e in
     let more = map-append record_of (take k (rows_of rows t)) (x ∷ []) in
     flat_map_more (row_text default_writer) text (map record_of (take k (rows_of rows t))) (record_of x)
-      ∙ ap (λ z. text ++ records_text z) (sym more)
-      ∙ ap (λ z. text ++ records_text (map record_of z)) (sym (one_row (rows_of rows t) k x place))
+    ∙ ap (λ z. text ++ records_text z) (sym more)
+    ∙ ap (λ z. text ++ records_text (map record_of z)) (sym (one_row (rows_of rows t) k x place))
 
 -- behind the end no row is left
 past : {X : Type 0} (xs : List X) (k : ℕ) → slice_get xs k ≡ None → length xs ≤ k

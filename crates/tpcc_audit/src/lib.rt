@@ -7,6 +7,10 @@ mod fields;
 mod names;
 mod output;
 mod records;
+#[cfg(test)]
+mod test_rows;
+#[cfg(test)]
+mod tests;
 
 pub use dumping::dump;
 pub use fault::DumpFault;

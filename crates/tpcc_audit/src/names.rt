@@ -1,5 +1,7 @@
 //! The names of tables and of their columns (1.3).
-ghost use Rattle.std.specs.Prelude.{◌≡◌, ◌≢◌, IfNone, IfSome, IsTrue, ◌↔◌, map};
+ghost use Rattle.std.specs.Prelude.{◌≡◌, ◌≢◌, IfNone, IfSome, IsTrue, find, map};
+ghost use Rattle.std.specs.Option.{option_copied};
+ghost use Rattle.std.specs.Str.{bytes_eq};
 ghost use Rattle.tpcc_audit.specs.Columns as columns;
 ghost use Rattle.tpcc_rows.specs.declared.row.Table.{Table};
 
@@ -23,9 +25,17 @@ fn table_name(table: Table) -> &'static [u8]
 }
 
 fn is_named(table: Table, name: &[u8]) -> bool
-    ensures { IsTrue result ↔ (columns.table_name table ≡ name.now) }
+    ensures equal { result ≡ bytes_eq (columns.table_name table) name.now }
+    ensures named { IsTrue result → columns.table_name table ≡ name.now }
 {
     table_name(table) == name
+}
+
+fn find_named<'a>(tables: &'a [Table], name: &[u8]) -> Option<&'a Table>
+    ensures first { option_copied result ≡ find (λ t. bytes_eq (columns.table_name t) name.now) tables.now }
+    ensures named { IfSome result (λ t. columns.table_name t.now ≡ name.now) }
+{
+    tables.iter().find(|table| is_named(**table, name))
 }
 
 /// The table of this name (1.3), as `ORDER-LINE`; none where no table has it.
@@ -33,10 +43,7 @@ pub fn table_named(name: &[u8]) -> Option<Table>
     ensures named { IfSome result (λ t. columns.table_name t ≡ name.now) }
     ensures unknown { IfNone result ((t : Table) → columns.table_name t ≢ name.now) }
 {
-    Table::ALL
-        .iter()
-        .find(|table| is_named(**table, name))
-        .copied()
+    find_named(&Table::ALL, name).copied()
 }
 
 /// The names of a table's columns in the standard's order, as `W_ID`.

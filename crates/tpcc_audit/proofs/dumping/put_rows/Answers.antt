@@ -7,16 +7,16 @@ use Rattle.tpcc_audit.proofs.dumping.put_rows.Goals as goal
 
 pub loop-position-preserved : goal.loop-position-preserved
 loop-position-preserved g c = λ start text before. elim c.match-row.branch [
-    in-Some+in_ok-put_row+in_ok-put w ↦
-        let place = sym (rw w.in-Some.is at c.row.ensures) in
-        let more = w.in_ok-put.ensures start _ (c.loop-position.invariant start text before) in
-        let next = one_record c.args.tables.now.rows c.args.table c.loop-position.position _ text place in
-        rw (w.writer-is, sym next, sym w.in_ok-put_row.ensures) more
-    | in_default w ↦
-        let place : row_at c.args.tables.now.rows c.args.table c.loop-position.position ≡ None = sym (rw w.in_default.is at c.row.ensures) in
-        let same = no_record c.args.tables.now.rows c.args.table c.loop-position.position place in
-        rw (w.writer-is, same) (c.loop-position.invariant start text before)
-    ]
+  | in-Some+in_ok-put_row+in_ok-put w ↦
+      let place = sym (rw w.in-Some.is at c.row.ensures) in
+      let more = w.in_ok-put.ensures start _ (c.loop-position.invariant start text before) in
+      let next = one_record c.args.tables.now.rows c.args.table c.loop-position.position _ text place in
+      rw (w.writer-is, sym next, sym w.in_ok-put_row.ensures) more
+  | in_default w ↦
+      let place : row_at c.args.tables.now.rows c.args.table c.loop-position.position ≡ None = sym (rw w.in_default.is at c.row.ensures) in
+      let same = no_record c.args.tables.now.rows c.args.table c.loop-position.position place in
+      rw (w.writer-is, same) (c.loop-position.invariant start text before)
+]
 
 pub returns : goal.returns
 returns g c = λ start text before.
