@@ -20,8 +20,10 @@ use tpcc_tables::Tables;
 
 /// Writes the names of a table's columns and then its rows in order (1.3), as comma-separated
 /// values: each record ends with a line feed, a field is quoted only where it needs it, and a null
-/// is an empty field. Write where the writer fails, NoMemory where a growth was refused; the
-/// writer is then let go.
+/// is an empty field. Answers the writer.
+///
+/// Write where the writer fails or takes nothing, NoMemory where a growth was refused; the writer
+/// is then let go, and how much of the text it took is unknown. An interrupted write is tried again.
 pub fn dump<W: Write + Drop>(
     alloc: Global,
     tables: &Tables,

@@ -4,8 +4,8 @@ use std::convert::From;
 use thiserror::Error;
 use tpcc_money::NoMemory;
 
-/// Why a dump ended early. The writer is let go, and what it took by then is unknown. The text is
-/// the program's line on standard error.
+/// Why a dump ended early. The writer is let go, and how much of the dump it took is unknown. The
+/// text is the program's line on standard error.
 #[derive(Clone, Copy, Debug, PartialEq, Eq, Error)]
 pub enum DumpFault {
     /// The writer failed or took nothing.
@@ -17,6 +17,11 @@ pub enum DumpFault {
 }
 
 impl From<NoMemory> for DumpFault {
+    ghost use Rattle.std.specs.Prelude.{◌≡◌};
+    ghost use Rattle.tpcc_audit.specs.declared.fault.DumpFault.TheVariants as fault;
+
+    ghost from_gives = { λ _ f. f ≡ fault.NoMemory };
+
     fn from(_refused: NoMemory) -> Self {
         DumpFault::NoMemory
     }

@@ -107,13 +107,20 @@ impl Fields {
         }
     }
 
-    /// A number, or nothing where it is null.
+    /// Null is an empty field.
+    fn put_null(&mut self) -> Result<(), NoMemory>
+        ensures { OnOk result (self.new ≡ self.old ++ [] ∷ []) }
+    {
+        self.put(b"")
+    }
+
+    /// A number, or an empty field where it is null.
     pub fn put_nullable_number(&mut self, number: Option<u32>) -> Result<(), NoMemory>
         ensures { OnOk result (self.new ≡ self.old ++ records.nullable_number number ∷ []) }
     {
         match number {
             Some(number) => self.put_number(number),
-            None => self.put(b""),
+            None => self.put_null(),
         }
     }
 
@@ -145,13 +152,13 @@ impl Fields {
         self.put(text.as_slice())
     }
 
-    /// A moment, or nothing where it is null.
+    /// A moment, or an empty field where it is null.
     pub fn put_nullable_moment(&mut self, moment: Option<Moment>) -> Result<(), NoMemory>
         ensures { OnOk result (self.new ≡ self.old ++ records.nullable_moment moment ∷ []) }
     {
         match moment {
             Some(moment) => self.put_moment(moment),
-            None => self.put(b""),
+            None => self.put_null(),
         }
     }
 
