@@ -1,6 +1,6 @@
 -- The rows of a table, and their records, by place.
-use Rattle.std.proofs.Common.{arith, ◌≡◌, ◌∙◌, refl, sym, ap, ℕ, ◌+◌, ◌<◌, ◌≤◌, zero, suc, List, ◌∷◌, [], ◌++◌, length, map, take, get_or}
-use Rattle.std.specs.Prelude.{slice_get, Option, Some, None}
+use Rattle.std.proofs.Common.{arith, ◌≡◌, ◌∙◌, sym, ap, ℕ, ◌+◌, ◌≤◌, zero, suc, List, ◌∷◌, [], ◌++◌, length, map, take}
+use Rattle.std.specs.Prelude.{slice_get, Some, None}
 use Rattle.std.proofs.Math.Seq.{take-suc}
 use Rattle.std.proofs.lemmas.List.{length-map, map-append, flat_map_more, take_all}
 use Rattle.std.proofs.lemmas.Option.{none-some, slice_get-map, slice_get_within, get_or_from_slice_get}

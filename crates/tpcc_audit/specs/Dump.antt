@@ -1,5 +1,6 @@
 -- What a dump of a table writes: the names of its columns and then each row, as records of comma-separated values.
-use Rattle.std.specs.Prelude.{ℕ, List, ◌∷◌, map, flat_map}
+use Rattle.std.specs.Prelude.{◌≡◌, ℕ, List, ◌∷◌, map, flat_map}
+use Rattle.csv.specs.Reading.{default_config, records}
 use Rattle.csv.specs.Writing.{default_writer, row_text}
 use Rattle.tpcc_rows.specs.declared.row.Row.{Row}
 use Rattle.tpcc_rows.specs.declared.row.Row.TheVariants as row
@@ -23,7 +24,11 @@ rows_of rows table.Stock = map row.Stock rows.stocks
 
 -- records one after another, by the default writer: commas, a line feed behind each record, quotes where needed
 abbrev pub records_text : List (List (List ℕ)) → List ℕ
-records_text records = flat_map (row_text default_writer) records
+records_text lines = flat_map (row_text default_writer) lines
 
 abbrev pub dump_text : Rows → Table → List ℕ
 dump_text rows table = records_text (columns table ∷ map record_of (rows_of rows table))
+
+-- the default reader finds these records in a dump, and no others
+abbrev pub IsReadBack : Rows → Table → Type 0
+IsReadBack rows table = records default_config (dump_text rows table) ≡ columns table ∷ map record_of (rows_of rows table)

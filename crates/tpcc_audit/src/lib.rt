@@ -4,6 +4,7 @@
 mod dumping;
 mod fault;
 mod fields;
+mod laws;
 mod names;
 mod output;
 mod records;
@@ -14,4 +15,5 @@ mod tests;
 
 pub use dumping::dump;
 pub use fault::DumpFault;
+pub use laws::dump_is_read_back;
 pub use names::table_named;
