@@ -30,7 +30,7 @@ pub fn dump<W: Write + Drop>(
     table: Table,
     out: W,
 ) -> Result<W, DumpFault>
-    ensures { IfOk result (λ w. Appends (W.contents out) (W.contents w) (dump_text tables.now.rows table)) }
+    ensures written { IfOk result (λ w. Appends (W.contents out) (W.contents w) (dump_text tables.now.rows table)) }
 {
     let mut writer = start(out);
     let mut fields = Fields::new(alloc);

@@ -1,6 +1,5 @@
 //! Why a dump ends early.
 
-use std::convert::From;
 use thiserror::Error;
 use tpcc_money::NoMemory;
 

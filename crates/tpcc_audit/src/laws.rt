@@ -8,5 +8,5 @@ ghost use Rattle.tpcc_rows.specs.declared.row.Table.{Table};
 /// commas and quotes it holds.
 #[tactic(auto, using(crate::proofs::ReadBack::is_read_back))]
 pub fn dump_is_read_back()
-    ensures { (rows : Rows) (table : Table) → IsReadBack rows table }
+    ensures read_back { (rows : Rows) (table : Table) → IsReadBack rows table }
 {}
