@@ -1,0 +1,4 @@
+pub mod Columns
+pub mod Records
+pub mod Dump
+pub mod Output

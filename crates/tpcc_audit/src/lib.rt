@@ -1,0 +1,19 @@
+//! Audits of order entry: a table written out as comma-separated values.
+#![tactic(auto)]
+
+mod dumping;
+mod fault;
+mod fields;
+mod laws;
+mod names;
+mod output;
+mod records;
+#[cfg(test)]
+mod test_rows;
+#[cfg(test)]
+mod tests;
+
+pub use dumping::dump;
+pub use fault::DumpFault;
+pub use laws::dump_is_read_back;
+pub use names::table_named;

@@ -1,0 +1,148 @@
+//! The names of tables and of their columns (1.3).
+ghost use Rattle.std.specs.Prelude.{◌≡◌, ◌≢◌, IfNone, IfSome, IsTrue, find, map};
+ghost use Rattle.std.specs.Option.{option_copied};
+ghost use Rattle.std.specs.Str.{bytes_eq};
+ghost use Rattle.tpcc_audit.specs.Columns as columns;
+ghost use Rattle.tpcc_rows.specs.declared.row.Table.{Table};
+
+use tpcc_rows::Table;
+
+/// The table's name, as `ORDER-LINE`.
+fn table_name(table: Table) -> &'static [u8]
+    ensures { result.now ≡ columns.table_name table }
+{
+    match table {
+        Table::Warehouse => b"WAREHOUSE",
+        Table::District => b"DISTRICT",
+        Table::Customer => b"CUSTOMER",
+        Table::History => b"HISTORY",
+        Table::Order => b"ORDER",
+        Table::OrderLine => b"ORDER-LINE",
+        Table::NewOrder => b"NEW-ORDER",
+        Table::Item => b"ITEM",
+        Table::Stock => b"STOCK",
+    }
+}
+
+fn is_named(table: Table, name: &[u8]) -> bool
+    ensures equal { result ≡ bytes_eq (columns.table_name table) name.now }
+    ensures named { IsTrue result → columns.table_name table ≡ name.now }
+{
+    table_name(table) == name
+}
+
+fn find_named<'a>(tables: &'a [Table], name: &[u8]) -> Option<&'a Table>
+    ensures first { option_copied result ≡ find (λ t. bytes_eq (columns.table_name t) name.now) tables.now }
+    ensures named { IfSome result (λ t. columns.table_name t.now ≡ name.now) }
+{
+    tables.iter().find(|table| is_named(**table, name))
+}
+
+/// The table of this name (1.3), as `ORDER-LINE`; none where no table has it.
+pub fn table_named(name: &[u8]) -> Option<Table>
+    ensures named { IfSome result (λ t. columns.table_name t ≡ name.now) }
+    ensures unknown { IfNone result ((t : Table) → columns.table_name t ≢ name.now) }
+{
+    find_named(&Table::ALL, name).copied()
+}
+
+/// The names of a table's columns in the standard's order, as `W_ID`.
+pub fn columns(table: Table) -> &'static [&'static str]
+    ensures { map (λ name. name.now) result.now ≡ columns.columns table }
+{
+    match table {
+        Table::Warehouse => &[
+            "W_ID",
+            "W_NAME",
+            "W_STREET_1",
+            "W_STREET_2",
+            "W_CITY",
+            "W_STATE",
+            "W_ZIP",
+            "W_TAX",
+            "W_YTD",
+        ],
+        Table::District => &[
+            "D_ID",
+            "D_W_ID",
+            "D_NAME",
+            "D_STREET_1",
+            "D_STREET_2",
+            "D_CITY",
+            "D_STATE",
+            "D_ZIP",
+            "D_TAX",
+            "D_YTD",
+            "D_NEXT_O_ID",
+        ],
+        Table::Customer => &[
+            "C_ID",
+            "C_D_ID",
+            "C_W_ID",
+            "C_FIRST",
+            "C_MIDDLE",
+            "C_LAST",
+            "C_STREET_1",
+            "C_STREET_2",
+            "C_CITY",
+            "C_STATE",
+            "C_ZIP",
+            "C_PHONE",
+            "C_SINCE",
+            "C_CREDIT",
+            "C_CREDIT_LIM",
+            "C_DISCOUNT",
+            "C_BALANCE",
+            "C_YTD_PAYMENT",
+            "C_PAYMENT_CNT",
+            "C_DELIVERY_CNT",
+            "C_DATA",
+        ],
+        Table::History => &[
+            "H_C_ID", "H_C_D_ID", "H_C_W_ID", "H_D_ID", "H_W_ID", "H_DATE", "H_AMOUNT", "H_DATA",
+        ],
+        Table::Order => &[
+            "O_ID",
+            "O_D_ID",
+            "O_W_ID",
+            "O_C_ID",
+            "O_ENTRY_D",
+            "O_CARRIER_ID",
+            "O_OL_CNT",
+            "O_ALL_LOCAL",
+        ],
+        Table::OrderLine => &[
+            "OL_O_ID",
+            "OL_D_ID",
+            "OL_W_ID",
+            "OL_NUMBER",
+            "OL_I_ID",
+            "OL_SUPPLY_W_ID",
+            "OL_DELIVERY_D",
+            "OL_QUANTITY",
+            "OL_AMOUNT",
+            "OL_DIST_INFO",
+        ],
+        Table::NewOrder => &["NO_O_ID", "NO_D_ID", "NO_W_ID"],
+        Table::Item => &["I_ID", "I_IM_ID", "I_NAME", "I_PRICE", "I_DATA"],
+        Table::Stock => &[
+            "S_I_ID",
+            "S_W_ID",
+            "S_QUANTITY",
+            "S_DIST_01",
+            "S_DIST_02",
+            "S_DIST_03",
+            "S_DIST_04",
+            "S_DIST_05",
+            "S_DIST_06",
+            "S_DIST_07",
+            "S_DIST_08",
+            "S_DIST_09",
+            "S_DIST_10",
+            "S_YTD",
+            "S_ORDER_CNT",
+            "S_REMOTE_CNT",
+            "S_DATA",
+        ],
+    }
+}
