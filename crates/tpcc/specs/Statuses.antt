@@ -2,6 +2,8 @@
 use Rattle.std.specs.Prelude.{ℕ}
 use Rattle.tpcc_script.specs.declared.fault.ScriptFault.{ScriptFault}
 use Rattle.tpcc_script.specs.declared.fault.ScriptFault.TheVariants as script
+use Rattle.tpcc_audit.specs.declared.fault.DumpFault.{DumpFault}
+use Rattle.tpcc_audit.specs.declared.fault.DumpFault.TheVariants as dump
 use Rattle.tpcc.specs.declared.fault.ProgramFault.{ProgramFault}
 use Rattle.tpcc.specs.declared.fault.ProgramFault.TheVariants as program
 
@@ -15,9 +17,14 @@ status_of_script script.Read = 3
 status_of_script script.Write = 3
 status_of_script script.NoMemory = 4
 
+abbrev pub status_of_dump : DumpFault → ℕ
+status_of_dump dump.Write = 3
+status_of_dump dump.NoMemory = 4
+
 -- 1 for arguments and scale
 abbrev pub status_of : ProgramFault → ℕ
 status_of program.Arguments = 1
 status_of program.NoMemory = 4
 status_of (program.Scale fault) = 1
 status_of (program.Script fault) = status_of_script fault
+status_of (program.Dump fault) = status_of_dump fault

@@ -3,6 +3,7 @@ ghost use Rattle.std.specs.Prelude.{◌≡◌};
 ghost use Rattle.tpcc.specs.Statuses.{status_of};
 
 use thiserror::Error;
+use tpcc_audit::DumpFault;
 use tpcc_population::ScaleFault;
 use tpcc_script::ScriptFault;
 
@@ -21,6 +22,9 @@ pub enum ProgramFault {
     /// The script ended early.
     #[error("{0}")]
     Script(ScriptFault),
+    /// The table was not written whole.
+    #[error("{0}")]
+    Dump(DumpFault),
 }
 
 impl ProgramFault {
@@ -39,6 +43,10 @@ impl ProgramFault {
                 | ScriptFault::TooManyLines => 2,
                 ScriptFault::Read | ScriptFault::Write => 3,
                 ScriptFault::NoMemory => 4,
+            },
+            ProgramFault::Dump(fault) => match fault {
+                DumpFault::Write => 3,
+                DumpFault::NoMemory => 4,
             },
         }
     }

@@ -7,12 +7,14 @@ mod options;
 mod tests;
 
 use fault::ProgramFault;
-use options::{Asked, read_words};
+use options::{Asked, Task, read_words};
 use std::alloc::Global;
 use std::env::Env;
 use std::io;
 use std::process::ExitCode;
-use tpcc_population::Opening;
+use tpcc_audit::{DumpFault, dump};
+use tpcc_population::{Opening, fill};
+use tpcc_rows::Table;
 use tpcc_script::run_script;
 
 /// Serves a script's requests, from standard input to standard output.
@@ -22,6 +24,22 @@ fn script<R: Print + Input>(rt: &R, alloc: Global, opening: &Opening) -> Result<
     match run_script(alloc, &mut input, &mut out, opening) {
         Ok(()) => Ok(()),
         Err(fault) => Err(ProgramFault::Script(fault)),
+    }
+}
+
+/// Writes a table of the opening to standard output.
+fn dump_table<R: Print>(
+    rt: &R,
+    alloc: Global,
+    opening: &Opening,
+    table: Table,
+) -> Result<(), ProgramFault> {
+    let Ok(tables) = fill(alloc, opening) else {
+        return Err(ProgramFault::Dump(DumpFault::NoMemory));
+    };
+    match dump(alloc, &tables, table, io::writer(rt)) {
+        Ok(_) => Ok(()),
+        Err(fault) => Err(ProgramFault::Dump(fault)),
     }
 }
 
@@ -39,7 +57,10 @@ fn asked<R: Env + AllocGlobal>(rt: &R, alloc: Global) -> Result<Asked, ProgramFa
 fn run<R: Print + Input + Env + AllocGlobal>(rt: &R, alloc: Global) -> Result<(), ProgramFault> {
     let asked = asked(rt, alloc)?;
     let opening = asked.opening()?;
-    script(rt, alloc, &opening)
+    match asked.task {
+        Task::Script => script(rt, alloc, &opening),
+        Task::Dump(table) => dump_table(rt, alloc, &opening, table),
+    }
 }
 
 fn main(rt: HostRuntime) -> ExitCode {

@@ -5,14 +5,26 @@ use clap::error::ErrorKind;
 use clap::{Arg, ArgAction, ArgMatches, Command, value_parser};
 use std::alloc::{AllocError, Global};
 use std::convert::AsStr;
+use tpcc_audit::table_named;
 use tpcc_money::Moment;
 use tpcc_population::{Opening, Scale};
+use tpcc_rows::Table;
 
 const FIRST_SECOND_OF_2100: u32 = 4_102_444_800;
+
+/// What the program is to do.
+#[derive(Clone, Copy, Debug, PartialEq, Eq)]
+pub enum Task {
+    /// Serve a script.
+    Script,
+    /// Write a table of the opening.
+    Dump(Table),
+}
 
 /// What the words ask.
 #[derive(Clone, Copy, Debug)]
 pub struct Asked {
+    pub task: Task,
     pub warehouses: u32,
     pub customers: u32,
     pub items: u32,
@@ -68,17 +80,36 @@ fn with_opening<'a>(alloc: Global, name: &'static str) -> Result<Command<'a>, Al
 
 fn program<'a>(alloc: Global) -> Result<Command<'a>, AllocError> {
     let script = with_opening(alloc, "script")?;
+    let table = Arg::new(alloc, "table")
+        .required(true)
+        .action(ArgAction::Set);
+    let dump = with_opening(alloc, "dump")?.arg(table)?;
     Command::new(alloc, "tpcc")
         .subcommand_required(true)
-        .subcommand(script)
+        .subcommand(script)?
+        .subcommand(dump)
 }
 
-fn read_options(matches: &ArgMatches<'_>) -> Result<Asked, ProgramFault> {
+fn read_task(name: &str, matches: &ArgMatches<'_>) -> Result<Task, ProgramFault> {
+    if name == "script" {
+        return Ok(Task::Script);
+    }
+    let Some(table) = matches.get_str("table") else {
+        return Err(ProgramFault::Arguments);
+    };
+    match table_named(table.as_bytes()) {
+        Some(table) => Ok(Task::Dump(table)),
+        None => Err(ProgramFault::Arguments),
+    }
+}
+
+fn read_options(task: Task, matches: &ArgMatches<'_>) -> Result<Asked, ProgramFault> {
     let moment = matches.get_one::<u32>("moment").unwrap_or(0);
     if moment >= FIRST_SECOND_OF_2100 {
         return Err(ProgramFault::Arguments);
     }
     Ok(Asked {
+        task,
         warehouses: matches.get_one::<u32>("warehouses").unwrap_or(1),
         customers: matches.get_one::<u32>("customers").unwrap_or(10),
         items: matches.get_one::<u32>("items").unwrap_or(100),
@@ -90,15 +121,15 @@ fn read_options(matches: &ArgMatches<'_>) -> Result<Asked, ProgramFault> {
 
 /// Reads the words, of which the first is the program's name.
 ///
-/// Refused as Arguments where `clap` refuses them, a wish for help or version among it, and where
-/// the moment is past the year 2099; as NoMemory for want of memory.
+/// Refused as Arguments where `clap` refuses them, a wish for help or version among it, where no
+/// table has that name, and where the moment is past the year 2099; as NoMemory for want of memory.
 pub fn read_words<'a, S: AsStr>(alloc: Global, words: &'a [S]) -> Result<Asked, ProgramFault> {
     let Ok(command) = program(alloc) else {
         return Err(ProgramFault::NoMemory);
     };
     match command.try_get_matches_from(words) {
         Ok(matches) => match matches.subcommand() {
-            Some((_, options)) => read_options(options),
+            Some((name, options)) => read_options(read_task(name, options)?, options),
             None => Err(ProgramFault::Arguments),
         },
         Err(error) if error.kind() == ErrorKind::OutOfMemory => Err(ProgramFault::NoMemory),
