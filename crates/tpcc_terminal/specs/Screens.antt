@@ -1,5 +1,5 @@
 -- The screens: lines ended by a line feed, fields divided by one space, named as in the standard.
-use Rattle.std.specs.Prelude.{ℕ, ◌+◌, List, [], ◌∷◌, ◌++◌, flat_map, Option, Some, None, codes, decimal}
+use Rattle.std.specs.Prelude.{ℕ, ◌+◌, List, [], ◌∷◌, ◌++◌, flat_map, Option, Some, None, codes, decimal, Result, Ok, Err}
 use Rattle.tpcc_money.specs.Texts.{amount_text, rate_text, moment_text}
 use Rattle.tpcc_rows.specs.declared.rows.Address.{Address}
 use Rattle.tpcc_rows.specs.declared.requests.Ticket.{Ticket}
@@ -233,6 +233,11 @@ reply_screen (tell.Status s) = status_screen s
 reply_screen (tell.Level l) = level_screen l
 reply_screen (tell.Queued t) = queued_screen t
 reply_screen (tell.Delivery d) = delivery_screen d
+
+-- what a book answered shows
+abbrev pub answer_screen : Result Reply Refusal → List ℕ
+answer_screen (Ok reply) = reply_screen reply
+answer_screen (Err refusal) = refused_screen refusal
 
 -- what a check shows
 unfoldable pub check_screen : Option Broken → List ℕ

@@ -9,7 +9,7 @@ use crate::new_order::put_entered;
 use crate::order_status::put_status;
 use crate::payment::put_paid;
 use crate::refusal::put_refusal;
-use crate::screen::Screen;
+use crate::lines::Screen;
 use crate::stock_level::put_level;
 use std::alloc::Global;
 use tpcc_money::NoMemory;
