@@ -1,1 +1,143 @@
-//! The options, and what they refuse.
+//! The words of the command line, and what they refuse.
+use super::*;
+use crate::options::Task;
+use std::test::Fail;
+use tpcc_money::Moment;
+use tpcc_population::ScaleFault;
+use tpcc_rows::Table;
+use tpcc_script::ScriptFault;
+
+static PLAIN: [&str; 2] = ["tpcc", "script"];
+
+static LARGER: [&str; 8] = [
+    "tpcc",
+    "script",
+    "--warehouses",
+    "2",
+    "--customers",
+    "40",
+    "--items",
+    "200",
+];
+
+static DRAWN: [&str; 8] = [
+    "tpcc",
+    "dump",
+    "ORDER-LINE",
+    "--seeded",
+    "--seed",
+    "18446744073709551615",
+    "--moment",
+    "4102444799",
+];
+
+static NOTHING: [&str; 1] = ["tpcc"];
+
+static UNKNOWN: [&str; 2] = ["tpcc", "serve"];
+
+static HELP: [&str; 2] = ["tpcc", "--help"];
+
+static NO_TABLE: [&str; 3] = ["tpcc", "dump", "FOO"];
+
+static SMALL_LETTERS: [&str; 3] = ["tpcc", "dump", "warehouse"];
+
+static LATE: [&str; 4] = ["tpcc", "script", "--moment", "4102444800"];
+
+static MINUS: [&str; 4] = ["tpcc", "script", "--items", "-1"];
+
+static TWICE: [&str; 6] = ["tpcc", "script", "--items", "100", "--items", "200"];
+
+#[test]
+fn options_and_their_defaults(rt: HostRuntime) -> Result<(), Fail> {
+    let asked = read_words(rt.alloc(), PLAIN.as_slice())?;
+    assert_eq!(rt; asked.task, Task::Script);
+    assert_eq!(rt;
+        (asked.warehouses, asked.customers, asked.items),
+        (1, 10, 100)
+    );
+    assert_eq!(rt;
+        (asked.seed, asked.moment, asked.seeded),
+        (1, Moment::new(0), false)
+    );
+
+    let asked = read_words(rt.alloc(), LARGER.as_slice())?;
+    assert_eq!(rt;
+        (asked.warehouses, asked.customers, asked.items),
+        (2, 40, 200)
+    );
+
+    let asked = read_words(rt.alloc(), DRAWN.as_slice())?;
+    assert_eq!(rt; asked.task, Task::Dump(Table::OrderLine));
+    assert_eq!(rt;
+        (asked.seed, asked.moment, asked.seeded),
+        (u64::MAX, Moment::new(4_102_444_799), true)
+    );
+    Ok(())
+}
+
+fn is_refused(alloc: Global, words: &'static [&'static str]) -> bool {
+    match read_words(alloc, words) {
+        Ok(_) => false,
+        Err(fault) => fault == ProgramFault::Arguments,
+    }
+}
+
+#[test]
+fn words_that_are_refused(rt: HostRuntime) {
+    let alloc = rt.alloc();
+    assert!(rt; is_refused(alloc, NOTHING.as_slice()));
+    assert!(rt; is_refused(alloc, UNKNOWN.as_slice()));
+    assert!(rt; is_refused(alloc, HELP.as_slice()));
+    assert!(rt; is_refused(alloc, NO_TABLE.as_slice()));
+    assert!(rt; is_refused(alloc, SMALL_LETTERS.as_slice()));
+    assert!(rt; is_refused(alloc, LATE.as_slice()));
+    assert!(rt; is_refused(alloc, MINUS.as_slice()));
+    assert!(rt; is_refused(alloc, TWICE.as_slice()));
+}
+
+#[test]
+fn faults_and_their_statuses(rt: HostRuntime) -> Result<(), Fail> {
+    let alloc = rt.alloc();
+    for (fault, text, status) in [
+        (ProgramFault::Arguments, "fault 1 Arguments", 1),
+        (ProgramFault::NoMemory, "fault 2 NoMemory", 4),
+        (
+            ProgramFault::Scale(ScaleFault::Warehouses),
+            "fault 1 Warehouses",
+            1,
+        ),
+        (
+            ProgramFault::Scale(ScaleFault::Customers),
+            "fault 2 Customers",
+            1,
+        ),
+        (ProgramFault::Scale(ScaleFault::Items), "fault 3 Items", 1),
+        (
+            ProgramFault::Script(ScriptFault::Bad(3)),
+            "fault 1 Bad 3",
+            2,
+        ),
+        (
+            ProgramFault::Script(ScriptFault::TooManyLines),
+            "fault 4 TooManyLines",
+            2,
+        ),
+        (ProgramFault::Script(ScriptFault::Write), "fault 6 Write", 3),
+        (
+            ProgramFault::Script(ScriptFault::NoMemory),
+            "fault 7 NoMemory",
+            4,
+        ),
+        (ProgramFault::Dump(DumpFault::Write), "fault 1 Write", 3),
+        (
+            ProgramFault::Dump(DumpFault::NoMemory),
+            "fault 2 NoMemory",
+            4,
+        ),
+    ] {
+        let line = fault.to_string(alloc)?;
+        assert_eq!(rt; line.as_str(), text);
+        assert_eq!(rt; fault.status(), status);
+    }
+    Ok(())
+}
