@@ -23,4 +23,3 @@ pub use engine::Engine;
 pub use fault::ScriptFault;
 pub use parse::parse_line;
 pub use script::run_script;
-
