@@ -31,10 +31,7 @@ fn payment() -> Request {
 }
 
 /// The place of the request's entry, or its refusal, and the purse.
-fn pay<N: Naming>(
-    book: &mut Book<N>,
-    purse: Purse<N>,
-) -> (Option<u64>, Option<Refusal>, Purse<N>) {
+fn pay<N: Naming>(book: &mut Book<N>, purse: Purse<N>) -> (Option<u64>, Option<Refusal>, Purse<N>) {
     let answer = book.serve(payment(), purse);
     let place = answer.place();
     let refusal = match answer.outcome() {
@@ -64,8 +61,14 @@ fn two_purses<N: Naming, R: Abort>(rt: &R, alloc: Global, blanks: Blanks) -> Res
     assert_eq!(rt; (place, refusal), (Some(0), None));
     let (place, refusal, two) = pay(&mut book, two);
     assert_eq!(rt; (place, refusal), (None, Some(Refusal::Stranger(1))));
-    assert_eq!(rt; (one.terminal(), one.entries(), one.paid()), (5, 1, Cents::new(100)));
-    assert_eq!(rt; (two.terminal(), two.entries(), two.paid()), (5, 0, Cents::new(0)));
+    assert_eq!(rt;
+        (one.terminal(), one.entries(), one.paid()),
+        (5, 1, Cents::new(100))
+    );
+    assert_eq!(rt;
+        (two.terminal(), two.entries(), two.paid()),
+        (5, 0, Cents::new(0))
+    );
 
     assert_eq!(rt; book.journal().len(), 1);
     assert_eq!(rt;

@@ -2,11 +2,11 @@
 use Rattle.std.proofs.Common.{◌≡◌, ℕ, zero, suc, ◌+◌, Bool, List, [], ◌∷◌, length, take, refl, ◌∙◌, arith, Some, None}
 use Rattle.std.specs.Prelude.{slice_get}
 use Rattle.std.specs.Option.{option_or}
-use Rattle.tpcc_rows.specs.Conditions.{Broken, first_failing, at_warehouse, at_district, at_order, at_order_line, at_customer, keeps_1, keeps_2, keeps_3, keeps_4, keeps_5, keeps_6, keeps_7, keeps_8, keeps_9, keeps_10, keeps_12}
+use Rattle.tpcc_rows.specs.Conditions.{Broken, first_failing, at_warehouse, at_district, at_order, at_order_line, at_customer, keeps_1, keeps_2, keeps_3, keeps_4, keeps_5, keeps_6, keeps_7, keeps_8, keeps_9, keeps_10, keeps_11, keeps_12}
 use Rattle.tpcc_rows.specs.Tables.{Rows}
 use Rattle.tpcc_tables.specs.Positions.{count_of}
 use Rattle.tpcc_conditions.specs.declared.condition.Condition.{Condition}
-use Rattle.tpcc_conditions.specs.declared.condition.Condition.TheVariants.{One, Two, Three, Four, Five, Six, Seven, Eight, Nine, Ten, Twelve}
+use Rattle.tpcc_conditions.specs.declared.condition.Condition.TheVariants.{One, Two, Three, Four, Five, Six, Seven, Eight, Nine, Ten, Eleven, Twelve}
 use Rattle.tpcc_conditions.specs.First.{failing_row, failing_at, first_to, first_of, tested_table}
 
 take_suc : {X : Type 0} (keeps : X → Bool) (broken : X → Broken) (xs : List X) (i : ℕ) → first_failing keeps broken (take (suc i) xs) ≡ option_or (first_failing keeps broken (take i xs)) (failing_row keeps broken (slice_get xs i))
@@ -40,6 +40,7 @@ next_row Seven rows i = take_next (keeps_7 rows) (at_order_line 7) rows.order_li
 next_row Eight rows i = take_next (keeps_8 rows) (at_warehouse 8) rows.warehouses i
 next_row Nine rows i = take_next (keeps_9 rows) (at_district 9) rows.districts i
 next_row Ten rows i = take_next (keeps_10 rows) (at_customer 10) rows.customers i
+next_row (Eleven customers) rows i = take_next (keeps_11 customers rows) (at_district 11) rows.districts i
 next_row Twelve rows i = take_next (keeps_12 rows) (at_customer 12) rows.customers i
 
 pub no_row : (condition : Condition) (rows : Rows) → first_to condition rows 0 ≡ None
@@ -54,6 +55,7 @@ no_row Seven rows = refl
 no_row Eight rows = refl
 no_row Nine rows = refl
 no_row Ten rows = refl
+no_row (Eleven customers) rows = refl
 no_row Twelve rows = refl
 
 pub found_early : (condition : Condition) (rows : Rows) (i : ℕ) (b : Broken) → first_to condition rows i ≡ Some b → first_of condition rows ≡ Some b
@@ -68,6 +70,7 @@ found_early Seven rows i b e = early (keeps_7 rows) (at_order_line 7) rows.order
 found_early Eight rows i b e = early (keeps_8 rows) (at_warehouse 8) rows.warehouses i b e
 found_early Nine rows i b e = early (keeps_9 rows) (at_district 9) rows.districts i b e
 found_early Ten rows i b e = early (keeps_10 rows) (at_customer 10) rows.customers i b e
+found_early (Eleven customers) rows i b e = early (keeps_11 customers rows) (at_district 11) rows.districts i b e
 found_early Twelve rows i b e = early (keeps_12 rows) (at_customer 12) rows.customers i b e
 
 pub all_are : (condition : Condition) (rows : Rows) → first_to condition rows (count_of rows (tested_table condition)) ≡ first_of condition rows
@@ -82,6 +85,7 @@ all_are Seven rows = all_rows (keeps_7 rows) (at_order_line 7) rows.order_lines
 all_are Eight rows = all_rows (keeps_8 rows) (at_warehouse 8) rows.warehouses
 all_are Nine rows = all_rows (keeps_9 rows) (at_district 9) rows.districts
 all_are Ten rows = all_rows (keeps_10 rows) (at_customer 10) rows.customers
+all_are (Eleven customers) rows = all_rows (keeps_11 customers rows) (at_district 11) rows.districts
 all_are Twelve rows = all_rows (keeps_12 rows) (at_customer 12) rows.customers
 
 pub fails_here : (condition : Condition) (rows : Rows) (i : ℕ) (b : Broken) → first_to condition rows i ≡ None → failing_at condition rows i ≡ Some b → first_of condition rows ≡ Some b

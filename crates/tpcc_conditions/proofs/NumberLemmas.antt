@@ -72,3 +72,7 @@ none_by None true e = refl
 none_by None false e = cc
 none_by (Some x) true e = cc
 none_by (Some x) false e = refl
+
+-- one count is so much more than another
+pub more_by : (a b c : ℕ) → int_eq (pos a -ℤ pos b) (pos c) ≡ (a == b + c)
+more_by a b c = grind (arith, ints, nat_tests)

@@ -11,7 +11,7 @@ use Rattle.tpcc_rows.specs.declared.rows.CustomerRow.{CustomerRow}
 use Rattle.tpcc_rows.specs.Conditions.{delivered_amount, delivered_to}
 use Rattle.tpcc_tables.specs.Positions.{count_of}
 use Rattle.tpcc_conditions.specs.declared.column.Column.{Column}
-use Rattle.tpcc_conditions.specs.declared.column.Column.TheVariants.{DistrictTotals, PaidIntoWarehouse, PaidIntoDistrict, PaidBy, LineCounts, Lines, LinesOf, NewOrders, DeliveredTo}
+use Rattle.tpcc_conditions.specs.declared.column.Column.TheVariants.{DistrictTotals, PaidIntoWarehouse, PaidIntoDistrict, PaidBy, LineCounts, Orders, Lines, LinesOf, NewOrders, DeliveredTo}
 use Rattle.tpcc_conditions.specs.Columns.{of_row, district_of, paid_warehouse, paid_district, order_in, line_in, new_order_in, from_row, term_of, sum_to, table_of}
 
 take_suc : {X : Type 0} (f : X → ℤ) (xs : List X) (i : ℕ) → total f (take (suc i) xs) ≡ total f (take i xs) +ℤ from_row f (slice_get xs i)
@@ -29,6 +29,7 @@ next_term (DistrictTotals w) rows i = take_next (of_row (district_of w) (λ d. d
 next_term (PaidIntoWarehouse w) rows i = take_next (of_row (paid_warehouse w) (λ h. h.amount)) rows.histories i
 next_term (PaidIntoDistrict w d) rows i = take_next (of_row (paid_district w d) (λ h. h.amount)) rows.histories i
 next_term (PaidBy w d c) rows i = take_next (of_row (is_paid_by w d c) (λ h. h.amount)) rows.histories i
+next_term (Orders w d) rows i = take_next (of_row (order_in w d) (λ _. pos 1)) rows.orders i
 next_term (LineCounts w d) rows i = take_next (of_row (order_in w d) (λ o. pos o.line_count)) rows.orders i
 next_term (Lines w d) rows i = take_next (of_row (line_in w d) (λ _. pos 1)) rows.order_lines i
 next_term (LinesOf w d o) rows i = take_next (of_row (is_line_of w d o) (λ _. pos 1)) rows.order_lines i
@@ -41,6 +42,7 @@ no_term (DistrictTotals w) rows = refl
 no_term (PaidIntoWarehouse w) rows = refl
 no_term (PaidIntoDistrict w d) rows = refl
 no_term (PaidBy w d c) rows = refl
+no_term (Orders w d) rows = refl
 no_term (LineCounts w d) rows = refl
 no_term (Lines w d) rows = refl
 no_term (LinesOf w d o) rows = refl
@@ -90,6 +92,10 @@ lines_are rows w d = all_length (line_in w d) rows.order_lines
 pub lines_of_are : (rows : Rows) (w d o : ℕ) → whole (LinesOf w d o) rows ≡ pos (length (lines_of rows w d o))
 unfolding sum_to count_of
 lines_of_are rows w d o = all_length (is_line_of w d o) rows.order_lines
+
+pub orders_are : (rows : Rows) (w d : ℕ) → whole (Orders w d) rows ≡ pos (length (orders_in rows w d))
+unfolding sum_to count_of
+orders_are rows w d = all_length (order_in w d) rows.orders
 
 pub new_orders_are : (rows : Rows) (w d : ℕ) → whole (NewOrders w d) rows ≡ pos (length (new_orders_in rows w d))
 unfolding sum_to count_of

@@ -11,7 +11,7 @@ use Rattle.tpcc_rows.specs.declared.row.Table.TheVariants as table
 use Rattle.tpcc_rows.specs.Tables.{Rows, is_paid_by, is_line_of, is_order_of}
 use Rattle.tpcc_rows.specs.Conditions.{delivered_amount}
 use Rattle.tpcc_conditions.specs.declared.column.Column.{Column}
-use Rattle.tpcc_conditions.specs.declared.column.Column.TheVariants.{DistrictTotals, PaidIntoWarehouse, PaidIntoDistrict, PaidBy, LineCounts, Lines, LinesOf, NewOrders, DeliveredTo}
+use Rattle.tpcc_conditions.specs.declared.column.Column.TheVariants.{DistrictTotals, PaidIntoWarehouse, PaidIntoDistrict, PaidBy, LineCounts, Orders, Lines, LinesOf, NewOrders, DeliveredTo}
 
 -- the number of a row that passes, 0 of another
 abbrev pub of_row : {X : Type 0} → (X → Bool) → (X → ℤ) → X → ℤ
@@ -45,6 +45,7 @@ term_of (DistrictTotals w) rows i = from_row (of_row (district_of w) (λ d. d.yt
 term_of (PaidIntoWarehouse w) rows i = from_row (of_row (paid_warehouse w) (λ h. h.amount)) (slice_get rows.histories i)
 term_of (PaidIntoDistrict w d) rows i = from_row (of_row (paid_district w d) (λ h. h.amount)) (slice_get rows.histories i)
 term_of (PaidBy w d c) rows i = from_row (of_row (is_paid_by w d c) (λ h. h.amount)) (slice_get rows.histories i)
+term_of (Orders w d) rows i = from_row (of_row (order_in w d) (λ _. pos 1)) (slice_get rows.orders i)
 term_of (LineCounts w d) rows i = from_row (of_row (order_in w d) (λ o. pos o.line_count)) (slice_get rows.orders i)
 term_of (Lines w d) rows i = from_row (of_row (line_in w d) (λ _. pos 1)) (slice_get rows.order_lines i)
 term_of (LinesOf w d o) rows i = from_row (of_row (is_line_of w d o) (λ _. pos 1)) (slice_get rows.order_lines i)
@@ -57,6 +58,7 @@ sum_to (DistrictTotals w) rows i = total (of_row (district_of w) (λ d. d.ytd)) 
 sum_to (PaidIntoWarehouse w) rows i = total (of_row (paid_warehouse w) (λ h. h.amount)) (take i rows.histories)
 sum_to (PaidIntoDistrict w d) rows i = total (of_row (paid_district w d) (λ h. h.amount)) (take i rows.histories)
 sum_to (PaidBy w d c) rows i = total (of_row (is_paid_by w d c) (λ h. h.amount)) (take i rows.histories)
+sum_to (Orders w d) rows i = total (of_row (order_in w d) (λ _. pos 1)) (take i rows.orders)
 sum_to (LineCounts w d) rows i = total (of_row (order_in w d) (λ o. pos o.line_count)) (take i rows.orders)
 sum_to (Lines w d) rows i = total (of_row (line_in w d) (λ _. pos 1)) (take i rows.order_lines)
 sum_to (LinesOf w d o) rows i = total (of_row (is_line_of w d o) (λ _. pos 1)) (take i rows.order_lines)
@@ -69,6 +71,7 @@ table_of (DistrictTotals w) = table.District
 table_of (PaidIntoWarehouse w) = table.History
 table_of (PaidIntoDistrict w d) = table.History
 table_of (PaidBy w d c) = table.History
+table_of (Orders w d) = table.Order
 table_of (LineCounts w d) = table.Order
 table_of (Lines w d) = table.OrderLine
 table_of (LinesOf w d o) = table.OrderLine

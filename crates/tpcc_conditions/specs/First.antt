@@ -2,10 +2,11 @@
 use Rattle.std.specs.Prelude.{ℕ, Bool, take, if◌then◌else◌, Option, Some, None, slice_get}
 use Rattle.tpcc_rows.specs.declared.row.Table.{Table}
 use Rattle.tpcc_rows.specs.declared.row.Table.TheVariants as table
-use Rattle.tpcc_rows.specs.Conditions.{Broken, first_failing, at_warehouse, at_district, at_order, at_order_line, at_customer, keeps_1, keeps_2, keeps_3, keeps_4, keeps_5, keeps_6, keeps_7, keeps_8, keeps_9, keeps_10, keeps_12}
+use Rattle.std.specs.Option.{option_or}
+use Rattle.tpcc_rows.specs.Conditions.{Broken, first_broken, first_failing, at_warehouse, at_district, at_order, at_order_line, at_customer, keeps_1, keeps_2, keeps_3, keeps_4, keeps_5, keeps_6, keeps_7, keeps_8, keeps_9, keeps_10, keeps_11, keeps_12}
 use Rattle.tpcc_rows.specs.Tables.{Rows}
 use Rattle.tpcc_conditions.specs.declared.condition.Condition.{Condition}
-use Rattle.tpcc_conditions.specs.declared.condition.Condition.TheVariants.{One, Two, Three, Four, Five, Six, Seven, Eight, Nine, Ten, Twelve}
+use Rattle.tpcc_conditions.specs.declared.condition.Condition.TheVariants.{One, Two, Three, Four, Five, Six, Seven, Eight, Nine, Ten, Eleven, Twelve}
 
 -- what is broken at the row at a place, if there is a row and it fails
 abbrev pub failing_row : {X : Type 0} → (X → Bool) → (X → Broken) → Option X → Option Broken
@@ -23,6 +24,7 @@ failing_at Seven rows i = failing_row (keeps_7 rows) (at_order_line 7) (slice_ge
 failing_at Eight rows i = failing_row (keeps_8 rows) (at_warehouse 8) (slice_get rows.warehouses i)
 failing_at Nine rows i = failing_row (keeps_9 rows) (at_district 9) (slice_get rows.districts i)
 failing_at Ten rows i = failing_row (keeps_10 rows) (at_customer 10) (slice_get rows.customers i)
+failing_at (Eleven customers) rows i = failing_row (keeps_11 customers rows) (at_district 11) (slice_get rows.districts i)
 failing_at Twelve rows i = failing_row (keeps_12 rows) (at_customer 12) (slice_get rows.customers i)
 
 -- the first failing row of the first i rows
@@ -37,6 +39,7 @@ first_to Seven rows i = first_failing (keeps_7 rows) (at_order_line 7) (take i r
 first_to Eight rows i = first_failing (keeps_8 rows) (at_warehouse 8) (take i rows.warehouses)
 first_to Nine rows i = first_failing (keeps_9 rows) (at_district 9) (take i rows.districts)
 first_to Ten rows i = first_failing (keeps_10 rows) (at_customer 10) (take i rows.customers)
+first_to (Eleven customers) rows i = first_failing (keeps_11 customers rows) (at_district 11) (take i rows.districts)
 first_to Twelve rows i = first_failing (keeps_12 rows) (at_customer 12) (take i rows.customers)
 
 -- the first failing row of all rows
@@ -51,7 +54,12 @@ first_of Seven rows = first_failing (keeps_7 rows) (at_order_line 7) rows.order_
 first_of Eight rows = first_failing (keeps_8 rows) (at_warehouse 8) rows.warehouses
 first_of Nine rows = first_failing (keeps_9 rows) (at_district 9) rows.districts
 first_of Ten rows = first_failing (keeps_10 rows) (at_customer 10) rows.customers
+first_of (Eleven customers) rows = first_failing (keeps_11 customers rows) (at_district 11) rows.districts
 first_of Twelve rows = first_failing (keeps_12 rows) (at_customer 12) rows.customers
+
+-- 3.3.2.11 comes last, and is asked of an opening with so many customers in a district
+abbrev pub first_broken_opening : ℕ → Rows → Option Broken
+first_broken_opening customers rows = option_or (first_broken rows) (first_of (Eleven customers) rows)
 
 -- the table whose rows a condition tests
 abbrev pub tested_table : Condition → Table
@@ -65,4 +73,5 @@ tested_table Seven = table.OrderLine
 tested_table Eight = table.Warehouse
 tested_table Nine = table.District
 tested_table Ten = table.Customer
+tested_table (Eleven customers) = table.District
 tested_table Twelve = table.Customer

@@ -23,6 +23,7 @@ pub enum Column {
     PaidBy(u32, u32, u32),
     /// O_OL_CNT of a warehouse and district.
     LineCounts(u32, u32),
+    Orders(u32, u32),
     /// One for each ORDER-LINE row of a warehouse and district.
     Lines(u32, u32),
     /// One for each ORDER-LINE row of an order of a warehouse and district.
@@ -81,6 +82,16 @@ fn line_count(row: &OrderRow, warehouse: u32, district: u32) -> i64
 {
     if row.warehouse == warehouse && row.district == district {
         i64::from(row.line_count)
+    } else {
+        0
+    }
+}
+
+fn one_order(row: &OrderRow, warehouse: u32, district: u32) -> i64
+    ensures { result ≡ of_row (order_in warehouse district) (λ _. pos 1) row.now }
+{
+    if row.warehouse == warehouse && row.district == district {
+        1
     } else {
         0
     }
@@ -158,6 +169,10 @@ pub fn term(tables: &Tables, column: Column, position: usize) -> i64
             Some(row) => line_count(row, warehouse, district),
             None => 0,
         },
+        Column::Orders(warehouse, district) => match places::order(tables, position) {
+            Some(row) => one_order(row, warehouse, district),
+            None => 0,
+        },
         Column::Lines(warehouse, district) => match places::line(tables, position) {
             Some(row) => one_line(row, warehouse, district),
             None => 0,
@@ -188,6 +203,7 @@ fn table(column: Column) -> Table
         Column::PaidIntoDistrict(_, _) => Table::History,
         Column::PaidBy(_, _, _) => Table::History,
         Column::LineCounts(_, _) => Table::Order,
+        Column::Orders(_, _) => Table::Order,
         Column::Lines(_, _) => Table::OrderLine,
         Column::LinesOf(_, _, _) => Table::OrderLine,
         Column::NewOrders(_, _) => Table::NewOrder,

@@ -8,7 +8,7 @@ use crate::{keeps, places};
 use tpcc_rows::row::Table;
 use tpcc_tables::tables::Tables;
 
-/// The conditions 3.3.2.1 to 3.3.2.10 and 3.3.2.12.
+/// The conditions of clause 3.3.2.
 #[derive(Clone, Copy, Debug)]
 pub enum Condition {
     One,
@@ -21,6 +21,8 @@ pub enum Condition {
     Eight,
     Nine,
     Ten,
+    /// Of an opening with so many customers in each district.
+    Eleven(u32),
     Twelve,
 }
 
@@ -85,6 +87,13 @@ fn broken_at(tables: &Tables, condition: Condition, position: usize) -> Option<B
             Some(row) => unless(keeps::balance(tables, row), at_customer(10, row)),
             None => None,
         },
+        Condition::Eleven(customers) => match places::district(tables, position) {
+            Some(row) => unless(
+                keeps::delivered_orders(tables, row, customers),
+                at_district(11, row),
+            ),
+            None => None,
+        },
         Condition::Twelve => match places::customer(tables, position) {
             Some(row) => unless(
                 keeps::balance_and_payments(tables, row),
@@ -109,6 +118,7 @@ fn table(condition: Condition) -> Table
         Condition::Eight => Table::Warehouse,
         Condition::Nine => Table::District,
         Condition::Ten => Table::Customer,
+        Condition::Eleven(_) => Table::District,
         Condition::Twelve => Table::Customer,
     }
 }

@@ -3,7 +3,7 @@ ghost use Rattle.std.specs.Prelude.{◌≡◌, ◌+ℤ◌, ◌-ℤ◌, ◌+◌, 
 ghost use Rattle.std.specs.Ordering.{int_eq};
 ghost use Rattle.tpcc_rows.specs.Lists.{largest};
 ghost use Rattle.tpcc_rows.specs.Tables.{order_at};
-ghost use Rattle.tpcc_rows.specs.Conditions.{keeps_1, keeps_2, keeps_3, keeps_4, keeps_5, keeps_6, keeps_7, keeps_8, keeps_9, keeps_10, keeps_12, new_order_numbers};
+ghost use Rattle.tpcc_rows.specs.Conditions.{keeps_1, keeps_2, keeps_3, keeps_4, keeps_5, keeps_6, keeps_7, keeps_8, keeps_9, keeps_10, keeps_11, keeps_12, new_order_numbers};
 
 use crate::{numbers, sums};
 use tpcc_money::Cents;
@@ -61,6 +61,16 @@ pub fn no_gap(tables: &Tables, row: &DistrictRow) -> bool
         Some(oldest) => is_span(tables, row, oldest),
         None => true,
     }
+}
+
+#[tactic(auto, unfolding(tpcc_rows::specs::Conditions::keeps_11), using(crate::proofs::NumberLemmas::more_by))]
+/// Condition 11, of an opening: 7/10 as many orders as customers are delivered.
+pub fn delivered_orders(tables: &Tables, row: &DistrictRow, customers: u32) -> bool
+    ensures { result ≡ keeps_11 customers tables.now.rows row.now }
+{
+    let delivered = 7 * u64::from(customers) / 10;
+    sums::orders(tables, row.warehouse, row.id) - sums::new_orders(tables, row.warehouse, row.id)
+        == i128::from(delivered)
 }
 
 #[tactic(auto, unfolding(tpcc_rows::specs::Conditions::keeps_4), using(crate::proofs::SumLemmas::pos_eq))]

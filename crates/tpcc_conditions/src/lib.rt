@@ -15,5 +15,5 @@ mod sums;
 #[cfg(test)]
 mod tests;
 
-pub use all::check;
+pub use all::{check, check_opening};
 pub use broken::Broken;

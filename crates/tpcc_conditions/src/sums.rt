@@ -57,6 +57,14 @@ pub fn line_counts(tables: &Tables, warehouse: u32, district: u32) -> i128
     sum(tables, Column::LineCounts(warehouse, district))
 }
 
+#[tactic(auto, using(crate::proofs::SumLemmas::orders_are))]
+/// How many ORDER rows a district has.
+pub fn orders(tables: &Tables, warehouse: u32, district: u32) -> i128
+    ensures { result ≡ pos (length (orders_in tables.now.rows warehouse district)) }
+{
+    sum(tables, Column::Orders(warehouse, district))
+}
+
 #[tactic(auto, using(crate::proofs::SumLemmas::lines_are))]
 /// How many ORDER-LINE rows a district has.
 pub fn lines(tables: &Tables, warehouse: u32, district: u32) -> i128

@@ -1,7 +1,8 @@
 //! Each condition broken by one change of the opening.
 use crate::opening::{Change, opened};
-use crate::{Broken, check};
+use crate::{Broken, check, check_opening};
 use std::test::Fail;
+use tpcc_population::{Opening, Scale, fill};
 
 fn at(condition: u32, district: u32, number: u32) -> Result<(), Broken> {
     Err(Broken {
@@ -32,5 +33,23 @@ fn names_the_first_broken_condition(rt: HostRuntime) -> Result<(), Fail> {
         let tables = opened(rt.alloc(), change)?;
         assert_eq!(rt; check(&tables), answer, "{change:?}");
     }
+    Ok(())
+}
+
+#[test]
+fn an_opening_has_seven_of_ten_orders_delivered(rt: HostRuntime) -> Result<(), Fail> {
+    let scale = Scale::new(1, 10, 100)?;
+    let tables = fill(rt.alloc(), &Opening::Plain { scale })?;
+    assert_eq!(rt; check_opening(&tables, scale), Ok(()));
+    let broken = Broken {
+        condition: 11,
+        warehouse: 1,
+        district: 1,
+        number: 0,
+    };
+    assert_eq!(rt;
+        check_opening(&tables, Scale::new(1, 20, 100)?),
+        Err(broken)
+    );
     Ok(())
 }
