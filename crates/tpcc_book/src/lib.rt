@@ -9,6 +9,7 @@ mod purse;
 mod register;
 mod steps;
 mod turned;
+mod turns;
 
 pub use answer::Answer;
 pub use book::Book;
@@ -16,3 +17,4 @@ pub use naming::{Blanks, Entries, Naming, PaidCents};
 pub use purse::Purse;
 pub use register::Register;
 pub use turned::Turned;
+pub use turns::{Knows, Stage, TurnRule};

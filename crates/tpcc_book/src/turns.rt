@@ -1,0 +1,6 @@
+//! Turns at a book: a ticket word, a serving word, and the book in a slot.
+mod knows;
+mod rule;
+
+pub use knows::{Knows, Stage};
+pub use rule::TurnRule;
