@@ -1,17 +1,16 @@
 -- Drawing a ticket keeps the rule.
-use Rattle.std.proofs.Common.{◌≡◌, ◌≢◌, ◌⊎◌, ℕ, ◌+◌, ◌%◌, ◌^◌, ◌<◌, ◌≤◌, List, [], ◌∷◌, set, refl, sym, ap, ◌∙◌, subst, ⊎_elim, inl, inr, arith, Some}
+use Rattle.std.proofs.Common.{◌≡◌, ◌≢◌, ◌⊎◌, ℕ, ◌+◌, ◌%◌, ◌^◌, ◌<◌, List, [], ◌∷◌, set, refl, sym, ap, ◌∙◌, inl, inr, arith}
 use Rattle.std.specs.Prelude.{Option, slice_index, slice_set}
 use Rattle.std.proofs.Math.Nat.{mod-add-mod}
-use mathlib.Core.Option.{some, none, some-injective}
+use mathlib.Core.Option.{some, some-injective}
 use lib.ListN.{get_elem?}
-use Rattle.atomic_table.specs.Table.{State, Me, Step, step, keeps, Allows}
-use Rattle.atomic_table.proofs.Lists.{at_set, set_else}
+use Rattle.atomic_table.specs.Table.{State, Step, keeps, Allows}
+use Rattle.atomic_table.proofs.Lists.{set_else}
 use Rattle.tpcc_rows.specs.declared.entry.Entry.{Entry}
 use Rattle.tpcc_book.specs.Past.{Past}
 use Rattle.tpcc_book.specs.declared.turns.knows.Knows.{Knows}
-use Rattle.tpcc_book.specs.declared.turns.knows.Stage.{Stage}
 use Rattle.tpcc_book.specs.declared.turns.knows.Stage.TheVariants.{Idle, Out, Holds}
-use Rattle.tpcc_book.specs.Turning.{knows, out_of, total, HasTicket, Stands, IsSeated, AtHome, Away, IsTurning, Drew}
+use Rattle.tpcc_book.specs.Turning.{knows, out_of, IsSeated, AtHome, Away, IsTurning, Drew}
 use Rattle.tpcc_book.proofs.Seats.{total_set, each_set, apart_set, ticket_below, seated_more_drawn}
 use Rattle.tpcc_population.specs.declared.opening.Opening.{Opening}
 

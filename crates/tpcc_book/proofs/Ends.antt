@@ -1,16 +1,16 @@
 -- Ending a turn keeps the rule.
-use Rattle.std.proofs.Common.{◌≡◌, ◌≢◌, ◌⊎◌, ℕ, ◌+◌, ◌%◌, ◌^◌, ◌<◌, ◌≤◌, List, [], ◌∷◌, set, refl, sym, ap, ◌∙◌, subst, inl, inr, arith, Some}
-use Rattle.std.specs.Prelude.{Option, slice_index, slice_set}
-use mathlib.Core.Option.{some, none, some-injective, Option as Home}
+use Rattle.std.proofs.Common.{◌≡◌, ◌≢◌, ℕ, ◌+◌, ◌%◌, ◌^◌, ◌<◌, List, [], ◌∷◌, refl, sym, ap, ◌∙◌, subst, inl, inr, arith, Some}
+use Rattle.std.specs.Prelude.{Option, slice_set}
+use mathlib.Core.Option.{some, none, Option as Home}
 use mathlib.Core.List.{IsPrefix}
 use lib.ListN.{get_elem?}
-use Rattle.atomic_table.specs.Table.{State, Me, Step, gives, rest, Allows}
+use Rattle.atomic_table.specs.Table.{State, Step, gives, rest, Allows}
 use Rattle.tpcc_rows.specs.declared.entry.Entry.{Entry}
 use Rattle.tpcc_book.specs.Past.{Past}
 use Rattle.tpcc_book.specs.declared.turns.knows.Knows.{Knows}
 use Rattle.tpcc_book.specs.declared.turns.knows.Stage.{Stage}
 use Rattle.tpcc_book.specs.declared.turns.knows.Stage.TheVariants.{Idle, Out, Holds}
-use Rattle.tpcc_book.specs.Turning.{knows, out_of, total, HasTicket, Stands, IsSeated, AtHome, Away, IsTurning, Ended}
+use Rattle.tpcc_book.specs.Turning.{knows, out_of, HasTicket, Stands, IsSeated, IsTurning, Ended}
 use Rattle.tpcc_book.proofs.Seats.{total_set, each_set, apart_set, prefix_self, prefix_trans}
 use Rattle.tpcc_population.specs.declared.opening.Opening.{Opening}
 

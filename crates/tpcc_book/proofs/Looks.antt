@@ -1,20 +1,20 @@
 -- Looking whether the turn has come keeps the rule.
-use Rattle.std.proofs.Common.{◌≡◌, ◌≢◌, ◌⊎◌, ℕ, ◌+◌, ◌%◌, ◌^◌, ◌<◌, ◌≤◌, ◌==◌, Bool, true, false, List, [], ◌∷◌, set, refl, sym, ap, ◌∙◌, subst, ⊎_elim, inl, inr, arith, Some}
+use Rattle.std.proofs.Common.{◌≡◌, ◌≢◌, ℕ, ◌%◌, ◌^◌, ◌==◌, Bool, true, false, List, ◌∷◌, refl, sym, ap, ◌∙◌, subst, ⊎_elim, inl, inr, arith, Some}
 use Rattle.std.specs.Prelude.{Option, slice_index, slice_set}
 use Rattle.std.proofs.lemmas.Bool.Decides.{nat_tests}
 use mathlib.Core.Option.{some, none, some-injective, Option as Home}
 use mathlib.Core.List.{IsPrefix}
 use lib.ListN.{get_elem?}
-use Rattle.atomic_table.specs.Table.{State, Me, Step, step, keeps, takes, Act, Valid, stepped, carried_after, Allows}
-use Rattle.atomic_table.proofs.Lists.{at_set, set_else, set_again, one_turn}
+use Rattle.atomic_table.specs.Table.{State, Me, Step, keeps, takes, Act, Valid, stepped, carried_after, Allows}
+use Rattle.atomic_table.proofs.Lists.{set_again, one_turn}
 use Rattle.tpcc_rows.specs.declared.entry.Entry.{Entry}
 use Rattle.tpcc_book.specs.Past.{Past}
 use Rattle.tpcc_book.specs.declared.turns.knows.Knows.{Knows}
 use Rattle.tpcc_book.specs.declared.turns.knows.Stage.{Stage}
-use Rattle.tpcc_book.specs.declared.turns.knows.Stage.TheVariants.{Idle, Out, Holds}
-use Rattle.tpcc_book.specs.Turning.{knows, out_of, total, HasTicket, Stands, IsSeated, AtHome, Away, IsTurning, Took, Looked}
+use Rattle.tpcc_book.specs.declared.turns.knows.Stage.TheVariants.{Out, Holds}
+use Rattle.tpcc_book.specs.Turning.{knows, out_of, HasTicket, Stands, IsSeated, AtHome, Away, IsTurning, Took, Looked}
 use Rattle.tpcc_book.specs.TurnSteps.{Awaits}
-use Rattle.tpcc_book.proofs.Seats.{total_set, total_le, each_set, apart_set, set_same, prefix_self, prefix_trans}
+use Rattle.tpcc_book.proofs.Seats.{total_set, total_le, each_set, apart_set, set_same, prefix_self}
 use Rattle.tpcc_population.specs.declared.opening.Opening.{Opening}
 
 abbrev After : Opening → ℕ → Knows → List (ℕ × Option Past) → Step (Option Past) → State (Option Past) Knows → Type 0

@@ -7,7 +7,7 @@ use Rattle.atomic_table.specs.Table.{Me, rest}
 use Rattle.tpcc_rows.specs.declared.entry.Entry.{Entry}
 use Rattle.tpcc_book.specs.Past.{Past}
 use Rattle.tpcc_book.specs.declared.turns.knows.Knows.{Knows}
-use Rattle.tpcc_book.specs.declared.turns.knows.Stage.TheVariants.{Idle, Out, Holds}
+use Rattle.tpcc_book.specs.declared.turns.knows.Stage.TheVariants.{Idle, Holds}
 use Rattle.tpcc_book.specs.Turning.{knows, Took}
 use Rattle.tpcc_book.specs.TurnSteps.{Drawn, Taken, Giving, Ending}
 use Rattle.tpcc_book.specs.Seats.{Seated, start_of, front_of, IsTurned}
@@ -18,7 +18,9 @@ use Rattle.tpcc_rows.specs.declared.refusals.Refusal.{Refusal}
 use Rattle.tpcc_book.specs.Purses.{Held}
 use Rattle.tpcc_book.specs.Told.{Told}
 use Rattle.tpcc_book.specs.Serve.{IsServed, credited}
-use Rattle.tpcc_book.specs.Turn.{entry_of}
+use Rattle.tpcc_book.specs.Turn.{entry_of, Accepts, Refuses}
+use Rattle.std.specs.Result.{ForOk, ForErr}
+use Rattle.tpcc_book.proofs.Seats.{prefix_self}
 use Rattle.tpcc_book.specs.Past.{IsKept}
 use Rattle.tpcc_book.proofs.Keeps.{accepted_by}
 use Rattle.tpcc_rows.specs.Replay.{count_of, paid_by_request}
@@ -115,4 +117,31 @@ turned_of held after views views' purse me two four ticket old new answer reques
       seen = seen;
       start = ap start_of v' ∙ (ap (λ (m : Mine). m.0.start) ended ∙ (ap (λ (m : Mine). m.0.start) t.now_is ∙ begun));
       served = one;
+    }
+
+-- the journal after a turn begins with the one before it
+grown : (old new : Past) (terminal number : ℕ) (request : Request) (place : Option ℕ) (outcome : Result Reply Refusal)
+    → ForOk outcome (Accepts old terminal number request place new) → ForErr outcome (Refuses old terminal number request place new) → IsPrefix old.entries new.entries
+grown old new terminal number request place (Ok reply) ok err =
+    subst (λ (p : Past). IsPrefix old.entries p.entries) (sym (ok reply refl).new_is) (entry_of old terminal number request ∷ [], refl)
+grown old new terminal number request place (Err refusal) ok err =
+    subst (λ (p : Past). IsPrefix old.entries p.entries) (sym (err refusal refl).same) (prefix_self old.entries old.entries refl)
+
+same_opening : (old new : Past) (terminal number : ℕ) (request : Request) (place : Option ℕ) (outcome : Result Reply Refusal)
+    → ForOk outcome (Accepts old terminal number request place new) → ForErr outcome (Refuses old terminal number request place new) → new.opening ≡ old.opening
+same_opening old new terminal number request place (Ok reply) ok err = ap (λ (p : Past). p.opening) (ok reply refl).new_is
+same_opening old new terminal number request place (Err refusal) ok err = ap (λ (p : Past). p.opening) (err refusal refl).same
+
+-- the book may go back after a turn
+pub giving_of : (me two : Mine) (ticket : ℕ) (old new : Past) (request : Request) (held : Held) (answer : Told Held) → Taken me ticket old two → IsServed old request held answer new → Giving two ticket new
+giving_of me two ticket old new request held answer t served =
+    let turn = served.turn in
+    record {
+      number = t.number;
+      base = old.entries;
+      ticket_is = t.ticket_is;
+      stage = ap (λ (m : Mine). m.0.stage) t.now_is;
+      slot = ap (λ (m : Mine). m.1) t.now_is;
+      longer = grown old new held.terminal held.entries request answer.place answer.outcome turn.accepts turn.refuses;
+      opening = same_opening old new held.terminal held.entries request answer.place answer.outcome turn.accepts turn.refuses ∙ (t.opening ∙ sym (ap (λ (m : Mine). m.0.start) t.now_is));
     }

@@ -1,19 +1,19 @@
 -- Splitting and joining idle seats keeps the rule.
-use Rattle.std.proofs.Common.{◌≡◌, ◌≢◌, ◌⊎◌, ℕ, zero, suc, ◌+◌, ◌-◌, ◌%◌, ◌^◌, ◌<◌, ◌≤◌, List, [], ◌∷◌, ◌++◌, set, refl, sym, ap, ◌∙◌, subst, ⊎_elim, inl, inr, arith, Some}
+use Rattle.std.proofs.Common.{◌≡◌, ◌⊎◌, ℕ, zero, suc, ◌+◌, ◌<◌, ◌≤◌, List, [], ◌∷◌, ◌++◌, set, refl, sym, ap, ◌∙◌, subst, ⊎_elim, inl, inr, arith, Some}
 use Rattle.std.specs.Prelude.{Option}
-use mathlib.Core.Option.{some, none, some-ne-none, some-injective, Option as Home}
+use mathlib.Core.Option.{some, some-ne-none, some-injective, Option as Home}
 use mathlib.Core.List.{IsPrefix}
 use lib.ListN.{get_elem?}
 use Rattle.atomic_table.specs.Table.{State, Splits, Joins}
-use Rattle.atomic_table.proofs.Lists.{at_set, at_snoc, at_longer, set_else}
+use Rattle.atomic_table.proofs.Lists.{at_snoc, at_longer, set_else}
 use Rattle.tpcc_rows.specs.declared.entry.Entry.{Entry}
 use Rattle.tpcc_book.specs.Past.{Past}
 use Rattle.tpcc_book.specs.declared.turns.knows.Knows.{Knows}
 use Rattle.tpcc_book.specs.declared.turns.knows.Stage.{Stage}
-use Rattle.tpcc_book.specs.declared.turns.knows.Stage.TheVariants.{Idle, Out, Holds}
+use Rattle.tpcc_book.specs.declared.turns.knows.Stage.TheVariants.{Idle, Holds}
 use Rattle.tpcc_book.specs.Turning.{knows, out_of, total, HasTicket, Stands, IsSeated, AtHome, Away, IsTurning, no_opening}
 use Rattle.tpcc_book.specs.Shares.{kept_of, given_of, both_of, nobody}
-use Rattle.tpcc_book.proofs.Seats.{total_set, total_le, each_set, apart_set, prefix_self, prefix_trans}
+use Rattle.tpcc_book.proofs.Seats.{total_set, total_le, each_set, apart_set}
 use Rattle.tpcc_book.proofs.Draws.{book_stays}
 use Rattle.tpcc_population.specs.declared.opening.Opening.{Opening}
 

@@ -5,7 +5,7 @@ use Rattle.atomic_table.specs.Table.{Me}
 use Rattle.tpcc_rows.specs.declared.entry.Entry.{Entry}
 use Rattle.tpcc_book.specs.Past.{Past}
 use Rattle.tpcc_book.specs.declared.turns.knows.Knows.{Knows}
-use Rattle.tpcc_book.specs.declared.turns.knows.Stage.TheVariants.{Idle, Out, Holds}
+use Rattle.tpcc_book.specs.declared.turns.knows.Stage.TheVariants.{Out, Holds}
 use Rattle.tpcc_book.specs.Turning.{knows}
 
 -- a ticket was drawn

@@ -1,6 +1,5 @@
 -- The rule of the turns, and what each step tells.
-use Rattle.std.specs.Prelude.{ℕ, ◌≡◌, ◌⊎◌, ◌+◌, ◌<◌, ◌≤◌, ◌%◌, ◌^◌, List, [], ◌∷◌, ◌++◌, Option, Some}
-use Rattle.std.specs.List.{sum_by}
+use Rattle.std.specs.Prelude.{ℕ, ◌≡◌, ◌⊎◌, ◌+◌, ◌<◌, ◌≤◌, ◌%◌, ◌^◌, List, [], ◌∷◌, Option, Some}
 use mathlib.Core.Option.{some, none, Option as Home}
 use mathlib.Core.List.{IsPrefix}
 use lib.ListN.{get_elem?}
