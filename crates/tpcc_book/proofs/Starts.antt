@@ -4,7 +4,8 @@ use mathlib.Core.Option.{some, some-ne-none, some-injective}
 use lib.ListN.{get_elem?}
 use Rattle.atomic_table.specs.Table.{opening}
 use Rattle.tpcc_rows.specs.declared.entry.Entry.{Entry}
-use Rattle.tpcc_book.specs.Past.{Past}
+use Rattle.tpcc_book.specs.Past.{Past, opened}
+use Rattle.std.specs.Prelude.{Option}
 use Rattle.tpcc_book.specs.declared.turns.knows.Knows.{Knows}
 use Rattle.tpcc_book.specs.declared.turns.knows.Stage.TheVariants.{Idle, Holds}
 use Rattle.tpcc_book.specs.Turning.{first, HasTicket, IsSeated, IsTurning}
@@ -35,3 +36,8 @@ starts start book is empty =
     idle : (j : ℕ) (v : Knows) (t : ℕ) (base : List Entry) → get_elem? (first start ∷ []) j ≡ some v → v.stage ≡ Holds t base → ⊥
     idle zero v t base e holds = let clash : Idle ≡ Holds t base = ap (λ (k : Knows). k.stage) (some-injective (first start) v e) ∙ holds in cc clash
     idle (suc j) v t base e holds = absurd (some-ne-none v (sym e))
+
+-- the same at the opened book
+pub starts_opened : (start : Opening) (book : Past) (slots : List (Option Past)) → slots ≡ Some book ∷ [] → book ≡ opened start → IsTurning start (opening (0 ∷ 0 ∷ []) slots (first start))
+starts_opened start book slots there is =
+    subst (λ (xs : List (Option Past)). IsTurning start (opening (0 ∷ 0 ∷ []) xs (first start))) (sym there) (starts start book (ap (λ (p : Past). p.opening) is) (ap (λ (p : Past). p.entries) is))

@@ -24,6 +24,11 @@ pub record Seated : Type 0 where
   pub start : Opening
   pub front : List Entry
 
+-- turns that have no name yet
+pub record Unnamed : Type 0 where
+  pub opening : Opening
+  pub table : TableId
+
 -- an answer with the purse alone
 abbrev pub by_purse : Told Seated → Told Held
 by_purse answer =

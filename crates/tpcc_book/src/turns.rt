@@ -12,11 +12,13 @@ mod rule;
 mod seated;
 mod split;
 mod steps;
+mod unnamed;
 
 pub use knows::{Knows, Stage};
 pub use rule::TurnRule;
 pub use seated::{SeatedPurse, Seating};
 pub use steps::{Board, Place};
+pub use unnamed::UnnamedTurns;
 
 use crate::answer::Answer;
 use crate::book::Book;
