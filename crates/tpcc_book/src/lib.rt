@@ -17,4 +17,4 @@ pub use naming::{Blanks, Entries, Naming, PaidCents};
 pub use purse::Purse;
 pub use register::Register;
 pub use turned::Turned;
-pub use turns::{Knows, Stage, TurnRule};
+pub use turns::{SeatedPurse, Seating, Turns, UnnamedTurns};

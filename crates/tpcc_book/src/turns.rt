@@ -14,10 +14,7 @@ mod split;
 mod steps;
 mod unnamed;
 
-pub use knows::{Knows, Stage};
-pub use rule::TurnRule;
 pub use seated::{SeatedPurse, Seating};
-pub use steps::{Board, Place};
 pub use unnamed::UnnamedTurns;
 
 use crate::answer::Answer;
@@ -25,6 +22,8 @@ use crate::book::Book;
 use crate::naming::Naming;
 use crate::register::Register;
 use crate::turned::Turned;
+use crate::turns::knows::Knows;
+use crate::turns::rule::TurnRule;
 use crate::turns::steps::{give, take};
 use atomic_table::Table;
 use std::alloc::Global;
