@@ -14,9 +14,6 @@ mod split;
 mod steps;
 mod unnamed;
 
-pub use seated::{SeatedPurse, Seating};
-pub use unnamed::UnnamedTurns;
-
 use crate::answer::Answer;
 use crate::book::Book;
 use crate::naming::Naming;
@@ -26,11 +23,13 @@ use crate::turns::knows::Knows;
 use crate::turns::rule::TurnRule;
 use crate::turns::steps::{give, take};
 use atomic_table::Table;
+pub use seated::{SeatedPurse, Seating};
 use std::alloc::Global;
 use std::marker::{Model, PhantomData};
 use std::sync::Wait;
 use tpcc_population::Opening;
 use tpcc_rows::Request;
+pub use unnamed::UnnamedTurns;
 
 /// A book that is served one request at a time, in the order in which turns were drawn. It is seen as
 /// the book's opening; what purses have seen of the journal stands in them.
@@ -52,7 +51,9 @@ impl<N: Naming, T: Seating> Model for Turns<N, T> {
 }
 
 impl<N: Naming, T: Seating> Turns<N, T> {
-    pub(crate) fn of(table: Table<Option<Book<N>>, Knows, Opening, TurnRule<N>, Global>) -> Turns<N, T>
+    pub(crate) fn of(
+        table: Table<Option<Book<N>>, Knows, Opening, TurnRule<N>, Global>,
+    ) -> Turns<N, T>
         requires name { table.shared.table_id ≡ T.table }
         requires counts { (table.shared.table_id.words ≡ 2) × (table.shared.table_id.slots ≡ 1) }
         ensures opening { result ≡ table.shared.key }

@@ -74,12 +74,7 @@ pub(crate) fn take<N: Naming, R: Wait>(
 }
 
 /// Gives the book back, and ends the turn.
-pub(crate) fn give<N: Naming>(
-    board: &Board<N>,
-    seat: &mut Place<N>,
-    ticket: u64,
-    book: Book<N>,
-)
+pub(crate) fn give<N: Naming>(board: &Board<N>, seat: &mut Place<N>, ticket: u64, book: Book<N>)
     requires fits { (seat.old.table_id ≡ board.now.table_id) × (board.now.table_id.words ≡ 2) }
     requires giving { Giving seat.old.me ticket book }
     ensures same { (seat.new.table_id ≡ seat.old.table_id) × (seat.new.id ≡ seat.old.id) }
