@@ -18,3 +18,6 @@ pub use purse::Purse;
 pub use register::Register;
 pub use turned::Turned;
 pub use turns::{SeatedPurse, Seating, Turns, UnnamedTurns};
+
+#[cfg(test)]
+mod tests;

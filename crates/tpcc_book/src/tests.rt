@@ -1,0 +1,84 @@
+//! Turns on worked values, on one thread and with ample memory.
+ghost use Rattle.std.specs.Prelude.{◌≡◌};
+
+use super::*;
+use std::alloc::Global;
+use std::marker::Brand;
+use std::process::Abort;
+use std::sync::Wait;
+use std::test::Fail;
+use tpcc_money::{Cents, Moment};
+use tpcc_population::{Opening, Scale};
+use tpcc_rows::{Payment, Reply, Request, StatusQuery, Who};
+
+#[test]
+fn a_payment_and_a_status(rt: HostRuntime) -> Result<(), Fail> {
+    started::<Brand, _>(&rt, rt.alloc(), Blanks::new())
+}
+
+fn started<N: Naming, R: Wait + Abort>(rt: &R, alloc: Global, blanks: Blanks) -> Result<(), Fail>
+    requires entries { blanks.entries.name ≡ N.entries }
+    requires cents { blanks.cents.name ≡ N.cents }
+{
+    let scale = Scale::new(1, 10, 100)?;
+    let turns = UnnamedTurns::<N>::start(alloc, &Opening::Plain { scale }, blanks)?;
+    two_turns::<N, Brand, R>(rt, turns)
+}
+
+fn two_turns<N: Naming, T: Seating, R: Wait + Abort>(
+    rt: &R,
+    turns: UnnamedTurns<N>,
+) -> Result<(), Fail>
+    requires name { turns.table ≡ T.table }
+{
+    let (turns, mut first) = turns.named::<T>();
+    let one = first.split(&turns, 1);
+    let two = first.split(&turns, 2);
+    assert_eq!(rt; first.room(), 9998);
+    let (place, one) = parts(turns.serve(rt, payment(), one));
+    assert_eq!(rt; place, Some(0));
+    assert_eq!(rt; one.terminal(), 1);
+    assert_eq!(rt; one.entries(), 1);
+    assert_eq!(rt; one.paid(), Cents::new(100));
+    let answer = turns.serve(rt, status(), two);
+    assert_eq!(rt; balance(&answer), Some(Cents::new(-1100)));
+    let (place, two) = parts(answer);
+    assert_eq!(rt; place, Some(1));
+    assert_eq!(rt; two.entries(), 1);
+    assert_eq!(rt; two.paid(), Cents::new(0));
+    Ok(())
+}
+
+/// Customer 1 of district 1 pays 1.00.
+fn payment() -> Request {
+    Request::Payment(Payment {
+        warehouse: 1,
+        district: 1,
+        customer_warehouse: 1,
+        customer_district: 1,
+        who: Who::Number(1),
+        amount: Cents::new(100),
+        moment: Moment::new(60),
+    })
+}
+
+fn status() -> Request {
+    Request::Status(StatusQuery {
+        warehouse: 1,
+        district: 1,
+        who: Who::Number(1),
+    })
+}
+
+fn balance<P>(answer: &Answer<P>) -> Option<Cents> {
+    match answer.outcome() {
+        Ok(Reply::Status(status)) => Some(status.balance),
+        _ => None,
+    }
+}
+
+fn parts<P>(answer: Answer<P>) -> (Option<u64>, P) {
+    let place = answer.place();
+    let (_, _, _, purse) = answer.into_parts();
+    (place, purse)
+}
