@@ -18,6 +18,3 @@ pub use purse::Purse;
 pub use register::Register;
 pub use turned::Turned;
 pub use turns::{SeatedPurse, Seating, Turns, UnnamedTurns};
-
-#[cfg(test)]
-mod tests;

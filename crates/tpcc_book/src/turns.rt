@@ -12,6 +12,8 @@ mod rule;
 mod seated;
 mod split;
 mod steps;
+#[cfg(test)]
+mod tests;
 mod unnamed;
 
 use crate::answer::Answer;

@@ -1,7 +1,7 @@
 //! Turns on worked values, on one thread and with ample memory.
 ghost use Rattle.std.specs.Prelude.{◌≡◌};
 
-use super::*;
+use crate::{Answer, Blanks, Naming, Seating, UnnamedTurns};
 use std::alloc::Global;
 use std::marker::Brand;
 use std::process::Abort;
