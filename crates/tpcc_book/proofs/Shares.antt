@@ -1,5 +1,5 @@
 -- Splitting and joining idle seats keeps the rule.
-use Rattle.std.proofs.Common.{◌≡◌, ◌⊎◌, ℕ, zero, suc, ◌+◌, ◌<◌, ◌≤◌, List, [], ◌∷◌, ◌++◌, set, refl, sym, ap, ◌∙◌, subst, ⊎_elim, inl, inr, arith, Some}
+use Rattle.std.proofs.Common.{◌≡◌, ◌⊎◌, ℕ, zero, suc, ◌+◌, ◌<◌, ◌≤◌, List, [], ◌∷◌, ◌++◌, set, refl, sym, ap, ◌∙◌, subst, ⊎_elim, inl, inr, arith}
 use Rattle.std.specs.Prelude.{Option}
 use mathlib.Core.Option.{some, some-ne-none, some-injective, Option as Home}
 use mathlib.Core.List.{IsPrefix}
@@ -11,7 +11,7 @@ use Rattle.tpcc_book.specs.Past.{Past}
 use Rattle.tpcc_book.specs.declared.turns.knows.Knows.{Knows}
 use Rattle.tpcc_book.specs.declared.turns.knows.Stage.{Stage}
 use Rattle.tpcc_book.specs.declared.turns.knows.Stage.TheVariants.{Idle, Holds}
-use Rattle.tpcc_book.specs.Turning.{knows, out_of, total, HasTicket, Stands, IsSeated, AtHome, Away, IsTurning, no_opening}
+use Rattle.tpcc_book.specs.Turning.{knows, out_of, total, HasTicket, IsSeated, AtHome, Away, IsTurning, no_opening}
 use Rattle.tpcc_book.specs.Shares.{kept_of, given_of, both_of, nobody}
 use Rattle.tpcc_book.proofs.Seats.{total_set, total_le, each_set, apart_set}
 use Rattle.tpcc_book.proofs.Draws.{book_stays}
@@ -122,39 +122,18 @@ joins start id v other w idle idle' has s h at apart there =
       book = last.book;
     }
 
--- what is known once every part is in one idle seat: no ticket is out, the book is at home, and all that was seen or told begins its journal
-pub record Whole (start : Opening) (s : State (Option Past) Knows) (v : Knows) : Type 0 where
-  pub book : Past
-  pub there : s.homes ≡ some (Some book) ∷ []
-  pub opening : book.opening ≡ start
-  pub front : IsPrefix v.front book.entries
-  pub told : (xs : List Entry) (k : ℕ) → get_elem? v.told k ≡ some xs → IsPrefix xs book.entries
-
-pub whole : (start : Opening) (s : State (Option Past) Knows) (id : ℕ) (v : Knows) → IsTurning start s → get_elem? s.views id ≡ some v → v.stage ≡ Idle → v.parts ≡ 10001 → Whole start s v
-whole start s id v h at idle all =
-    let mine = h.each id v at in
+-- once every part is in one idle seat no ticket is out
+pub none_out : (start : Opening) (s : State (Option Past) Knows) (id : ℕ) (v : Knows) (h : IsTurning start s) → get_elem? s.views id ≡ some v → v.stage ≡ Idle → v.parts ≡ 10001 → h.drawn ≡ h.served
+none_out start s id v h at idle all =
     let none = knows no_opening [] 0 Idle [] in
     let out = λ (u : Knows). out_of u.stage in
     let parts = λ (u : Knows). u.parts in
-    let none_out : out_of v.stage ≡ 0 = ap out_of idle in
+    let idle_out : out_of v.stage ≡ 0 = ap out_of idle in
     let backed = each_set (λ (j : ℕ) (u : Knows). out_of u.stage ≤ u.parts) s.views id none (λ j u apart e. (h.each j u e).backed) (omega arith) in
     let few = total_le out parts (set s.views id none) backed in
     let a = total_set parts s.views id v none at in
     let b = total_set out s.views id v none at in
-    let done : h.drawn ≡ h.served = omega (arith, few, a, b, none_out, h.outs, h.parts, all) in
-    let home : AtHome start h.log s.homes s.views = ⊎_elim
-    (λ (x : AtHome start h.log s.homes s.views). x)
-    (λ (x : Away h.served s.homes s.views).
-    let f = subst (Stands h.log h.served h.drawn) x.holds (h.each x.seat x.holder x.at).stands in absurd (omega (arith, f.1, done)))
-    h.book in
-    let e = home.entries in
-    record {
-      book = home.book;
-      there = home.there;
-      opening = home.opening;
-      front = subst (λ (xs : List Entry). IsPrefix v.front xs) (sym e) mine.front;
-      told = λ xs k there. subst (λ (ys : List Entry). IsPrefix xs ys) (sym e) (mine.told xs k there);
-    }
+    omega (arith, few, a, b, idle_out, h.outs, h.parts, all)
 
 pub alone : (x y : Knows) → x ∷ [] ≡ y ∷ [] → x ≡ y
 alone x y e = cc

@@ -1,3 +1,4 @@
+pub mod Closing
 pub mod Past
 pub mod Purses
 pub mod Ready

@@ -1,5 +1,5 @@
-use Rattle.std.proofs.Common.{◌≡◌, ◌+◌, ◌<◌, ◌^◌, length, pos, ◌+ℤ◌}
-use Rattle.tpcc_book.specs.Past.{IsKept, rise_of}
+use Rattle.std.proofs.Common.{◌≡◌, ◌+◌, length, pos, ◌+ℤ◌}
+use Rattle.tpcc_book.specs.Past.{rise_of}
 use Rattle.tpcc_book.specs.Serve.{rooms_of, entries_of, paid_of}
 use Rattle.tpcc_book.proofs.book.Book.gather.Given as goal
 
