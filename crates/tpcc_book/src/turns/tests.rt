@@ -1,7 +1,7 @@
 //! Turns on worked values, on one thread and with ample memory.
 ghost use Rattle.std.specs.Prelude.{◌≡◌};
 
-use crate::{Answer, Blanks, Naming, Seating, UnnamedTurns};
+use crate::{Answer, Blanks, Book, Naming, Purse, SeatedPurse, Seating, Turns, UnnamedTurns};
 use std::alloc::Global;
 use std::marker::Brand;
 use std::process::Abort;
@@ -22,11 +22,12 @@ fn started<N: Naming, R: Wait + Abort>(rt: &R, alloc: Global, blanks: Blanks) ->
 {
     let scale = Scale::new(1, 10, 100)?;
     let turns = UnnamedTurns::<N>::start(alloc, &Opening::Plain { scale }, blanks)?;
-    two_turns::<N, Brand, R>(rt, turns)
+    two_turns::<N, Brand, R>(rt, alloc, turns)
 }
 
 fn two_turns<N: Naming, T: Seating, R: Wait + Abort>(
     rt: &R,
+    alloc: Global,
     turns: UnnamedTurns<N>,
 ) -> Result<(), Fail>
     requires name { turns.table ≡ T.table }
@@ -46,7 +47,7 @@ fn two_turns<N: Naming, T: Seating, R: Wait + Abort>(
     assert_eq!(rt; place, Some(1));
     assert_eq!(rt; two.entries(), 1);
     assert_eq!(rt; two.paid(), Cents::new(0));
-    Ok(())
+    settled(rt, alloc, turns, first, one, two)
 }
 
 /// Customer 1 of district 1 pays 1.00.
@@ -81,4 +82,41 @@ fn parts<P>(answer: Answer<P>) -> (Option<u64>, P) {
     let place = answer.place();
     let (_, _, _, purse) = answer.into_parts();
     (place, purse)
+}
+
+/// Closes the turns and puts the purses together.
+fn settled<N: Naming, T: Seating, R: Abort>(
+    rt: &R,
+    alloc: Global,
+    turns: Turns<N, T>,
+    first: SeatedPurse<N, T>,
+    one: SeatedPurse<N, T>,
+    two: SeatedPurse<N, T>,
+) -> Result<(), Fail> {
+    let (book, first) = turns.close(first);
+    let Some(mut book) = book else {
+        return Err(Fail::new("no book"));
+    };
+    let (entries, paid) = gathered(alloc, &mut book, first, one.into_purse(), two.into_purse())?;
+    assert_eq!(rt; book.journal().len(), 2);
+    assert_eq!(rt; entries, 2);
+    assert_eq!(rt; paid, Cents::new(100));
+    Ok(())
+}
+
+fn gathered<N: Naming>(
+    alloc: Global,
+    book: &mut Book<N>,
+    first: Purse<N>,
+    one: Purse<N>,
+    two: Purse<N>,
+) -> Result<(u64, Cents), Fail> {
+    let mut purses = Vec::with_capacity(alloc, 3)?;
+    if first.room() != 9998 || one.room() != 0 || two.room() != 0 {
+        return Err(Fail::new("a purse is missing"));
+    }
+    purses.push_reserved(first);
+    purses.push_reserved(one);
+    purses.push_reserved(two);
+    Ok(book.gather(purses))
 }
