@@ -1,6 +1,6 @@
 -- What a turn keeps.
-use Rattle.std.proofs.Common.{◌≡◌, ◌∙◌, ℕ, ◌+◌, ◌*◌, ◌<◌, ◌≤◌, List, [], ◌∷◌, ◌++◌, length, refl, ap, sym, subst, arith, length-append}
-use Rattle.std.specs.Prelude.{Option, Some, None, Result, Ok, Err, OnOk, ℤ, pos, ◌+ℤ◌, ◌-ℤ◌, ◌≤ℤ◌, true}
+use Rattle.std.proofs.Common.{◌≡◌, ◌∙◌, ℕ, ◌+◌, ◌<◌, List, [], ◌∷◌, ◌++◌, length, refl, ap, sym, subst, arith}
+use Rattle.std.specs.Prelude.{Option, Some, None, Result, Ok, Err, OnOk, pos, ◌+ℤ◌, ◌≤ℤ◌, true}
 use Rattle.std.specs.Result.{ForOk}
 use Rattle.std.specs.Option.{option_or}
 use Rattle.std.proofs.lemmas.Int.{ints}
@@ -12,15 +12,14 @@ use Rattle.tpcc_population.specs.declared.opening.Opening.{Opening}
 use Rattle.tpcc_rows.specs.declared.requests.Request.{Request}
 use Rattle.tpcc_rows.specs.declared.replies.Reply.{Reply}
 use Rattle.tpcc_rows.specs.declared.refusals.Refusal.{Refusal}
-use Rattle.tpcc_rows.specs.declared.refusals.Refusal.TheVariants.{NoMemory}
 use Rattle.tpcc_rows.specs.Moments.{has_moment_in_range}
 use Rattle.tpcc_rows.specs.SoundState.{IsSoundState}
 use Rattle.tpcc_rows.specs.WellKeyed.{IsWellKeyed}
 use Rattle.tpcc_rows.specs.Tables.{Rows, State}
 use Rattle.tpcc_rows.specs.Turn.{refusal, state_after, reply_to}
-use Rattle.tpcc_rows.specs.Replay.{replay, IsFaithful, IsServedAt, count_of, paid_by_request, paid_by_entries, rise}
-use Rattle.tpcc_population.specs.Opening.{opening_state, opening_rows}
-use Rattle.tpcc_book.specs.Past.{Past, IsKept, Rises, rise_of, most_entries}
+use Rattle.tpcc_rows.specs.Replay.{replay, IsFaithful, IsServedAt, count_of, paid_by_request, paid_by_entries}
+use Rattle.tpcc_population.specs.Opening.{opening_state}
+use Rattle.tpcc_book.specs.Past.{Past, IsKept, Rises, most_entries}
 use Rattle.tpcc_book.specs.Turn.{early, stranger, full, journal_refusal, turn_refusal, entry_of, after, Accepts, IsTurn}
 use Rattle.tpcc_book.specs.declared.turned.Turned.{Turned}
 

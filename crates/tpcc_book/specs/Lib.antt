@@ -1,6 +1,11 @@
+pub mod Closing
 pub mod Past
 pub mod Purses
 pub mod Ready
+pub mod Seats
 pub mod Serve
+pub mod Shares
 pub mod Told
 pub mod Turn
+pub mod TurnSteps
+pub mod Turning

@@ -6,7 +6,6 @@ use Rattle.tpcc_rows.specs.declared.refusals.Refusal.{Refusal}
 use Rattle.tpcc_rows.specs.declared.requests.Request.{Request}
 use Rattle.tpcc_rows.specs.declared.requests.Request.TheVariants as ask
 use Rattle.tpcc_rows.specs.declared.requests.Payment.{Payment as PaymentRequest}
-use Rattle.tpcc_rows.specs.declared.requests.Ticket.{Ticket as QueueRequest}
 use Rattle.tpcc_rows.specs.Ranges.{is_carrier}
 use Rattle.tpcc_rows.specs.Tables.{State}
 use Rattle.tpcc_tables.specs.Held.{Held}

@@ -1,8 +1,8 @@
 //! The book: a register with the totals of its purses.
-ghost use Rattle.std.specs.Prelude.{◌≡◌, IfOk, pos};
-ghost use Rattle.tpcc_book.specs.Past.{IsKept, opened};
+ghost use Rattle.std.specs.Prelude.{◌≡◌, IfOk, pos, length};
+ghost use Rattle.tpcc_book.specs.Past.{IsKept, opened, rise_of};
 ghost use Rattle.tpcc_book.specs.Turn.{TakesTurn, MakesTurn};
-ghost use Rattle.tpcc_book.specs.Serve.{IsServed};
+ghost use Rattle.tpcc_book.specs.Serve.{IsServed, rooms_of, entries_of, paid_of};
 
 use crate::answer::Answer;
 use crate::naming::{Blanks, Entries, Naming, PaidCents};
@@ -14,7 +14,7 @@ use std::marker::Model;
 use std::sync::ledger::Book as LedgerBook;
 use tpcc_delivery::Queue;
 use tpcc_journal::Journal;
-use tpcc_money::NoMemory;
+use tpcc_money::{Cents, NoMemory};
 use tpcc_population::Opening;
 use tpcc_rows::Request;
 use tpcc_tables::tables::Tables;
@@ -124,5 +124,25 @@ impl<N: Naming> Book<N> {
             purse.credit(&mut self.entries, &mut self.cents, paid);
         }
         Answer::new(request, outcome, place, purse)
+    }
+
+    /// The entries and the payments of all purses of the book, put together. The conditions of a call are
+    /// that the purses are all there: their number and their rooms add up to 10,001.
+    pub fn gather(&mut self, purses: Vec<Purse<N>>) -> (u64, Cents)
+        requires all_there { rooms_of purses.items ≡ 10001 }
+        ensures same { self.new ≡ self.old }
+        ensures entries { (result.0 ≡ entries_of purses.items) × (result.0 ≡ length self.old.entries) }
+        ensures paid { (result.1 ≡ paid_of purses.items) × (result.1 ≡ rise_of self.old) }
+    {
+        let _journal = self.register.journal();
+        let mut rest = purses;
+        let Some(mut all) = rest.pop() else {
+            unreachable!()
+        };
+        while let Some(purse) = rest.pop() {
+            all.join(purse, &mut self.entries, &mut self.cents);
+        }
+        all.audit(&mut self.entries, &mut self.cents);
+        (all.entries(), all.paid())
     }
 }

@@ -11,6 +11,7 @@ mod steps;
 #[cfg(test)]
 mod tests;
 mod turned;
+mod turns;
 
 pub use answer::Answer;
 pub use book::Book;
@@ -18,3 +19,4 @@ pub use naming::{Blanks, Entries, Naming, PaidCents};
 pub use purse::Purse;
 pub use register::Register;
 pub use turned::Turned;
+pub use turns::{SeatedPurse, Seating, Turns, UnnamedTurns};

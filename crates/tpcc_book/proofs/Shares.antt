@@ -1,0 +1,139 @@
+-- Splitting and joining idle seats keeps the rule.
+use Rattle.std.proofs.Common.{◌≡◌, ◌⊎◌, ℕ, zero, suc, ◌+◌, ◌<◌, ◌≤◌, List, [], ◌∷◌, ◌++◌, set, refl, sym, ap, ◌∙◌, subst, ⊎_elim, inl, inr, arith}
+use Rattle.std.specs.Prelude.{Option}
+use mathlib.Core.Option.{some, some-ne-none, some-injective, Option as Home}
+use mathlib.Core.List.{IsPrefix}
+use lib.ListN.{get_elem?}
+use Rattle.atomic_table.specs.Table.{State, Splits, Joins}
+use Rattle.atomic_table.proofs.Lists.{at_snoc, at_longer, set_else}
+use Rattle.tpcc_rows.specs.declared.entry.Entry.{Entry}
+use Rattle.tpcc_book.specs.Past.{Past}
+use Rattle.tpcc_book.specs.declared.turns.knows.Knows.{Knows}
+use Rattle.tpcc_book.specs.declared.turns.knows.Stage.{Stage}
+use Rattle.tpcc_book.specs.declared.turns.knows.Stage.TheVariants.{Idle, Holds}
+use Rattle.tpcc_book.specs.Turning.{knows, out_of, total, HasTicket, IsSeated, AtHome, Away, IsTurning, no_opening}
+use Rattle.tpcc_book.specs.Shares.{kept_of, given_of, both_of, nobody}
+use Rattle.tpcc_book.proofs.Seats.{total_set, total_le, each_set, apart_set}
+use Rattle.tpcc_book.proofs.Draws.{book_stays}
+use Rattle.tpcc_population.specs.declared.opening.Opening.{Opening}
+
+-- the part of the rule that is about the seats one by one
+record AreSeated (start : Opening) (log : List Entry) (served drawn : ℕ) (homes : List (Home (Option Past))) (views : List Knows) : Type 0 where
+  each : (j : ℕ) (v : Knows) → get_elem? views j ≡ some v → IsSeated start log served drawn v
+  apart : (i j : ℕ) (v w : Knows) (n : ℕ) → get_elem? views i ≡ some v → get_elem? views j ≡ some w → HasTicket v.stage n → HasTicket w.stage n → i ≡ j
+  book : AtHome start log homes views ⊎ Away served homes views
+
+-- an idle seat has another idle view
+seated_set : (start : Opening) (log : List Entry) (served drawn : ℕ) (homes : List (Home (Option Past))) (views : List Knows) (id : ℕ) (v w : Knows)
+    → AreSeated start log served drawn homes views → get_elem? views id ≡ some v → v.stage ≡ Idle → w.stage ≡ Idle → IsSeated start log served drawn w → AreSeated start log served drawn homes (set views id w)
+seated_set start log served drawn homes views id v w h at idle idle' fits =
+    record {
+      each = each_set (λ (j : ℕ) (u : Knows). IsSeated start log served drawn u) views id w (λ j u apart e. h.each j u e) fits;
+      apart = apart_set views id w h.apart (λ j u n apart e t other. subst (λ (k : Stage). HasTicket k n) idle' t);
+      book = book_stays start log served (record { words = []; homes = homes; views = views }) id v w at idle (λ t base holds. let clash : Idle ≡ Holds t base = sym idle' ∙ holds in cc clash) h.book;
+    }
+
+-- a seat more, which is idle
+seated_more : (start : Opening) (log : List Entry) (served drawn : ℕ) (homes : List (Home (Option Past))) (views : List Knows) (w : Knows)
+    → AreSeated start log served drawn homes views → w.stage ≡ Idle → IsSeated start log served drawn w → AreSeated start log served drawn homes (views ++ w ∷ [])
+seated_more start log served drawn homes views w h idle fits =
+    record {
+      each = λ j u e. ⊎_elim (λ was. h.each j u was) (λ (same : w ≡ u). subst (IsSeated start log served drawn) same fits) (at_snoc views w u j e);
+      apart = λ i j v u n ei ej hi hj. ⊎_elim
+          (λ (a : get_elem? views i ≡ some v). ⊎_elim
+          (λ (b : get_elem? views j ≡ some u). h.apart i j v u n a b hi hj)
+          (λ (same : w ≡ u). absurd (subst (λ (k : Stage). HasTicket k n) (ap (λ (k : Knows). k.stage) (sym same) ∙ idle) hj))
+          (at_snoc views w u j ej))
+          (λ (same : w ≡ v). absurd (subst (λ (k : Stage). HasTicket k n) (ap (λ (k : Knows). k.stage) (sym same) ∙ idle) hi))
+          (at_snoc views w v i ei);
+      book = ⊎_elim
+          (λ (b : AtHome start log homes views). inl (record {
+            book = b.book;
+            there = b.there;
+            entries = b.entries;
+            opening = b.opening;
+            nobody = λ j u t base e holds. ⊎_elim
+                (λ was. b.nobody j u t base was holds)
+                (λ (same : w ≡ u). let clash : Idle ≡ Holds t base = sym idle ∙ (ap (λ (k : Knows). k.stage) same ∙ holds) in cc clash)
+                (at_snoc views w u j e);
+          }))
+          (λ (b : Away served homes views). inr (record { gone = b.gone; seat = b.seat; holder = b.holder; base = b.base; at = at_longer views (w ∷ []) b.seat b.holder b.at; holds = b.holds }))
+          h.book;
+    }
+
+total_more : (f : Knows → ℕ) (views : List Knows) (w : Knows) → total f (views ++ w ∷ []) ≡ total f views + f w
+total_more f [] w = omega arith
+total_more f (x ∷ xs) w = omega (arith, total_more f xs w)
+
+seats_of : (start : Opening) (s : State (Option Past) Knows) (h : IsTurning start s) → AreSeated start h.log h.served h.drawn s.homes s.views
+seats_of start s h = record { each = h.each; apart = h.apart; book = h.book }
+
+pub splits : (start : Opening) (id : ℕ) (v : Knows) → v.stage ≡ Idle → 1 < v.parts → Splits (IsTurning start) id v (kept_of v) (given_of v)
+splits start id v idle has s h at =
+    let mine = h.each id v at in
+    let kept = kept_of v in
+    let given = given_of v in
+    let fits : IsSeated start h.log h.served h.drawn kept = record { start_is = λ some. mine.start_is (omega arith); front = mine.front; told = mine.told; backed = rw idle (omega arith); stands = mine.stands } in
+    let fits' : IsSeated start h.log h.served h.drawn given = record { start_is = λ some. mine.start_is (omega arith); front = mine.front; told = λ xs k there. absurd (some-ne-none xs (sym there)); backed = omega arith; stands = tt } in
+    let here = seated_set start h.log h.served h.drawn s.homes s.views id v kept (seats_of start s h) at idle idle fits in
+    let both = seated_more start h.log h.served h.drawn s.homes (set s.views id kept) given here refl fits' in
+    record {
+      log = h.log;
+      served = h.served;
+      drawn = h.drawn;
+      words = h.words;
+      outs = omega (arith, total_more (λ (u : Knows). out_of u.stage) (set s.views id kept) given, total_set (λ (u : Knows). out_of u.stage) s.views id v kept at, h.outs);
+      parts = omega (arith, total_more (λ (u : Knows). u.parts) (set s.views id kept) given, total_set (λ (u : Knows). u.parts) s.views id v kept at, h.parts);
+      each = both.each;
+      apart = both.apart;
+      book = both.book;
+    }
+
+told_of : (log : List Entry) (v w : Knows) → ((xs : List Entry) (k : ℕ) → get_elem? v.told k ≡ some xs → IsPrefix xs log) → ((xs : List Entry) (k : ℕ) → get_elem? w.told k ≡ some xs → IsPrefix xs log)
+    → IsPrefix w.front log → (xs : List Entry) (k : ℕ) → get_elem? (w.front ∷ (w.told ++ v.told)) k ≡ some xs → IsPrefix xs log
+told_of log v w hv hw front xs zero e = subst (λ (ys : List Entry). IsPrefix ys log) (some-injective w.front xs e) front
+told_of log v w hv hw front xs (suc k) e = in_both w.told k hw e
+  where
+    in_both : (l : List (List Entry)) (k : ℕ) → ((xs : List Entry) (k : ℕ) → get_elem? l k ≡ some xs → IsPrefix xs log) → get_elem? (l ++ v.told) k ≡ some xs → IsPrefix xs log
+    in_both [] k h e = hv xs k e
+    in_both (y ∷ ys) zero h e = h xs zero e
+    in_both (y ∷ ys) (suc k) h e = in_both ys k (λ zs j. h zs (suc j)) e
+
+pub joins : (start : Opening) (id : ℕ) (v : Knows) (other : ℕ) (w : Knows) → v.stage ≡ Idle → w.stage ≡ Idle → 0 < v.parts → Joins (IsTurning start) id v other w (both_of v w) nobody
+joins start id v other w idle idle' has s h at apart there =
+    let mine = h.each id v at in
+    let both = both_of v w in
+    let was : get_elem? s.views other ≡ some w = sym (set_else s.views id other both apart) ∙ there in
+    let theirs = h.each other w was in
+    let fits : IsSeated start h.log h.served h.drawn both = record { start_is = λ some. mine.start_is has; front = mine.front; told = told_of h.log v w mine.told theirs.told theirs.front; backed = rw idle (omega arith); stands = mine.stands } in
+    let fits' : IsSeated start h.log h.served h.drawn nobody = record { start_is = λ none. absurd (omega arith); front = (h.log, refl); told = λ xs k e. absurd (some-ne-none xs (sym e)); backed = omega arith; stands = tt } in
+    let here = seated_set start h.log h.served h.drawn s.homes s.views id v both (seats_of start s h) at idle idle fits in
+    let last = seated_set start h.log h.served h.drawn s.homes (set s.views id both) other w nobody here there idle' refl fits' in
+    let none_out : out_of w.stage ≡ 0 = ap out_of idle' in
+    record {
+      log = h.log;
+      served = h.served;
+      drawn = h.drawn;
+      words = h.words;
+      outs = omega (arith, total_set (λ (u : Knows). out_of u.stage) (set s.views id both) other w nobody there, total_set (λ (u : Knows). out_of u.stage) s.views id v both at, none_out, h.outs);
+      parts = omega (arith, total_set (λ (u : Knows). u.parts) (set s.views id both) other w nobody there, total_set (λ (u : Knows). u.parts) s.views id v both at, h.parts);
+      each = last.each;
+      apart = last.apart;
+      book = last.book;
+    }
+
+-- once every part is in one idle seat no ticket is out
+pub none_out : (start : Opening) (s : State (Option Past) Knows) (id : ℕ) (v : Knows) (h : IsTurning start s) → get_elem? s.views id ≡ some v → v.stage ≡ Idle → v.parts ≡ 10001 → h.drawn ≡ h.served
+none_out start s id v h at idle all =
+    let none = knows no_opening [] 0 Idle [] in
+    let out = λ (u : Knows). out_of u.stage in
+    let parts = λ (u : Knows). u.parts in
+    let idle_out : out_of v.stage ≡ 0 = ap out_of idle in
+    let backed = each_set (λ (j : ℕ) (u : Knows). out_of u.stage ≤ u.parts) s.views id none (λ j u apart e. (h.each j u e).backed) (omega arith) in
+    let few = total_le out parts (set s.views id none) backed in
+    let a = total_set parts s.views id v none at in
+    let b = total_set out s.views id v none at in
+    omega (arith, few, a, b, idle_out, h.outs, h.parts, all)
+
+pub alone : (x y : Knows) → x ∷ [] ≡ y ∷ [] → x ≡ y
+alone x y e = cc

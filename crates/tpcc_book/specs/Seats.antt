@@ -1,0 +1,56 @@
+-- What a seated purse is seen as.
+use Rattle.std.specs.Prelude.{◌≡◌, List, [], ◌∷◌}
+use Rattle.atomic_table.specs.Seated.{TableId}
+use Rattle.tpcc_rows.specs.declared.entry.Entry.{Entry}
+use Rattle.tpcc_book.specs.Purses.{Held}
+use Rattle.tpcc_book.specs.declared.turns.knows.Knows.{Knows}
+use mathlib.Core.List.{IsPrefix}
+use Rattle.tpcc_rows.specs.declared.requests.Request.{Request}
+use Rattle.std.specs.Result.{ForOk}
+use Rattle.tpcc_rows.specs.Replay.{count_of}
+use Rattle.tpcc_book.specs.Past.{Past, IsKept}
+use Rattle.tpcc_book.specs.Told.{Told}
+use Rattle.tpcc_book.specs.Turning.{no_opening}
+use Rattle.tpcc_book.specs.Serve.{IsServed}
+use Rattle.tpcc_population.specs.declared.opening.Opening.{Opening}
+
+abbrev pub no_table : TableId
+no_table =
+    record { words = 0; slots = 0; views_name = 0; atom = 0; block = 0; offset = 0; slot_names = [] }
+
+-- a purse, and the entries that it has seen
+pub record Seated : Type 0 where
+  pub purse : Held
+  pub start : Opening
+  pub front : List Entry
+
+-- turns that have no name yet
+pub record Unnamed : Type 0 where
+  pub opening : Opening
+  pub table : TableId
+
+-- an answer with the purse alone
+abbrev pub by_purse : Told Seated → Told Held
+by_purse answer =
+    record { request = answer.request; outcome = answer.outcome; place = answer.place; purse = answer.purse.purse }
+
+abbrev pub front_of : List Knows → List Entry
+front_of [] = []
+front_of (v ∷ vs) = v.front
+
+abbrev pub start_of : List Knows → Opening
+start_of [] = no_opening
+start_of (v ∷ vs) = v.start
+
+-- one turn of the book at a journal that begins with all that the purse had seen; afterwards the purse
+-- has seen all of it, which is faithful, and of its terminal's entries has those that the purse made
+pub record IsTurned (request : Request) (purse : Seated) (answer : Told Seated) : Type 0 where
+  pub old : Past
+  pub new : Past
+  pub opening : old.opening ≡ purse.start
+  pub begins : IsPrefix purse.front old.entries
+  pub seen : answer.purse.front ≡ new.entries
+  pub kept : IsKept new
+  pub own : ForOk answer.outcome (λ reply. count_of answer.purse.purse.terminal answer.purse.front ≡ answer.purse.purse.entries)
+  pub start : answer.purse.start ≡ purse.start
+  pub served : IsServed old request purse.purse (by_purse answer) new

@@ -1,0 +1,117 @@
+//! Turns at a book: a ticket word, a serving word, and the book in a slot.
+//!
+//! Threads share `Turns` and each has a `SeatedPurse`. To serve a request a thread draws a ticket, waits
+//! until it is served, has the book for itself, and gives it back and serves the next ticket. So requests
+//! are served in the order of their tickets, one at a time.
+ghost use Rattle.std.specs.Prelude.{◌≡◌};
+ghost use Rattle.tpcc_book.specs.Seats.{IsTurned};
+ghost use Rattle.tpcc_book.specs.Turn.{TakesTurn, MakesTurn};
+
+mod close;
+mod knows;
+mod rule;
+mod seated;
+mod split;
+mod steps;
+#[cfg(test)]
+mod tests;
+mod unnamed;
+
+use crate::answer::Answer;
+use crate::book::Book;
+use crate::naming::Naming;
+use crate::register::Register;
+use crate::turned::Turned;
+use crate::turns::knows::Knows;
+use crate::turns::rule::TurnRule;
+use crate::turns::steps::{give, take};
+use atomic_table::Table;
+pub use seated::{SeatedPurse, Seating};
+use std::alloc::Global;
+use std::marker::{Model, PhantomData};
+use std::sync::Wait;
+use tpcc_population::Opening;
+use tpcc_rows::Request;
+pub use unnamed::UnnamedTurns;
+
+/// A book that is served one request at a time, in the order in which turns were drawn. It is seen as
+/// the book's opening; what purses have seen of the journal stands in them.
+#[derive(Drop)]
+pub struct Turns<N: Naming, T: Seating> {
+    table: Table<Option<Book<N>>, Knows, Opening, TurnRule<N>, Global>,
+    of: PhantomData<T>,
+}
+
+impl<N: Naming, T: Seating> Model for Turns<N, T> {
+    ghost use Rattle.std.specs.Prelude.{◌≡◌};
+    ghost use Rattle.tpcc_population.specs.declared.opening.Opening.{Opening};
+
+    ghost Value = { Opening };
+
+    ghost view = { λ t. t.table.shared.key };
+
+    ghost invariant = { λ t. (t.table.shared.table_id ≡ T.table) × (t.table.shared.table_id.words ≡ 2) × (t.table.shared.table_id.slots ≡ 1) };
+}
+
+impl<N: Naming, T: Seating> Turns<N, T> {
+    pub(crate) fn of(
+        table: Table<Option<Book<N>>, Knows, Opening, TurnRule<N>, Global>,
+    ) -> Turns<N, T>
+        requires name { table.shared.table_id ≡ T.table }
+        requires counts { (table.shared.table_id.words ≡ 2) × (table.shared.table_id.slots ≡ 1) }
+        ensures opening { result ≡ table.shared.key }
+    {
+        Turns {
+            table,
+            of: PhantomData,
+        }
+    }
+
+    /// Waits for the purse's turn and serves a request for it: one transaction and one entry at its
+    /// place, or the first refusal and nothing.
+    pub fn serve<R: Wait>(
+        &self,
+        rt: &R,
+        request: Request,
+        purse: SeatedPurse<N, T>,
+    ) -> Answer<SeatedPurse<N, T>>
+        ensures turned { IsTurned request purse result }
+    {
+        self.serve_by(
+            rt,
+            request,
+            purse,
+            |register: &mut Register, request: Request, terminal: u32, number: u64| {
+                register.turn(request, terminal, number)
+            },
+        )
+    }
+
+    /// The same by a call that makes a turn.
+    pub fn serve_by<R: Wait, F: FnOnce(&mut Register, Request, u32, u64) -> Turned>(
+        &self,
+        rt: &R,
+        request: Request,
+        purse: SeatedPurse<N, T>,
+        turn: F,
+    ) -> Answer<SeatedPurse<N, T>>
+        requires takes { TakesTurn (F.pre turn) }
+        requires turns { MakesTurn (F.post turn) }
+        ensures turned { IsTurned request purse result }
+    {
+        let SeatedPurse { purse, badge, of } = purse;
+        let mut seat = badge.into_seat::<Option<Book<N>>>();
+        let board = &self.table.shared;
+        let (ticket, mut book) = take(rt, board, &mut seat);
+        let answer = book.serve_by(request, purse, turn);
+        let (request, outcome, place, purse) = answer.into_parts();
+        let _journal = book.journal();
+        give(board, &mut seat, ticket, book);
+        let purse = SeatedPurse {
+            purse,
+            badge: seat.into_badge(),
+            of,
+        };
+        Answer::new(request, outcome, place, purse)
+    }
+}

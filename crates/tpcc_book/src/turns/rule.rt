@@ -1,0 +1,50 @@
+//! The rule of the turns, and the kinds of step.
+//!
+//! Word 0 is the next ticket to be drawn, word 1 the ticket that is served. The one slot holds the book,
+//! which the seat that is served has taken out.
+use crate::book::Book;
+use crate::naming::Naming;
+use crate::turns::knows::Knows;
+use atomic_table::{Play, TableRule};
+use std::marker::PhantomData;
+use tpcc_population::Opening;
+
+/// The rule by which the two words, the book and the seats stand to one another.
+pub struct TurnRule<N> {
+    of: PhantomData<N>,
+}
+
+impl<N: Naming> TableRule<Option<Book<N>>, Knows, Opening> for TurnRule<N> {
+    ghost use Rattle.tpcc_book.specs.Turning.{IsTurning, first};
+
+    ghost holds = { IsTurning };
+
+    ghost first = { first };
+}
+
+/// Drawing a ticket.
+pub struct Draw;
+
+impl<N: Naming> Play<Option<Book<N>>, Knows> for Draw {
+    ghost use Rattle.tpcc_book.specs.Turning.{Drew};
+
+    ghost then = { Drew };
+}
+
+/// Looking whether it is served, and taking the book.
+pub struct Look;
+
+impl<N: Naming> Play<Option<Book<N>>, Knows> for Look {
+    ghost use Rattle.tpcc_book.specs.Turning.{Looked};
+
+    ghost then = { Looked };
+}
+
+/// Giving the book back, and serving the next ticket.
+pub struct End;
+
+impl<N: Naming> Play<Option<Book<N>>, Knows> for End {
+    ghost use Rattle.tpcc_book.specs.Turning.{Ended};
+
+    ghost then = { Ended };
+}

@@ -1,0 +1,103 @@
+//! Purses with a seat at the turns.
+ghost use Rattle.std.specs.Prelude.{◌≡◌, ◌+◌, ◌<◌, [], ◌∷◌, pos};
+ghost use Rattle.tpcc_book.specs.declared.turns.knows.Stage.TheVariants.{Idle};
+ghost use Rattle.tpcc_book.specs.Turning.{knows};
+ghost use Rattle.tpcc_book.specs.Seats.{start_of, front_of};
+
+use crate::naming::Naming;
+use crate::purse::Purse;
+use crate::turns::knows::Knows;
+use atomic_table::Badge;
+use std::marker::{Brand, Model, PhantomData};
+use tpcc_money::Cents;
+
+/// A type that stands for the table in which one book stands. Whoever names turns picks it, so a purse
+/// seated at other turns has another type.
+pub trait Seating {
+    ghost use Rattle.atomic_table.specs.Seated.{TableId};
+
+    /// The table.
+    ghost table: { TableId };
+}
+
+impl Seating for Brand {
+    ghost use Rattle.tpcc_book.specs.Seats.{no_table};
+
+    ghost table = { no_table };
+}
+
+/// A purse with a seat at the turns of its book. It knows the book's opening and the front: the entries
+/// of the journal that the purse has seen, from the first one on.
+#[derive(Drop)]
+pub struct SeatedPurse<N: Naming, T: Seating> {
+    pub(crate) purse: Purse<N>,
+    pub(crate) badge: Badge<Knows>,
+    pub(crate) of: PhantomData<T>,
+}
+
+impl<N: Naming, T: Seating> Model for SeatedPurse<N, T> {
+    ghost use Rattle.std.specs.Prelude.{◌≡◌, ◌+◌, [], ◌∷◌};
+    ghost use Rattle.tpcc_book.specs.declared.turns.knows.Stage.TheVariants.{Idle};
+    ghost use Rattle.tpcc_book.specs.Turning.{knows};
+    ghost use Rattle.tpcc_book.specs.Seats.{Seated, start_of, front_of};
+
+    ghost Value = { Seated };
+
+    ghost view = { λ p. record { purse = p.purse; start = start_of p.badge.views; front = front_of p.badge.views } };
+
+    ghost invariant = { λ p. (p.badge.table_id ≡ T.table) × (p.badge.views ≡ knows (start_of p.badge.views) (front_of p.badge.views) (p.purse.room + 1) Idle [] ∷ []) };
+}
+
+impl<N: Naming, T: Seating> SeatedPurse<N, T> {
+    pub(crate) fn of(purse: Purse<N>, badge: Badge<Knows>) -> SeatedPurse<N, T>
+        requires table { badge.table_id ≡ T.table }
+        requires view { badge.views ≡ knows (start_of badge.views) (front_of badge.views) (purse.room + 1) Idle [] ∷ [] }
+        ensures seated { result ≡ record { purse = purse; start = start_of badge.views; front = front_of badge.views } }
+    {
+        SeatedPurse {
+            purse,
+            badge,
+            of: PhantomData,
+        }
+    }
+
+    /// The terminal whose purse it is.
+    pub fn terminal(&self) -> u32
+        ensures terminal { result ≡ self.now.purse.terminal }
+    {
+        self.purse.terminal()
+    }
+
+    /// How many entries of the journal were made by this purse.
+    pub fn entries(&self) -> u64
+        ensures entries { result ≡ self.now.purse.entries }
+    {
+        self.purse.entries()
+    }
+
+    /// The sum of the payments that were made by this purse.
+    pub fn paid(&self) -> Cents
+        ensures paid { result ≡ self.now.purse.paid }
+    {
+        self.purse.paid()
+    }
+
+    /// How many purses can still be split off, 10,000 at first.
+    pub fn room(&self) -> u32
+        ensures room { result ≡ self.now.purse.room }
+    {
+        self.purse.room()
+    }
+
+    /// The purse without its seat, when the turns have ended.
+    pub fn into_purse(self) -> Purse<N>
+        ensures purse { result ≡ self.purse }
+    {
+        let SeatedPurse {
+            purse,
+            badge: _,
+            of: _,
+        } = self;
+        purse
+    }
+}

@@ -1,0 +1,85 @@
+//! The steps of a turn: a ticket is drawn, looked for, and ended.
+ghost use Rattle.std.specs.Prelude.{◌≡◌, ◌<◌, ℕ, [], ◌∷◌, Some};
+ghost use Rattle.tpcc_book.specs.declared.turns.knows.Stage.TheVariants.{Idle, Out};
+ghost use Rattle.tpcc_book.specs.Turning.{knows, Took};
+ghost use Rattle.tpcc_book.specs.TurnSteps.{Drawn, Awaits, Taken, Giving, Ending};
+ghost use Rattle.tpcc_book.specs.Past.{Past};
+
+use crate::book::Book;
+use crate::naming::Naming;
+use crate::turns::knows::Knows;
+use crate::turns::rule::{Draw, End, Look, TurnRule};
+use atomic_table::{Seat, Shared};
+use std::sync::Wait;
+use tpcc_population::Opening;
+
+/// The words and the slot that all seats share.
+pub type Board<N> = Shared<Option<Book<N>>, Knows, Opening, TurnRule<N>>;
+
+/// A seat at the board.
+pub type Place<N> = Seat<Option<Book<N>>, Knows>;
+
+// Draws a ticket.
+fn draw<N: Naming>(board: &Board<N>, seat: &mut Place<N>) -> u64
+    requires fits { (seat.old.table_id ≡ board.now.table_id) × (board.now.table_id.words ≡ 2) }
+    requires idle { (seat.old.me.0.stage ≡ Idle) × (0 < seat.old.me.0.parts) }
+    ensures same { (seat.new.table_id ≡ seat.old.table_id) × (seat.new.id ≡ seat.old.id) }
+    ensures drawn { Drawn seat.old.me result seat.new.me }
+{
+    board.fetch_add::<Draw>(seat, 0, 1)
+}
+
+// Looks until the ticket is served, and takes the book.
+fn wait<N: Naming, R: Wait>(rt: &R, board: &Board<N>, seat: &mut Place<N>, ticket: u64)
+    requires fits { (seat.old.table_id ≡ board.now.table_id) × (board.now.table_id.words ≡ 2) }
+    requires out { Awaits seat.old.me ticket }
+    ensures same { (seat.new.table_id ≡ seat.old.table_id) × (seat.new.id ≡ seat.old.id) }
+    ensures called { (number : ℕ) → seat.old.me.0.stage ≡ Out number → Took seat.old.me number seat.new.me }
+{
+    for _ in rt.forever() {
+        if board.load::<Look>(seat, 1) == ticket {
+            return;
+        }
+    }
+    unreachable!()
+}
+
+// Ends the turn.
+fn end<N: Naming>(board: &Board<N>, seat: &mut Place<N>, next: u64)
+    requires fits { (seat.old.table_id ≡ board.now.table_id) × (board.now.table_id.words ≡ 2) }
+    requires holds { Ending seat.old.me next }
+    ensures same { (seat.new.table_id ≡ seat.old.table_id) × (seat.new.id ≡ seat.old.id) }
+    ensures ended { (book : Past) → seat.old.me.1 ≡ (0, Some book) ∷ [] → seat.new.me ≡ (knows seat.old.me.0.start book.entries seat.old.me.0.parts Idle seat.old.me.0.told, []) }
+{
+    board.store::<End>(seat, 1, next);
+}
+
+/// Draws a ticket, waits until it is served, and takes the book.
+pub(crate) fn take<N: Naming, R: Wait>(
+    rt: &R,
+    board: &Board<N>,
+    seat: &mut Place<N>,
+) -> (u64, Book<N>)
+    requires fits { (seat.old.table_id ≡ board.now.table_id) × (board.now.table_id.words ≡ 2) }
+    requires idle { (seat.old.me.0.stage ≡ Idle) × (0 < seat.old.me.0.parts) × (seat.old.me.1 ≡ []) }
+    ensures same { (seat.new.table_id ≡ seat.old.table_id) × (seat.new.id ≡ seat.old.id) }
+    ensures taken { Taken seat.old.me result.0 result.1 seat.new.me }
+{
+    let ticket = draw(board, seat);
+    wait(rt, board, seat, ticket);
+    let Some(book) = board.exchange(seat, 0, None) else {
+        unreachable!()
+    };
+    (ticket, book)
+}
+
+/// Gives the book back, and ends the turn.
+pub(crate) fn give<N: Naming>(board: &Board<N>, seat: &mut Place<N>, ticket: u64, book: Book<N>)
+    requires fits { (seat.old.table_id ≡ board.now.table_id) × (board.now.table_id.words ≡ 2) }
+    requires giving { Giving seat.old.me ticket book }
+    ensures same { (seat.new.table_id ≡ seat.old.table_id) × (seat.new.id ≡ seat.old.id) }
+    ensures ended { seat.new.me ≡ (knows seat.old.me.0.start book.entries seat.old.me.0.parts Idle seat.old.me.0.told, []) }
+{
+    let _none = board.exchange(seat, 0, Some(book));
+    end(board, seat, ticket.wrapping_add(1));
+}

@@ -1,0 +1,83 @@
+//! Turns at a new book.
+ghost use Rattle.std.specs.Prelude.{◌≡◌, [], ◌∷◌, IfOk, pos, Some};
+
+use crate::book::Book;
+use crate::naming::{Blanks, Naming};
+use crate::purse::Purse;
+use crate::turns::Turns;
+use crate::turns::knows::Knows;
+use crate::turns::rule::TurnRule;
+use crate::turns::seated::{SeatedPurse, Seating};
+use crate::turns::steps::Place;
+use atomic_table::{Refused, Table};
+use std::alloc::Global;
+use std::marker::Model;
+use tpcc_money::NoMemory;
+use tpcc_population::Opening;
+
+/// Turns at a new book, which have no name yet, with the book's first purse. Whoever starts turns
+/// names them with a type that stands for their table.
+#[derive(Drop)]
+pub struct UnnamedTurns<N: Naming> {
+    table: Table<Option<Book<N>>, Knows, Opening, TurnRule<N>, Global>,
+    seat: Place<N>,
+    purse: Purse<N>,
+}
+
+impl<N: Naming> Model for UnnamedTurns<N> {
+    ghost use Rattle.std.specs.Prelude.{◌≡◌, [], pos};
+    ghost use Rattle.tpcc_book.specs.Seats.{Unnamed};
+    ghost use Rattle.tpcc_book.specs.Turning.{first};
+
+    ghost Value = { Unnamed };
+
+    ghost view = { λ t. record { opening = t.table.shared.key; table = t.table.shared.table_id } };
+
+    ghost invariant = { λ t. (t.seat.table_id ≡ t.table.shared.table_id) × (t.table.shared.table_id.words ≡ 2) × (t.table.shared.table_id.slots ≡ 1) × (t.seat.me ≡ (first t.table.shared.key, [])) × (t.purse ≡ record { terminal = 0; entries = 0; paid = pos 0; room = 10000 }) };
+}
+
+impl<N: Naming> UnnamedTurns<N> {
+    /// Turns at the book of an opening. Refused only for want of memory.
+    pub fn start(
+        alloc: Global,
+        opening: &Opening,
+        blanks: Blanks,
+    ) -> Result<UnnamedTurns<N>, NoMemory>
+        requires entries { blanks.entries.name ≡ N.entries }
+        requires cents { blanks.cents.name ≡ N.cents }
+        ensures opening { IfOk result (λ t. t.opening ≡ opening.now) }
+    {
+        let (book, purse) = Book::<N>::start(alloc, opening, blanks)?;
+        let slots = slot_of(alloc, book)?;
+        match Table::new(alloc, &[0, 0], slots, opening) {
+            Ok((table, seat)) => Ok(UnnamedTurns { table, seat, purse }),
+            Err(refused) => Err(no_memory(refused)),
+        }
+    }
+
+    /// The turns under a name, and the first purse, which has seen nothing.
+    pub fn named<T: Seating>(self) -> (Turns<N, T>, SeatedPurse<N, T>)
+        requires name { self.table ≡ T.table }
+        ensures turns { result.0 ≡ self.opening }
+        ensures purse { result.1 ≡ record { purse = record { terminal = 0; entries = 0; paid = pos 0; room = 10000 }; start = self.opening; front = [] } }
+    {
+        let UnnamedTurns { table, seat, purse } = self;
+        (Turns::of(table), SeatedPurse::of(purse, seat.into_badge()))
+    }
+}
+
+// The slot with the book.
+fn slot_of<N: Naming>(alloc: Global, book: Book<N>) -> Result<Vec<Option<Book<N>>>, NoMemory>
+    ensures slot { IfOk result (λ slots. slots.items ≡ Some book ∷ []) }
+{
+    let Ok(mut slots) = Vec::with_capacity(alloc, 1) else {
+        return Err(NoMemory);
+    };
+    slots.push_reserved(Some(book));
+    Ok(slots)
+}
+
+fn no_memory<N: Naming>(refused: Refused<Option<Book<N>>, Global>) -> NoMemory {
+    let Refused { slots: _ } = refused;
+    NoMemory
+}
