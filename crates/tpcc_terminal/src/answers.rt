@@ -5,11 +5,11 @@ ghost use Rattle.tpcc_terminal.specs.Adding.{Adds};
 ghost use Rattle.tpcc_terminal.specs.Screens as screens;
 
 use crate::delivery::{put_delivery, put_queued, put_results};
+use crate::lines::Screen;
 use crate::new_order::put_entered;
 use crate::order_status::put_status;
 use crate::payment::put_paid;
 use crate::refusal::put_refusal;
-use crate::lines::Screen;
 use crate::stock_level::put_level;
 use std::alloc::Global;
 use tpcc_money::NoMemory;
