@@ -4,7 +4,13 @@
 #[cfg(test)]
 mod copies;
 #[cfg(test)]
+mod refusals;
+#[cfg(test)]
 mod refusing_heap;
+#[cfg(test)]
+mod replies;
+#[cfg(test)]
+mod requests;
 #[cfg(test)]
 mod rows;
 #[cfg(test)]

@@ -1,5 +1,6 @@
-//! Texts: their faults in order, and a copy that equals its source.
+//! Texts: their faults in order, a copy that equals its source, and texts of bytes that are tested already.
 use std::test::Fail;
+use tpcc_rows::text::are_plain;
 use tpcc_rows::{Text, TextFault};
 
 #[test]
@@ -27,6 +28,36 @@ fn faults_in_order(rt: HostRuntime) -> Result<(), Fail> {
             }
             Err(fault) => assert_eq!(rt; expected, Err(fault)),
         }
+    }
+    Ok(())
+}
+
+#[test]
+fn plain_bytes(rt: HostRuntime) -> Result<(), Fail> {
+    let cases: [(&[u8], bool); 7] = [
+        (b"", true),
+        (b" ", true),
+        (b"~", true),
+        (b"ITEMNAME000001", true),
+        (b"\x1f", false),
+        (b"\x7f", false),
+        (b"a\nb", false),
+    ];
+    for (bytes, plain) in cases {
+        assert_eq!(rt; are_plain(bytes), plain);
+    }
+    Ok(())
+}
+
+#[test]
+fn of_bytes_that_are_plain(rt: HostRuntime) -> Result<(), Fail> {
+    let bytes = Vec::from_slice(rt.alloc(), b"BARBARBAR")?;
+    let plain = are_plain(bytes.as_slice());
+    assert!(rt; plain);
+    if plain {
+        let text = Text::of(bytes);
+        assert_eq!(rt; text.bytes(), b"BARBARBAR".as_slice());
+        assert_eq!(rt; text.len(), 9);
     }
     Ok(())
 }

@@ -1,0 +1,100 @@
+//! Requests built by hand: their lines, and what each kind pays.
+use crate::rows::text;
+use std::alloc::Global;
+use std::test::Fail;
+use tpcc_money::{Cents, Moment};
+use tpcc_rows::{Line, Lines, Order, Payment, Request, StatusQuery, StockQuery, Ticket, Who};
+
+fn line(item: u32) -> Line {
+    Line {
+        item,
+        supply: 1,
+        quantity: 10,
+    }
+}
+
+pub fn new_order_request(alloc: Global) -> Result<Order, Fail> {
+    let mut lines = Vec::new(alloc);
+    for item in [20, 26, 12, 21, 11] {
+        lines.push(line(item))?;
+    }
+    Ok(Order {
+        warehouse: 1,
+        district: 1,
+        customer: 1,
+        moment: Moment::new(0),
+        lines: Lines::new(lines),
+    })
+}
+
+pub fn payment(who: Who) -> Payment {
+    Payment {
+        warehouse: 1,
+        district: 1,
+        customer_warehouse: 1,
+        customer_district: 1,
+        who,
+        amount: Cents::new(100),
+        moment: Moment::new(0),
+    }
+}
+
+pub fn status_query() -> StatusQuery {
+    StatusQuery {
+        warehouse: 1,
+        district: 1,
+        who: Who::Number(8),
+    }
+}
+
+pub fn stock_query() -> StockQuery {
+    StockQuery {
+        warehouse: 1,
+        district: 1,
+        threshold: 10,
+    }
+}
+
+pub fn ticket() -> Ticket {
+    Ticket {
+        warehouse: 1,
+        carrier: 3,
+        queued: Moment::new(60),
+    }
+}
+
+#[test]
+fn lines_in_their_order(rt: HostRuntime) -> Result<(), Fail> {
+    let mut given = Vec::new(rt.alloc());
+    given.push(line(20))?;
+    given.push(line(26))?;
+    given.push(line(20))?;
+    let lines = Lines::new(given);
+    assert_eq!(rt; lines.as_slice(), [line(20), line(26), line(20)].as_slice());
+    assert_eq!(rt; Lines::new(Vec::new(rt.alloc())).as_slice().len(), 0);
+    Ok(())
+}
+
+/// What a request pays, in cents.
+fn cents_paid(request: Request) -> i64 {
+    request.paid().value()
+}
+
+#[test]
+fn a_payment_pays_its_amount(rt: HostRuntime) -> Result<(), Fail> {
+    assert_eq!(rt; cents_paid(Request::Payment(payment(Who::Number(1)))), 100);
+    let name = text(rt.alloc(), b"BARBARBAR")?;
+    assert_eq!(rt; cents_paid(Request::Payment(payment(Who::Name(name)))), 100);
+    Ok(())
+}
+
+#[test]
+fn other_requests_pay_nothing(rt: HostRuntime) -> Result<(), Fail> {
+    let order = new_order_request(rt.alloc())?;
+    assert_eq!(rt; cents_paid(Request::NewOrder(order)), 0);
+    assert_eq!(rt; cents_paid(Request::Status(status_query())), 0);
+    assert_eq!(rt; cents_paid(Request::Stock(stock_query())), 0);
+    assert_eq!(rt; cents_paid(Request::Delivery(ticket())), 0);
+    assert_eq!(rt; cents_paid(Request::Deliver(Moment::new(120))), 0);
+    Ok(())
+}
