@@ -1,0 +1,6 @@
+pub mod Seats
+pub mod SeatSteps
+pub mod Hands
+pub mod Desks
+pub mod Events
+pub mod Exchanges
