@@ -4,3 +4,4 @@ pub mod Hands
 pub mod Desks
 pub mod Events
 pub mod Exchanges
+pub mod Started

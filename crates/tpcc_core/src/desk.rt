@@ -1,17 +1,21 @@
 //! The desk.
 ghost use Rattle.std.specs.Prelude.{◌≡◌, is_ok, ◌↔◌, ◌<◌, ◌≤◌, ◌+◌, [], length, vec_len, IfOk, IfSome, IfNone, IfErr, OnOk, OnErr, IsErrOf, Option, Some, None, true, false};
 ghost use Rattle.std.specs.Option.{option_copied};
+ghost use Rattle.tpcc_core.specs.Started.{started};
 ghost use Rattle.tpcc_core.specs.Desks.{place_of, purse_of, collected_of};
 ghost use Rattle.tpcc_core.specs.Events.{answer_place, is_ready, is_post, Steps, IsPostedAt, IsTakenAt, IsServedBy, IsAnsweredBy, IsCollectedAt, can_post, can_take, can_serve, can_answer, can_collect};
 
 use crate::event::Event;
 use crate::fault::CoreFault;
 use crate::mailbox::Collected;
+use crate::opening;
 use crate::seat::{Seat, refused};
 use crate::server::{Server, give_answer, serve_letter, take_letter};
 use std::alloc::Global;
 use std::marker::Model;
-use tpcc_book::{Book, Naming, Purse};
+use tpcc_book::{Blanks, Book, Naming, Purse};
+use tpcc_money::NoMemory;
+use tpcc_population::Opening;
 use tpcc_rows::Request;
 
 /// A book, the mailboxes and purses of its terminals, and the hands of its servers. It has no thread.
@@ -60,6 +64,34 @@ fn answer_place<P: Drop>(seats: &[Seat<P>], server: &Server<P>) -> Option<usize>
 }
 
 impl<N: Naming> Desk<N> {
+    /// The desk of an opening: its book, so many terminals, 1 to 10,000, each with an empty purse, and so many
+    /// servers, at least 1. Refused only for want of memory.
+    pub fn start(
+        alloc: Global,
+        opening: &Opening,
+        terminals: u32,
+        servers: u32,
+        blanks: Blanks,
+    ) -> Result<Desk<N>, NoMemory>
+        requires entries { blanks.entries.name ≡ N.entries }
+        requires cents { blanks.cents.name ≡ N.cents }
+        requires terminals { (1 ≤ terminals) × (terminals ≤ 10000) }
+        requires servers { 1 ≤ servers }
+        ensures started { IfOk result (λ d. d ≡ started opening.now terminals servers) }
+    {
+        let (book, first) = Book::start(alloc, opening, blanks)?;
+        let mut first = first;
+        let seats = opening::seats(alloc, &mut first, terminals)?;
+        let servers = opening::servers(alloc, servers)?;
+        Ok(Desk {
+            book,
+            first,
+            seats,
+            servers,
+            closed: false,
+        })
+    }
+
     /// The book.
     pub fn book(&self) -> &Book<N>
         ensures book { result.now ≡ self.now.book }

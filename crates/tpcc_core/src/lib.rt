@@ -5,6 +5,7 @@ mod desk;
 mod event;
 mod fault;
 mod mailbox;
+mod opening;
 mod seat;
 mod server;
 
