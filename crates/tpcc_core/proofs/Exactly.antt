@@ -1,6 +1,6 @@
 -- A fault that comes exactly where an event is not ready.
 use Rattle.std.proofs.Common.{◌≡◌, sym, ap}
-use Rattle.std.specs.Prelude.{Bool, true, false, Result, Ok, Err, is_ok, IfErr, IsErrOf, ◌↔◌}
+use Rattle.std.specs.Prelude.{Bool, false, Result, Ok, Err, is_ok, IfErr, IsErrOf, ◌↔◌}
 
 -- a call that succeeds where b, and fails by this fault alone
 pub exactly : {T E : Type 0} (r : Result T E) (fault : E) (b : Bool) → is_ok r ≡ b → IfErr r (λ f. f ≡ fault) → IsErrOf r fault ↔ (b ≡ false)

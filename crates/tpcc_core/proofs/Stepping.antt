@@ -1,7 +1,7 @@
 -- What one event does to a desk, from what it does to a seat and a hand.
 use Rattle.std.proofs.Common.{◌≡◌, ◌∙◌, sym, ap, refl, ℕ, ◌<◌, List, length, slice_set, get_or}
 use Rattle.std.proofs.lemmas.Option.{slice_get_read}
-use Rattle.std.specs.Prelude.{Bool, true, false, ◌&&◌, Option, Some, None, Result, Ok, Err, is_ok, OnOk, OnErr, slice_get, is_some, option_map, unwrap_or}
+use Rattle.std.specs.Prelude.{Bool, true, false, ◌&&◌, Option, Some, Result, Ok, Err, is_ok, OnOk, OnErr, slice_get, is_some, option_map, unwrap_or}
 use Rattle.std.proofs.lemmas.Result.{on_ok_weaker}
 use Rattle.tpcc_rows.specs.declared.requests.Request.{Request}
 use Rattle.tpcc_book.specs.Past.{Past}
@@ -12,9 +12,9 @@ use Rattle.tpcc_core.specs.declared.mailbox.Mailbox.TheVariants as box
 use Rattle.tpcc_core.specs.Seats.{SeatNow, is_free, is_taken, is_answered}
 use Rattle.tpcc_core.specs.SeatSteps.{sent, collected_from}
 use Rattle.tpcc_core.specs.Hands.{Serves, answer_for}
-use Rattle.tpcc_core.specs.Exchanges.{IsHanded, IsReturned}
+use Rattle.tpcc_core.specs.Exchanges.{IsReturned}
 use Rattle.tpcc_core.specs.Desks.{DeskNow, place_of}
-use Rattle.tpcc_core.specs.Events.{tests_in, place_in, answer_place, can_answer, IsPostedAt, IsTakenAt, IsServedBy, IsAnsweredBy, IsCollectedAt}
+use Rattle.tpcc_core.specs.Events.{tests_in, place_in, answer_place, can_answer, IsPostedAt, IsServedBy, IsAnsweredBy, IsCollectedAt}
 use Rattle.tpcc_core.proofs.Places.{changed, tested, unchanged}
 
 -- a request at a seat is a request at the desk

@@ -1,7 +1,6 @@
 -- The six events: when each is ready, and what it does to a desk.
 use Rattle.std.specs.Prelude.{ℕ, ◌≡◌, Bool, true, false, ◌&&◌, List, length, slice_get, slice_set, Option, Some, None, option_map, unwrap_or}
 use Rattle.tpcc_rows.specs.declared.requests.Request.{Request}
-use Rattle.tpcc_book.specs.Past.{Past}
 use Rattle.tpcc_book.specs.Purses.{Held}
 use Rattle.tpcc_book.specs.Told.{Told}
 use Rattle.tpcc_core.specs.declared.event.Event.{Event}
@@ -11,8 +10,8 @@ use Rattle.tpcc_core.specs.declared.mailbox.Hand.TheVariants as hand
 use Rattle.tpcc_core.specs.declared.mailbox.Mailbox.TheVariants as box
 use Rattle.tpcc_core.specs.declared.mailbox.Letter.{Letter}
 use Rattle.tpcc_core.specs.Seats.{SeatNow, is_free, is_posted, is_taken, is_answered}
-use Rattle.tpcc_core.specs.SeatSteps.{sent, IsTakenFrom, collected_from}
-use Rattle.tpcc_core.specs.Hands.{is_empty, holds_letter, answer_for, Serves, IsGiven}
+use Rattle.tpcc_core.specs.SeatSteps.{sent, collected_from}
+use Rattle.tpcc_core.specs.Hands.{is_empty, holds_letter, answer_for, Serves}
 use Rattle.tpcc_core.specs.Desks.{DeskNow, place_of}
 
 -- what has this number is so; nothing that is not there is

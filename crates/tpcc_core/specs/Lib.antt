@@ -5,3 +5,4 @@ pub mod Desks
 pub mod Events
 pub mod Exchanges
 pub mod Started
+pub mod Runs

@@ -1,7 +1,8 @@
 //! The desk.
-ghost use Rattle.std.specs.Prelude.{◌≡◌, is_ok, ◌↔◌, ◌<◌, ◌≤◌, ◌+◌, [], length, vec_len, IfOk, IfSome, IfNone, IfErr, OnOk, OnErr, IsErrOf, Option, Some, None, true, false};
+ghost use Rattle.std.specs.Prelude.{◌≡◌, take, is_ok, ◌↔◌, ◌<◌, ◌≤◌, ◌+◌, [], length, vec_len, IfOk, IfSome, IfNone, IfErr, OnOk, OnErr, IsErrOf, Option, Some, None, true, false};
 ghost use Rattle.std.specs.Option.{option_copied};
 ghost use Rattle.tpcc_core.specs.Started.{started};
+ghost use Rattle.tpcc_core.specs.Runs.{Moves, Passes};
 ghost use Rattle.tpcc_core.specs.Desks.{place_of, purse_of, collected_of};
 ghost use Rattle.tpcc_core.specs.Events.{answer_place, is_ready, is_post, Steps, IsPostedAt, IsTakenAt, IsServedBy, IsAnsweredBy, IsCollectedAt, can_post, can_take, can_serve, can_answer, can_collect};
 
@@ -216,5 +217,32 @@ impl<N: Naming> Desk<N> {
                 Ok(())
             }
         }
+    }
+
+    #[tactic(auto, using(crate::proofs::Running::passes_more))]
+    /// The events in their order; one that is not ready is passed over. At the first want of memory it ends
+    /// with the number of events before that one.
+    pub fn run(&mut self, events: Vec<Event>) -> Result<(), u64>
+        ensures all { OnOk result (Passes self.old events.items self.new) }
+        ensures first { IfErr result (λ count. Passes self.old (take count events.items) self.new) }
+    {
+        let mut count = 0u64;
+        for event in events {
+            if !self.go(event) {
+                return Err(count);
+            }
+            count += 1;
+        }
+        Ok(())
+    }
+
+    #[tactic(auto, using(crate::proofs::Running::moved, crate::proofs::Running::stayed))]
+    // One event, or nothing where it is not ready; false where memory is wanted, and nothing happened.
+    fn go(&mut self, event: Event) -> bool
+        ensures went { result ≡ true → Moves self.old event self.new }
+        ensures same { result ≡ false → self.new ≡ self.old }
+        ensures memory { result ≡ false → (is_ready self.old event ≡ true) × (is_post event ≡ true) }
+    {
+        !matches!(self.step(event), Err(CoreFault::NoMemory))
     }
 }

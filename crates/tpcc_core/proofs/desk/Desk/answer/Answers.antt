@@ -1,4 +1,3 @@
-use Rattle.std.proofs.Common.{◌∙◌, ap, sym}
 use Rattle.tpcc_core.proofs.Places.{read_at}
 use Rattle.tpcc_core.proofs.Stepping.{answered_by, answered_none, answer_ready, answer_at}
 use Rattle.tpcc_core.proofs.desk.Desk.answer.Goals as goal
