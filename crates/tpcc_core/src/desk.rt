@@ -1,6 +1,7 @@
 //! The desk.
 ghost use Rattle.std.specs.Prelude.{◌≡◌, take, is_ok, ◌↔◌, ◌<◌, ◌≤◌, ◌+◌, [], length, vec_len, IfOk, IfSome, IfNone, IfErr, OnOk, OnErr, IsErrOf, Option, Some, None, true, false};
 ghost use Rattle.std.specs.Option.{option_copied};
+ghost use Rattle.tpcc_book.specs.Past.{IsKept};
 ghost use Rattle.tpcc_core.specs.Started.{started};
 ghost use Rattle.tpcc_core.specs.Runs.{Moves, Passes};
 ghost use Rattle.tpcc_core.specs.Desks.{place_of, purse_of, collected_of};
@@ -93,10 +94,13 @@ impl<N: Naming> Desk<N> {
         })
     }
 
-    /// The book.
+    /// The book. Whatever happened, its rows are consistent (3.3.2) and are the opening's followed by its
+    /// journal one transaction at a time, and each entry is what its request gave at its place.
     pub fn book(&self) -> &Book<N>
         ensures book { result.now ≡ self.now.book }
+        ensures kept { IsKept self.now.book }
     {
+        let _journal = self.book.journal();
         &self.book
     }
 
