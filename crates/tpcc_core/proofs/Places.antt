@@ -1,0 +1,39 @@
+-- What has a number.
+use Rattle.std.proofs.Common.{◌≡◌, ◌∙◌, sym, ap, refl, ℕ, zero, suc, ◌<◌, List, [], ◌∷◌, length, slice_set, get_or}
+use Rattle.std.specs.Prelude.{Bool, false, Option, Some, None, option_map, unwrap_or, slice_get}
+use Rattle.std.proofs.lemmas.Option.{slice_get_read}
+use Rattle.tpcc_core.specs.Desks.{place_of}
+use Rattle.tpcc_core.specs.Events.{tests_in, tests_at, IsChangedAt}
+
+-- it is tested at its place
+pub tested : {X : Type 0} (test : X → Bool) (xs : List X) (number place : ℕ) (was : X)
+    → place_of number (length xs) ≡ Some place → slice_get xs place ≡ Some was → tests_at test xs number ≡ test was
+tested test xs number place was numbered found =
+    ap (tests_in test xs) numbered ∙ ap (λ o. unwrap_or (option_map test o) false) found
+
+-- what is not there is not so
+pub untested : {X : Type 0} (test : X → Bool) (xs : List X) (number : ℕ)
+    → place_of number (length xs) ≡ None → tests_at test xs number ≡ false
+untested test xs number none = ap (tests_in test xs) none
+
+-- another in its place
+pub changed : {X : Type 0} (xs : List X) (number place : ℕ) (was is new : X)
+    → place_of number (length xs) ≡ Some place → slice_get xs place ≡ Some was → new ≡ is → IsChangedAt xs number was is (slice_set xs place new)
+changed xs number place was is new numbered found same =
+    record { place = place; numbered = numbered; found = found; set = ap (slice_set xs place) same }
+
+-- what an index gives
+pub read_at : {X : Type 0} (seen xs : List X) (number place : ℕ) (x : X) (o : Option ℕ)
+    → seen ≡ xs → o ≡ place_of number (length seen) → o ≡ Some place → place < length seen → x ≡ get_or xs place x
+    → (place_of number (length xs) ≡ Some place) × (slice_get xs place ≡ Some x)
+read_at seen xs number place x o same numbered is bound value =
+    (ap (λ ys. place_of number (length ys)) (sym same) ∙ sym numbered ∙ is, slice_get_read xs (length seen) place x (ap length same) bound value)
+
+same-item : {X : Type 0} (a b : X) → Some a ≡ Some b → a ≡ b
+same-item a b h = cc
+
+-- the same in its place
+pub unchanged : {X : Type 0} (xs : List X) (place : ℕ) (was new : X) → slice_get xs place ≡ Some was → new ≡ was → slice_set xs place new ≡ xs
+unchanged [] place was new found same = refl
+unchanged (x ∷ xs) zero was new found same = ap (λ y. y ∷ xs) (same ∙ sym (same-item x was found))
+unchanged (x ∷ xs) (suc place) was new found same = ap (λ ys. x ∷ ys) (unchanged xs place was new found same)

@@ -1,0 +1,107 @@
+-- What one event does to a desk, from what it does to a seat and a hand.
+use Rattle.std.proofs.Common.{◌≡◌, ◌∙◌, sym, ap, refl, ℕ, ◌<◌, List, length, slice_set, get_or}
+use Rattle.std.proofs.lemmas.Option.{slice_get_read}
+use Rattle.std.specs.Prelude.{Bool, true, false, ◌&&◌, Option, Some, Result, Ok, Err, is_ok, OnOk, OnErr, slice_get, is_some, option_map, unwrap_or}
+use Rattle.std.proofs.lemmas.Result.{on_ok_weaker}
+use Rattle.tpcc_rows.specs.declared.requests.Request.{Request}
+use Rattle.tpcc_book.specs.Past.{Past}
+use Rattle.tpcc_book.specs.Purses.{Held}
+use Rattle.tpcc_core.specs.declared.mailbox.Hand.{Hand}
+use Rattle.tpcc_core.specs.declared.mailbox.Hand.TheVariants as hand
+use Rattle.tpcc_core.specs.declared.mailbox.Mailbox.TheVariants as box
+use Rattle.tpcc_core.specs.Seats.{SeatNow, is_free, is_taken, is_answered}
+use Rattle.tpcc_core.specs.SeatSteps.{sent, collected_from}
+use Rattle.tpcc_core.specs.Hands.{Serves, answer_for}
+use Rattle.tpcc_core.specs.Exchanges.{IsReturned}
+use Rattle.tpcc_core.specs.Desks.{DeskNow, place_of}
+use Rattle.tpcc_core.specs.Events.{tests_in, place_in, answer_place, can_answer, IsPostedAt, IsServedBy, IsAnsweredBy, IsCollectedAt}
+use Rattle.tpcc_core.proofs.Places.{changed, tested, unchanged}
+
+-- a request at a seat is a request at the desk
+pub posted_at : {T E : Type 0} (d : DeskNow) (t place : ℕ) (seat new : SeatNow Held) (request : Request) (r : Result T E)
+    → place_of t (length d.seats) ≡ Some place → slice_get d.seats place ≡ Some seat
+    → OnOk r (is_free seat.mailbox ≡ true) → OnOk r (new ≡ record seat { mailbox = sent seat.mailbox request })
+    → OnOk r (IsPostedAt d t request (record d { seats = slice_set d.seats place new }))
+posted_at d t place seat new request (Ok v) numbered found ready is =
+    record { seat = seat; seats = changed d.seats t place seat (record seat { mailbox = sent seat.mailbox request }) new numbered found is; ready = ready; rest = refl }
+posted_at d t place seat new request (Err e) numbered found ready is = ready
+
+-- a collected answer
+pub collected_at : {T E : Type 0} (d : DeskNow) (t place : ℕ) (seat new : SeatNow Held) (r : Result T E)
+    → place_of t (length d.seats) ≡ Some place → slice_get d.seats place ≡ Some seat
+    → is_ok r ≡ is_answered seat.mailbox → OnOk r (new ≡ collected_from seat)
+    → OnOk r (IsCollectedAt d t (record d { seats = slice_set d.seats place new }))
+collected_at d t place seat new (Ok v) numbered found ready is =
+    record { seat = seat; ready = sym ready; seats = changed d.seats t place seat (collected_from seat) new numbered found is; rest = refl }
+collected_at d t place seat new (Err e) numbered found ready is = is
+
+-- a served letter
+pub served_by : {T E : Type 0} (d : DeskNow) (s place : ℕ) (held holds : Hand Held) (after : Past) (r : Result T E)
+    → place_of s (length d.hands) ≡ Some place → slice_get d.hands place ≡ Some held
+    → OnOk r (Serves held d.book holds after)
+    → OnOk r (IsServedBy d s (record d { book = after; hands = slice_set d.hands place holds }))
+served_by d s place held holds after r numbered found =
+    on_ok_weaker r (λ is. record { held = held; holds = holds; served = is; hands = changed d.hands s place held holds holds numbered found refl; rest = refl })
+
+same-number : (a b : ℕ) → Some a ≡ Some b → a ≡ b
+same-number a b h = cc
+
+-- an answer that is in its mailbox
+pub answered_by : {T E : Type 0} (d : DeskNow) (s at place : ℕ) (seat after : SeatNow Held) (held holds : Hand Held) (r : Result T E)
+    → place_of s (length d.hands) ≡ Some at → slice_get d.hands at ≡ Some held
+    → answer_place held d.seats ≡ Some place → slice_get d.seats place ≡ Some seat
+    → is_ok r ≡ is_some (answer_for held) && is_taken seat.mailbox → OnOk r (IsReturned seat held after holds)
+    → OnOk r (IsAnsweredBy d s (record d { seats = slice_set d.seats place after; hands = slice_set d.hands at holds }))
+answered_by d s at place seat after held holds (Ok v) handed held_is numbered found ready is =
+    let for = ap answer_for is.given.was in
+    record {
+      terminal = is.given.terminal;
+      answer = is.answer;
+      seat = seat;
+      ready = sym (ready ∙ ap (λ o. is_some o && is_taken seat.mailbox) for);
+      seats = changed d.seats is.given.terminal place seat (record seat { mailbox = box.Answered is.answer }) after (sym (ap (place_in d.seats) for) ∙ numbered) found is.after_is;
+      hands = changed d.hands s at (hand.Served is.given.terminal is.answer) hand.Empty holds handed (held_is ∙ ap (λ h. Some h) is.given.was) is.given.is;
+      rest = refl;
+    }
+answered_by d s at place seat after held holds (Err e) handed held_is numbered found ready is = is
+
+answer-for : (h : Hand Held) (seats : List (SeatNow Held)) (place : ℕ) → answer_place h seats ≡ Some place → is_some (answer_for h) ≡ true
+answer-for hand.Empty seats place h = cc
+answer-for (hand.Holds terminal letter) seats place h = cc
+answer-for (hand.Served terminal answer) seats place h = refl
+
+-- it is ready exactly where hand and mailbox are
+pub answer_ready : (d : DeskNow) (s at place : ℕ) (seat : SeatNow Held) (held : Hand Held) (done : Bool)
+    → place_of s (length d.hands) ≡ Some at → slice_get d.hands at ≡ Some held
+    → answer_place held d.seats ≡ Some place → slice_get d.seats place ≡ Some seat
+    → done ≡ is_some (answer_for held) && is_taken seat.mailbox → done ≡ can_answer d s
+answer_ready d s at place seat held done handed held_is numbered found ready =
+    let one = tested (λ h. tests_in (λ x. is_taken x.mailbox) d.seats (answer_place h d.seats)) d.hands s at held handed held_is in
+    let two = ap (tests_in (λ x. is_taken x.mailbox) d.seats) numbered in
+    let three = ap (λ o. unwrap_or (option_map (λ x. is_taken x.mailbox) o) false) found in
+    ready ∙ ap (λ b. b && is_taken seat.mailbox) (answer-for held d.seats place numbered) ∙ sym (one ∙ two ∙ three)
+
+-- after an error nothing has changed
+pub served_none : {T E : Type 0} (d : DeskNow) (at : ℕ) (held holds : Hand Held) (after : Past) (r : Result T E)
+    → slice_get d.hands at ≡ Some held → OnErr r (holds ≡ held) → OnErr r (after ≡ d.book)
+    → OnErr r (record d { book = after; hands = slice_set d.hands at holds } ≡ d)
+served_none d at held holds after (Ok v) found same book = same
+served_none d at held holds after (Err e) found same book =
+    ap (λ b. record d { book = b; hands = slice_set d.hands at holds }) book ∙ ap (λ hs. record d { hands = hs }) (unchanged d.hands at held holds found same)
+
+pub answered_none : {T E : Type 0} (d : DeskNow) (at place : ℕ) (seat after : SeatNow Held) (held holds : Hand Held) (r : Result T E)
+    → slice_get d.hands at ≡ Some held → slice_get d.seats place ≡ Some seat → OnErr r (after ≡ seat) → OnErr r (holds ≡ held)
+    → OnErr r (record d { seats = slice_set d.seats place after; hands = slice_set d.hands at holds } ≡ d)
+answered_none d at place seat after held holds (Ok v) held_is found same kept = same
+answered_none d at place seat after held holds (Err e) held_is found same kept =
+    ap (λ ss. record d { seats = ss; hands = slice_set d.hands at holds }) (unchanged d.seats place seat after found same) ∙ ap (λ hs. record d { hands = hs }) (unchanged d.hands at held holds held_is kept)
+
+same-hand : (a b : Hand Held) (o : Option (Hand Held)) → o ≡ Some a → o ≡ Some b → a ≡ b
+same-hand a b o h k = cc
+
+-- the seat that an answer belongs to
+pub answer_at : (seen xs : List (SeatNow Held)) (hands : List (Hand Held)) (at place : ℕ) (first second : Hand Held) (x : SeatNow Held) (o : Option ℕ)
+    → seen ≡ xs → slice_get hands at ≡ Some first → slice_get hands at ≡ Some second → o ≡ answer_place first seen → o ≡ Some place
+    → place < length seen → x ≡ get_or xs place x → (answer_place second xs ≡ Some place) × (slice_get xs place ≡ Some x)
+answer_at seen xs hands at place first second x o same one two numbered is bound value =
+    (ap (answer_place second) (sym same) ∙ ap (λ h. answer_place h seen) (same-hand second first (slice_get hands at) two one) ∙ sym numbered ∙ is, slice_get_read xs (length seen) place x (ap length same) bound value)

@@ -1,0 +1,15 @@
+//! The desk: a book, mailboxes, servers' hands and terminals' purses, moved by six events, each one atomic step.
+#![tactic(auto)]
+
+mod desk;
+mod event;
+mod fault;
+mod mailbox;
+mod opening;
+mod seat;
+mod server;
+
+pub use desk::Desk;
+pub use event::Event;
+pub use fault::CoreFault;
+pub use mailbox::{Collected, Hand, Letter, Mailbox};
