@@ -2,6 +2,8 @@
 use crate::opening::{Change, opened};
 use crate::{Broken, check, check_opening};
 use std::test::Fail;
+use tpcc_delivery::{Queue, Ticket, deliver_next, queue};
+use tpcc_money::Moment;
 use tpcc_population::{Opening, Scale, fill};
 
 fn at(condition: u32, district: u32, number: u32) -> Result<(), Broken> {
@@ -51,5 +53,30 @@ fn an_opening_has_seven_of_ten_orders_delivered(rt: HostRuntime) -> Result<(), F
         check_opening(&tables, Scale::new(1, 20, 100)?),
         Err(broken)
     );
+    Ok(())
+}
+
+#[test]
+fn ten_runs_leave_condition_11_behind(rt: HostRuntime) -> Result<(), Fail> {
+    let scale = Scale::new(1, 10, 100)?;
+    let mut tables = fill(rt.alloc(), &Opening::Plain { scale })?;
+    let mut waiting = Queue::new(rt.alloc());
+    let ticket = Ticket {
+        warehouse: 1,
+        carrier: 3,
+        queued: Moment::new(60),
+    };
+    assert!(rt; queue(&tables, &mut waiting, ticket).is_ok());
+    for _ in 0..10u32 {
+        assert!(rt; deliver_next(&mut tables, &mut waiting, Moment::new(120)).is_ok());
+    }
+    assert_eq!(rt; check(&tables), Ok(()));
+    let broken = Broken {
+        condition: 11,
+        warehouse: 1,
+        district: 1,
+        number: 0,
+    };
+    assert_eq!(rt; check_opening(&tables, scale), Err(broken));
     Ok(())
 }
