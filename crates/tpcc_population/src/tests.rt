@@ -118,6 +118,10 @@ fn drawn_rows(rt: HostRuntime) -> Result<(), Fail> {
         for customer in 1..11u32 {
             assert!(rt; tables.last_order(1, district, customer).is_some());
         }
+        let first = tables.customer(1, district, 1).ok_or("customer")?;
+        assert_eq!(rt; first.last.bytes(), b"BARBARBAR".as_slice());
+        let tenth = tables.customer(1, district, 10).ok_or("customer")?;
+        assert_eq!(rt; tenth.last.bytes(), b"BARBAREING".as_slice());
         let waiting = tables.order(1, district, 8).ok_or("order")?;
         assert_eq!(rt; waiting.carrier, None);
         assert_eq!(rt; waiting.entry_date, Moment::new(60));
