@@ -136,7 +136,14 @@ fn district_texts(alloc: Global) -> Result<[Text; 10], Fail> {
     Ok([d1, d2, d3, d4, d5, d6, d7, d8, d9, d10])
 }
 
-fn stock(alloc: Global, warehouse: u32, item: u32, order_count: u32) -> Result<Row, Fail> {
+/// What was taken of an item so far: S_YTD and S_ORDER_CNT.
+#[derive(Clone, Copy)]
+pub struct Taken {
+    pub ytd: u32,
+    pub order_count: u32,
+}
+
+fn stock(alloc: Global, warehouse: u32, item: u32, taken: Taken) -> Result<Row, Fail> {
     let district_information = district_texts(alloc)?;
     let information = information(alloc, b's', item % 20 == 0)?;
     Ok(Row::Stock(StockRow {
@@ -144,8 +151,8 @@ fn stock(alloc: Global, warehouse: u32, item: u32, order_count: u32) -> Result<R
         warehouse,
         quantity: 10u32.saturating_add(item % 91),
         district_information,
-        ytd: 0,
-        order_count,
+        ytd: taken.ytd,
+        order_count: taken.order_count,
         remote_count: 0,
         information,
     }))
@@ -169,6 +176,25 @@ pub fn opened(
     next_order: u32,
     order_count: u32,
 ) -> Result<Tables, Fail> {
+    let taken = Taken {
+        ytd: 0,
+        order_count,
+    };
+    opened_with(alloc, warehouses, items, next_order, taken)
+}
+
+/// The same with that S_YTD and S_ORDER_CNT.
+pub fn opened_with(
+    alloc: Global,
+    warehouses: u32,
+    items: &[u32],
+    next_order: u32,
+    taken: Taken,
+) -> Result<Tables, Fail> {
+    let none = Taken {
+        ytd: 0,
+        order_count: 0,
+    };
     let mut tables = Tables::empty(alloc);
     for id in items {
         put(&mut tables, item(alloc, *id)?)?;
@@ -177,8 +203,8 @@ pub fn opened(
         let id = id.saturating_add(1);
         put(&mut tables, warehouse(alloc, id)?)?;
         for item in items {
-            let count = if *item == 1 { order_count } else { 0 };
-            put(&mut tables, stock(alloc, id, *item, count)?)?;
+            let of_item = if *item == 1 { taken } else { none };
+            put(&mut tables, stock(alloc, id, *item, of_item)?)?;
         }
     }
     put(&mut tables, district(alloc, next_order)?)?;

@@ -49,7 +49,7 @@ pub fn entered(
     }
 }
 
-fn accepted(
+pub fn accepted(
     alloc: Global,
     tables: &mut Tables,
     lines: &[(u32, u32, u32)],

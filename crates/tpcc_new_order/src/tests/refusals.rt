@@ -1,6 +1,6 @@
 //! Orders that are refused.
-use super::opening::opened;
-use super::orders::{entered, number_rolled_back, order};
+use super::opening::{Taken, opened, opened_with};
+use super::orders::{accepted, entered, number_rolled_back, order};
 use crate::Order;
 use std::alloc::Global;
 use std::process::Abort;
@@ -83,5 +83,42 @@ fn for_its_number_unless_rolled_back(rt: HostRuntime) -> Result<(), Fail> {
     let used = order(alloc, &USED)?;
     assert_refused(&rt, alloc, &mut tables, &used, Refusal::OrderNumbers)?;
     assert!(rt; tables.order(1, 1, 9_999_999).is_none());
+    Ok(())
+}
+
+#[test]
+fn for_the_tenth_line_past_a_count(rt: HostRuntime) -> Result<(), Fail> {
+    let alloc = rt.alloc();
+    let mut tables = opened(alloc, 1, &[1], 11, 999_999_990)?;
+    let ten = order(alloc, &[(1, 1, 1); 10])?;
+    let refusal = Refusal::Count(Field::StockOrders);
+    assert_refused(&rt, alloc, &mut tables, &ten, refusal)?;
+    assert_eq!(rt; tables.stock(1, 1).ok_or("stock")?.order_count, 999_999_990);
+    let reply = accepted(alloc, &mut tables, &[(1, 1, 1); 9])?;
+    assert_eq!(rt; reply.line_count, 9);
+    assert_eq!(rt; tables.stock(1, 1).ok_or("stock")?.order_count, 999_999_999);
+    Ok(())
+}
+
+#[test]
+fn for_the_year_to_date_of_an_item(rt: HostRuntime) -> Result<(), Fail> {
+    let alloc = rt.alloc();
+    let five = order(alloc, &[(1, 1, 1); 5])?;
+    let full = Taken {
+        ytd: 99_999_995,
+        order_count: 0,
+    };
+    let mut tables = opened_with(alloc, 1, &[1], 11, full)?;
+    let refusal = Refusal::Total(Field::StockYtd);
+    assert_refused(&rt, alloc, &mut tables, &five, refusal)?;
+    assert_eq!(rt; tables.stock(1, 1).ok_or("stock")?.ytd, 99_999_995);
+    let nearly = Taken {
+        ytd: 99_999_994,
+        order_count: 0,
+    };
+    let mut tables = opened_with(alloc, 1, &[1], 11, nearly)?;
+    let reply = accepted(alloc, &mut tables, &[(1, 1, 1); 5])?;
+    assert_eq!(rt; reply.line_count, 5);
+    assert_eq!(rt; tables.stock(1, 1).ok_or("stock")?.ytd, 99_999_999);
     Ok(())
 }
