@@ -1,0 +1,23 @@
+-- What a run is made of, and what it comes to.
+use Rattle.std.specs.Prelude.{ℕ, ◌≡◌, ◌≤◌, List, Option, length}
+use Rattle.std.specs.Io.KnownBytes.{Appends}
+use Rattle.tpcc_population.specs.declared.opening.Opening.{Opening}
+use Rattle.tpcc_book.specs.Past.{Past, IsKept, rise_of}
+use Rattle.tpcc_terminal.specs.Report.{report_text}
+use Rattle.tpcc_run.specs.declared.plan.Plan.{Plan}
+
+-- the ranges of a plan
+pub record IsPlan (plan : Plan) : Type 0 where
+  pub terminals_least : 1 ≤ plan.terminals
+  pub terminals_most : plan.terminals ≤ 999
+  pub servers_least : 1 ≤ plan.servers
+  pub servers_most : plan.servers ≤ 16
+  pub cards_most : plan.cards ≤ 100000
+  pub retire_most : plan.retire ≤ 100000
+
+-- the report of a book of the opening: its entries, and what its purses paid, which is the rise of W_YTD
+pub record HasReported (opening : Opening) (before after : Option (List ℕ)) : Type 0 where
+  pub book : Past
+  pub opening_is : book.opening ≡ opening
+  pub kept : IsKept book
+  pub written : Appends before after (report_text (length book.entries) (rise_of book) (rise_of book))

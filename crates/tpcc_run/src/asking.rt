@@ -1,0 +1,82 @@
+//! One request of a terminal, from its mailbox to its receipt.
+ghost use Rattle.std.specs.Prelude.{◌≡◌, IfSome};
+ghost use Rattle.tpcc_mailbox.specs.Tokens.{identity, idle_origin};
+ghost use Rattle.tpcc_terminal.specs.Receipts.{AllStand};
+
+use crate::fault::RunFault;
+use crate::operator::Operator;
+use std::sync::Wait;
+use tpcc_book::{Naming, SeatedPurse, Seating};
+use tpcc_rows::{Delivery, Reply, Request};
+use tpcc_server::{Job, JobAnswer, JobMailboxes, Turning, ask};
+
+/// What became of a request.
+#[derive(Drop)]
+pub(crate) struct Asked<N: Naming, T: Seating, C> {
+    /// The terminal, unless its job was still out when the mailboxes were seen closed.
+    pub operator: Option<Operator<N, T, C>>,
+    /// Whether a district was delivered or passed over.
+    pub delivered: bool,
+    /// Why the terminal can't go on.
+    pub fault: Option<RunFault>,
+}
+
+/// Asks one request, by a call of its own, and keeps its receipt.
+pub(crate) fn ask_once<N: Naming, T: Seating, C: Turning, R: Wait>(
+    rt: &R,
+    mailboxes: &JobMailboxes<N, T, C>,
+    operator: Operator<N, T, C>,
+    request: Request,
+    call: C,
+) -> Asked<N, T, C>
+    requires origin { idle_origin operator.idle ≡ identity mailboxes.now }
+    requires receipts { AllStand operator.purse.front operator.terminal.receipts }
+    ensures origin { IfSome result.operator (λ s. idle_origin s.idle ≡ identity mailboxes.now) }
+    ensures receipts { IfSome result.operator (λ s. AllStand s.purse.front s.terminal.receipts) }
+{
+    let Operator {
+        idle,
+        purse,
+        terminal,
+    } = operator;
+    let mut terminal = terminal;
+    match ask(rt, mailboxes, idle, Job::of(request, purse, call)) {
+        Ok((idle, answer)) => {
+            let fault = match terminal.note(&answer) {
+                Ok(()) => None,
+                Err(_) => Some(RunFault::NoMemory),
+            };
+            let delivered = is_delivered(&answer);
+            let purse = purse_of(answer);
+            Asked {
+                operator: Some(Operator {
+                    idle,
+                    purse,
+                    terminal,
+                }),
+                delivered,
+                fault,
+            }
+        }
+        Err(_) => Asked {
+            operator: None,
+            delivered: false,
+            fault: Some(RunFault::Missing),
+        },
+    }
+}
+
+// Whether it is the reply of a district's delivery.
+fn is_delivered<N: Naming, T: Seating>(answer: &JobAnswer<N, T>) -> bool {
+    matches!(
+        answer.outcome(),
+        Ok(Reply::Delivery(Delivery::District(_)))
+    )
+}
+
+fn purse_of<N: Naming, T: Seating>(answer: JobAnswer<N, T>) -> SeatedPurse<N, T>
+    ensures purse { result ≡ answer.purse }
+{
+    let (_, _, _, purse) = answer.into_parts();
+    purse
+}

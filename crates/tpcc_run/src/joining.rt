@@ -1,0 +1,66 @@
+//! Joining the threads of terminals.
+ghost use Rattle.std.specs.Prelude.{◌≡◌, ◌<◌, IfSome, IsSome, vec_len};
+ghost use Rattle.tpcc_mailbox.specs.Tokens.{identity, idle_origin};
+ghost use Rattle.tpcc_terminal.specs.Receipts.{AllStand};
+ghost use Rattle.tpcc_audit.specs.Settlement.{AllSeen};
+ghost use Rattle.tpcc_run.specs.Handles.{AllBackAt};
+
+use crate::gathered::Gathered;
+use crate::operator::Operator;
+use crate::promises::{Back, TerminalHandle};
+use std::thread::Threads;
+use tpcc_book::{Naming, Seating};
+use tpcc_server::JobMailboxes;
+
+/// Joins the threads of all terminals, and keeps their purses and receipts.
+pub(crate) fn join_terminals<N: Naming, T: Seating, C, R: Threads>(
+    rt: &R,
+    handles: Vec<TerminalHandle<N, T, C>>,
+    mailboxes: &JobMailboxes<N, T, C>,
+    all: &mut Gathered<N, T>,
+)
+    requires handles { AllBackAt (identity mailboxes.now) handles.items }
+    requires seen { AllSeen all.old.purses.items all.old.receipts.items }
+    ensures seen { AllSeen all.new.purses.items all.new.receipts.items }
+{
+    let mut handles = handles;
+    while let Some(handle) = next_handle(&mut handles, mailboxes) {
+        if let Some(operator) = join_terminal(rt, handle, mailboxes, all) {
+            all.keep(operator);
+        }
+    }
+}
+
+fn next_handle<N: Naming, T: Seating, C>(
+    handles: &mut Vec<TerminalHandle<N, T, C>>,
+    mailboxes: &JobMailboxes<N, T, C>,
+) -> Option<TerminalHandle<N, T, C>>
+    requires handles { AllBackAt (identity mailboxes.now) handles.old.items }
+    ensures rest { AllBackAt (identity mailboxes.now) handles.new.items }
+    ensures one { IfSome result (λ h. idle_origin h.promise.0.value ≡ identity mailboxes.now) }
+    ensures less { IsSome result → vec_len handles.new < vec_len handles.old }
+{
+    let _ = mailboxes;
+    handles.pop()
+}
+
+/// Joins the thread of one terminal, and notes what stopped it.
+pub(crate) fn join_terminal<N: Naming, T: Seating, C, R: Threads>(
+    rt: &R,
+    handle: TerminalHandle<N, T, C>,
+    mailboxes: &JobMailboxes<N, T, C>,
+    all: &mut Gathered<N, T>,
+) -> Option<Operator<N, T, C>>
+    requires origin { idle_origin handle.promise.0.value ≡ identity mailboxes.now }
+    ensures origin { IfSome result (λ s. idle_origin s.idle ≡ identity mailboxes.now) }
+    ensures receipts { IfSome result (λ s. AllStand s.purse.front s.terminal.receipts) }
+    ensures purses { all.new.purses ≡ all.old.purses }
+    ensures kept { all.new.receipts ≡ all.old.receipts }
+{
+    let _ = mailboxes;
+    let Back { operator, fault } = handle.join(rt);
+    if let Some(fault) = fault {
+        all.note(fault);
+    }
+    operator
+}

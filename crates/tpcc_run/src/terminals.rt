@@ -1,0 +1,89 @@
+//! What a terminal's thread does.
+ghost use Rattle.std.specs.Prelude.{◌≡◌, IfSome};
+ghost use Rattle.tpcc_mailbox.specs.Tokens.{identity, idle_origin};
+ghost use Rattle.tpcc_terminal.specs.Receipts.{AllStand};
+
+use crate::asking::{Asked, ask_once};
+use crate::fault::RunFault;
+use crate::plan::Plan;
+use crate::promises::Back;
+use crate::operator::Operator;
+use std::alloc::{AllocError, Global};
+use std::sync::Wait;
+use tpcc_book::{Naming, Seating};
+use tpcc_money::{Moment, NoMemory};
+use tpcc_rows::Request;
+use tpcc_server::{JobMailboxes, Turning};
+use tpcc_terminal::Terminal;
+
+/// What a terminal asks.
+#[derive(Clone, Copy, Debug)]
+pub(crate) enum Role {
+    /// The requests of its cards.
+    Cards,
+    /// The next district's delivery, each time.
+    Deliveries,
+}
+
+// The next request.
+fn next_request(role: Role, terminal: &mut Terminal, moment: Moment) -> Result<Request, NoMemory>
+    ensures receipts { terminal.new.receipts ≡ terminal.old.receipts }
+{
+    match role {
+        Role::Cards => terminal.next(moment),
+        Role::Deliveries => Ok(Request::Deliver(moment)),
+    }
+}
+
+/// Asks the plan's number of requests, each by a call of its own. It stops where memory is refused, and
+/// where its job is still out when the mailboxes are seen closed.
+pub(crate) fn ask_all<N: Naming, T: Seating, C: Turning, F: Fn(Global) -> Result<C, AllocError>, R: Wait>(
+    rt: &R,
+    alloc: Global,
+    mailboxes: &JobMailboxes<N, T, C>,
+    operator: Operator<N, T, C>,
+    role: Role,
+    make: &F,
+    plan: Plan,
+) -> Back<N, T, C>
+    requires origin { idle_origin operator.idle ≡ identity mailboxes.now }
+    requires receipts { AllStand operator.purse.front operator.terminal.receipts }
+    requires make { F.IsAlwaysCallable make.now }
+    ensures origin { IfSome result.operator (λ s. idle_origin s.idle ≡ identity mailboxes.now) }
+    ensures receipts { IfSome result.operator (λ s. AllStand s.purse.front s.terminal.receipts) }
+{
+    let mut operator = operator;
+    for _ in 0..plan.cards {
+        let Ok(call) = make(alloc) else {
+            return stopped(operator);
+        };
+        let Ok(request) = next_request(role, &mut operator.terminal, plan.moment) else {
+            return stopped(operator);
+        };
+        let Asked {
+            operator: back,
+            delivered: _,
+            fault,
+        } = ask_once(rt, mailboxes, operator, request, call);
+        let (Some(home), None) = (back, fault) else {
+            return Back {
+                operator: back,
+                fault,
+            };
+        };
+        operator = home;
+    }
+    Back {
+        operator: Some(operator),
+        fault: None,
+    }
+}
+
+fn stopped<N: Naming, T: Seating, C>(operator: Operator<N, T, C>) -> Back<N, T, C>
+    ensures operator { result.operator ≡ Some operator }
+{
+    Back {
+        operator: Some(operator),
+        fault: Some(RunFault::NoMemory),
+    }
+}

@@ -1,0 +1,206 @@
+//! The threads of a run.
+ghost use Rattle.std.specs.Prelude.{◌≡◌, ◌≤◌, ◌<◌, ◌+◌, None};
+ghost use Rattle.tpcc_mailbox.specs.Tokens.{identity, serving_origin};
+ghost use Rattle.tpcc_audit.specs.Settlement.{AllSeen};
+ghost use Rattle.tpcc_run.specs.Handles.{AllIdleAt};
+
+use crate::drain::drain;
+use crate::fault::RunFault;
+use crate::gathered::Gathered;
+use crate::joining::{join_terminal, join_terminals};
+use crate::plan::Plan;
+use crate::promises::{Back, TerminalHandle};
+use crate::servers::start_servers;
+use crate::starting::{next_idle, start_terminal, start_terminals};
+use crate::terminals::Role;
+use std::alloc::{AllocError, Global};
+use std::sync::Wait;
+use std::thread;
+use std::thread::{Scope, Threads};
+use tpcc_book::{Naming, SeatedPurse, Seating, Turns};
+use tpcc_population::Scale;
+use tpcc_server::{JobIdle, JobMailboxes, JobServing, Turning};
+
+// Starts the delivery runner, whose number is the one behind the terminals'.
+fn start_runner<
+    's,
+    E,
+    N: Naming + Send + Sync,
+    T: Seating + Send + Sync,
+    C: Turning + Send,
+    F: Fn(Global) -> Result<C, AllocError> + Sync,
+    R: Threads + Wait + Sync,
+>(
+    scope: &Scope<'s, E>,
+    rt: &'s R,
+    alloc: Global,
+    mailboxes: &'s JobMailboxes<N, T, C>,
+    turns: &'s Turns<N, T>,
+    idles: &mut Vec<JobIdle<N, T, C>>,
+    first: &mut SeatedPurse<N, T>,
+    make: &'s F,
+    scale: Scale,
+    plan: Plan,
+) -> Option<TerminalHandle<N, T, C>>
+    requires idles { AllIdleAt (identity mailboxes.now) idles.old.items }
+    requires room { 0 < first.old.purse.room }
+    requires terminals { plan.terminals ≤ 999 }
+    requires make { F.IsAlwaysCallable make.now }
+    ensures rest { AllIdleAt (identity mailboxes.now) idles.new.items }
+    ensures room { first.old.purse.room ≡ first.new.purse.room + 1 }
+    ensures origin { IfSome result (λ h. idle_origin h.promise.0.value ≡ identity mailboxes.now) }
+{
+    let purse = first.split(turns, plan.terminals + 1);
+    let Some(idle) = next_idle(idles, mailboxes) else {
+        return None;
+    };
+    start_terminal(
+        scope,
+        rt,
+        alloc,
+        mailboxes,
+        idle,
+        purse,
+        Role::Deliveries,
+        make,
+        scale,
+        plan,
+    )
+}
+
+// Joins the delivery runner, which then asks for what is still queued.
+fn end_runner<
+    N: Naming,
+    T: Seating,
+    C: Turning,
+    F: Fn(Global) -> Result<C, AllocError>,
+    R: Threads + Wait,
+>(
+    rt: &R,
+    alloc: Global,
+    mailboxes: &JobMailboxes<N, T, C>,
+    runner: TerminalHandle<N, T, C>,
+    make: &F,
+    plan: Plan,
+    all: &mut Gathered<N, T>,
+)
+    requires origin { idle_origin runner.promise.0.value ≡ identity mailboxes.now }
+    requires make { F.IsAlwaysCallable make.now }
+    requires seen { AllSeen all.old.purses.items all.old.receipts.items }
+    ensures seen { AllSeen all.new.purses.items all.new.receipts.items }
+{
+    let Some(operator) = join_terminal(rt, runner, mailboxes, all) else {
+        return;
+    };
+    let Back { operator, fault } = drain(rt, alloc, mailboxes, operator, make, plan);
+    if let Some(fault) = fault {
+        all.note(fault);
+    }
+    if let Some(operator) = operator {
+        all.keep(operator);
+    }
+}
+
+// Starts all threads, and joins those of the terminals. The scope joins the servers, since the mailboxes
+// are closed.
+fn drive<
+    's,
+    E,
+    N: Naming + Send + Sync,
+    T: Seating + Send + Sync,
+    C: Turning + Send,
+    F: Fn(Global) -> Result<C, AllocError> + Sync,
+    R: Threads + Wait + Sync,
+>(
+    scope: &Scope<'s, E>,
+    rt: &'s R,
+    alloc: Global,
+    mailboxes: &'s JobMailboxes<N, T, C>,
+    turns: &'s Turns<N, T>,
+    idles: Vec<JobIdle<N, T, C>>,
+    serving: JobServing<N, T, C>,
+    first: SeatedPurse<N, T>,
+    make: &'s F,
+    scale: Scale,
+    plan: Plan,
+) -> Gathered<N, T>
+    requires idles { AllIdleAt (identity mailboxes.now) idles.items }
+    requires serving { serving_origin serving ≡ identity mailboxes.now }
+    requires room { plan.terminals < first.purse.room }
+    requires terminals { plan.terminals ≤ 999 }
+    requires make { F.IsAlwaysCallable make.now }
+    ensures seen { AllSeen result.purses.items result.receipts.items }
+{
+    let mut idles = idles;
+    let mut serving = serving;
+    let mut first = first;
+    let mut all = Gathered::new(alloc);
+    let servers = start_servers(scope, rt, mailboxes, turns, &mut serving, plan);
+    if servers < plan.servers {
+        all.note(RunFault::NoMemory);
+    }
+    if servers == 0 {
+        mailboxes.close(&mut serving);
+    }
+    let runner = start_runner(
+        scope, rt, alloc, mailboxes, turns, &mut idles, &mut first, make, scale, plan,
+    );
+    let terminals = start_terminals(
+        scope, rt, alloc, mailboxes, turns, idles, &mut first, make, scale, plan,
+    );
+    if terminals.len() < plan.terminals as usize {
+        all.note(RunFault::NoMemory);
+    }
+    join_terminals(rt, terminals, mailboxes, &mut all);
+    match runner {
+        Some(runner) => end_runner(rt, alloc, mailboxes, runner, make, plan, &mut all),
+        None => all.note(RunFault::NoMemory),
+    }
+    mailboxes.close(&mut serving);
+    all.keep_purse(first);
+    all
+}
+
+/// Runs all terminals, the delivery runner and the servers to their end.
+pub(crate) fn work<
+    N: Naming + Send + Sync,
+    T: Seating + Send + Sync,
+    C: Turning + Send,
+    F: Fn(Global) -> Result<C, AllocError> + Sync,
+    R: Threads + Wait + Sync,
+>(
+    rt: &R,
+    alloc: Global,
+    mailboxes: &JobMailboxes<N, T, C>,
+    turns: &Turns<N, T>,
+    idles: Vec<JobIdle<N, T, C>>,
+    serving: JobServing<N, T, C>,
+    first: SeatedPurse<N, T>,
+    make: &F,
+    scale: Scale,
+    plan: Plan,
+) -> Gathered<N, T>
+    requires idles { AllIdleAt (identity mailboxes.now) idles.items }
+    requires serving { serving_origin serving ≡ identity mailboxes.now }
+    requires room { plan.terminals < first.purse.room }
+    requires terminals { plan.terminals ≤ 999 }
+    requires make { F.IsAlwaysCallable make.now }
+    ensures seen { AllSeen result.purses.items result.receipts.items }
+{
+    thread::scope(
+        thread::scope_env(),
+        rt,
+        |scope| -> Gathered<N, T>
+            requires idles { AllIdleAt (identity mailboxes.now) idles.items }
+            requires serving { serving_origin serving ≡ identity mailboxes.now }
+            requires room { plan.terminals < first.purse.room }
+            requires terminals { plan.terminals ≤ 999 }
+            requires make { F.IsAlwaysCallable make.now }
+            ensures seen { AllSeen result.purses.items result.receipts.items }
+        {
+            drive(
+                scope, rt, alloc, mailboxes, turns, idles, serving, first, make, scale, plan,
+            )
+        },
+    )
+}
