@@ -2,3 +2,4 @@ pub mod Columns
 pub mod Records
 pub mod Dump
 pub mod Output
+pub mod Settlement

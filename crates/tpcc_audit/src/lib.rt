@@ -1,4 +1,5 @@
-//! Audits of order entry: a table written out as comma-separated values.
+//! Audits of order entry: a table written out as comma-separated values, the settlement of a book with all
+//! purses, and its report.
 #![tactic(auto)]
 
 mod dumping;
@@ -8,6 +9,8 @@ mod laws;
 mod names;
 mod output;
 mod records;
+mod reporting;
+mod settlement;
 #[cfg(test)]
 mod test_rows;
 #[cfg(test)]
@@ -17,3 +20,5 @@ pub use dumping::dump;
 pub use fault::DumpFault;
 pub use laws::dump_is_read_back;
 pub use names::table_named;
+pub use reporting::{ReportFault, report};
+pub use settlement::{Totals, Unsettled, settle};

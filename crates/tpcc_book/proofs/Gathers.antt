@@ -4,8 +4,9 @@ use Rattle.std.specs.Prelude.{◌+ℤ◌, Option}
 use Rattle.std.specs.Option.{option_to_list}
 use Rattle.std.proofs.lemmas.Int.{ints}
 use Rattle.std.proofs.lemmas.List.Sums.{sum_by-append}
-use Rattle.tpcc_book.specs.Purses.{Held}
-use Rattle.tpcc_book.specs.Serve.{rooms_of, entries_of, paid_of, joined}
+use Rattle.tpcc_book.specs.Purses.{Held, Pooled, pool_of, pooled}
+use Rattle.tpcc_book.specs.Serve.{rooms_of, entries_of, paid_of}
+use Rattle.tpcc_book.specs.Gathering.{AreAll}
 
 rooms_push : (purses : List Held) (p : Held) → rooms_of (purses ++ p ∷ []) ≡ rooms_of purses + (p.room + 1)
 rooms_push purses p =
@@ -21,26 +22,22 @@ paid_push : (purses : List Held) (p : Held) → paid_of (purses ++ p ∷ []) ≡
 paid_push [] p = omega (arith, ints)
 paid_push (q ∷ purses) p = omega (arith, ints, paid_push purses p)
 
--- one purse and the rest have what all have
-pub record AreAll (purses : List Held) (all : Held) (rest : List Held) : Type 0 where
-  pub rooms : all.room + 1 + rooms_of rest ≡ rooms_of purses
-  pub entries : all.entries + entries_of rest ≡ entries_of purses
-  pub paid : all.paid +ℤ paid_of rest ≡ paid_of purses
+-- the last one of a list, and the rest of it
+pub popped_is : {X : Type 0} (all rest : List X) (popped : Option X) (x : X) → all ≡ rest ++ option_to_list popped → popped ≡ Some x → all ≡ rest ++ x ∷ []
+popped_is {X} all rest popped x split is = split ∙ ap (λ (o : Option X). rest ++ option_to_list o) is
 
-pub last_taken : (purses rest : List Held) (popped : Option Held) (all : Held) → purses ≡ rest ++ option_to_list popped → popped ≡ Some all → AreAll purses all rest
-last_taken purses rest popped all split is =
-    let same : purses ≡ rest ++ all ∷ [] = split ∙ ap (λ (o : Option Held). rest ++ option_to_list o) is in
+pub first_pooled : (purses rest : List Held) (pool : Pooled) (p : Held) → purses ≡ rest ++ p ∷ [] → pool ≡ pool_of p → AreAll purses pool rest
+first_pooled purses rest pool p same one =
     record {
-      rooms = omega (arith, rooms_push rest all, ap rooms_of same);
-      entries = omega (arith, entries_push rest all, ap entries_of same);
-      paid = omega (arith, ints, paid_push rest all, ap paid_of same);
+      rooms = omega (arith, rooms_push rest p, ap rooms_of same, ap (λ (q : Pooled). q.parts) one);
+      entries = omega (arith, entries_push rest p, ap entries_of same, ap (λ (q : Pooled). q.entries) one);
+      paid = omega (arith, ints, paid_push rest p, ap paid_of same, ap (λ (q : Pooled). q.paid) one);
     }
 
-pub one_more_joined : (purses rest left : List Held) (popped : Option Held) (all now p : Held) → AreAll purses all rest → rest ≡ left ++ option_to_list popped → popped ≡ Some p → now ≡ joined all p → AreAll purses now left
-one_more_joined purses rest left popped all now p before split is join =
-    let here = last_taken rest left popped p split is in
+pub one_more_pooled : (purses rest left : List Held) (pool now : Pooled) (p : Held) → AreAll purses pool rest → rest ≡ left ++ p ∷ [] → now ≡ pooled pool p → AreAll purses now left
+one_more_pooled purses rest left pool now p before same more =
     record {
-      rooms = omega (arith, before.rooms, here.rooms, ap (λ (h : Held). h.room) join);
-      entries = omega (arith, before.entries, here.entries, ap (λ (h : Held). h.entries) join);
-      paid = omega (arith, ints, before.paid, here.paid, ap (λ (h : Held). h.paid) join);
+      rooms = omega (arith, before.rooms, rooms_push left p, ap rooms_of same, ap (λ (q : Pooled). q.parts) more);
+      entries = omega (arith, before.entries, entries_push left p, ap entries_of same, ap (λ (q : Pooled). q.entries) more);
+      paid = omega (arith, ints, before.paid, paid_push left p, ap paid_of same, ap (λ (q : Pooled). q.paid) more);
     }

@@ -1,11 +1,13 @@
 -- What is known of the book when the turns end.
-use Rattle.std.specs.Prelude.{ℕ, ◌≡◌, ◌==◌, List, Option, Some, None, if◌then◌else◌}
+use Rattle.std.specs.Prelude.{ℕ, ℤ, ◌≡◌, ◌==◌, List, length, All, Option, Some, None, if◌then◌else◌}
 use mathlib.Core.Option.{some}
 use mathlib.Core.List.{IsPrefix}
 use lib.ListN.{get_elem?}
 use Rattle.tpcc_population.specs.declared.opening.Opening.{Opening}
-use Rattle.tpcc_book.specs.Past.{Past}
-use Rattle.tpcc_book.specs.Seats.{Seated}
+use Rattle.tpcc_book.specs.Past.{Past, IsKept, rise_of}
+use Rattle.tpcc_book.specs.Purses.{Pooled}
+use Rattle.tpcc_book.specs.Serve.{entries_of, paid_of}
+use Rattle.tpcc_book.specs.Seats.{Seated, purses_of}
 
 -- the slot is told where the two words agree
 pub record TellsBook (words : List ℕ) (slots : List (Option Past)) (told : Option Past) : Type 0 where
@@ -17,11 +19,24 @@ pub record TellsBook (words : List ℕ) (slots : List (Option Past)) (told : Opt
   pub slot_is : get_elem? slots 0 ≡ some slot
   pub told_is : told ≡ (if drawn == served then slot else None)
 
--- the book of these turns, whose journal begins with all that the purse had seen
-pub record IsBookOf (start : Opening) (purse : Seated) (book : Past) : Type 0 where
+-- the book of these turns, whose journal begins with all that each purse had seen
+pub record IsLeft (start : Opening) (purses : List Seated) (book : Past) : Type 0 where
   pub opening : book.opening ≡ start
-  pub begins : IsPrefix purse.front book.entries
+  pub begins : All (λ p. IsPrefix p.front book.entries) purses
 
--- with all the room that there is no turn is under way, so there is a book
-abbrev pub IsThere : ℕ → Option Past → Type 0
-IsThere room told = room ≡ 10000 → (book : Past) × (told ≡ Some book)
+-- what is pooled are the book's two totals
+pub record IsAudited (pool : Pooled) (book : Past) (entries : ℕ) (paid : ℤ) : Type 0 where
+  pub kept : IsKept book
+  pub entries_are : entries ≡ pool.entries
+  pub entries_counted : entries ≡ length book.entries
+  pub paid_is : paid ≡ pool.paid
+  pub paid_rose : paid ≡ rise_of book
+
+-- once every purse is there: their entries are the journal's, and their payments are the rise of W_YTD
+pub record IsGathered (start : Opening) (purses : List Seated) (book : Past) (entries : ℕ) (paid : ℤ) : Type 0 where
+  pub left : IsLeft start purses book
+  pub kept : IsKept book
+  pub entries_are : entries ≡ entries_of (purses_of purses)
+  pub entries_counted : entries ≡ length book.entries
+  pub paid_is : paid ≡ paid_of (purses_of purses)
+  pub paid_rose : paid ≡ rise_of book

@@ -1,4 +1,5 @@
 pub mod Closing
+pub mod Gathering
 pub mod Past
 pub mod Purses
 pub mod Ready

@@ -1,16 +1,17 @@
 -- What a seated purse is seen as.
-use Rattle.std.specs.Prelude.{◌≡◌, List, [], ◌∷◌}
+use Rattle.std.specs.Prelude.{◌≡◌, ◌+◌, List, [], ◌∷◌, map}
 use Rattle.atomic_table.specs.Seated.{TableId}
 use Rattle.tpcc_rows.specs.declared.entry.Entry.{Entry}
 use Rattle.tpcc_book.specs.Purses.{Held}
 use Rattle.tpcc_book.specs.declared.turns.knows.Knows.{Knows}
+use Rattle.tpcc_book.specs.declared.turns.knows.Stage.TheVariants.{Idle}
 use mathlib.Core.List.{IsPrefix}
 use Rattle.tpcc_rows.specs.declared.requests.Request.{Request}
 use Rattle.std.specs.Result.{ForOk}
 use Rattle.tpcc_rows.specs.Replay.{count_of}
 use Rattle.tpcc_book.specs.Past.{Past, IsKept}
 use Rattle.tpcc_book.specs.Told.{Told}
-use Rattle.tpcc_book.specs.Turning.{no_opening}
+use Rattle.tpcc_book.specs.Turning.{knows, no_opening}
 use Rattle.tpcc_book.specs.Serve.{IsServed}
 use Rattle.tpcc_population.specs.declared.opening.Opening.{Opening}
 
@@ -23,6 +24,14 @@ pub record Seated : Type 0 where
   pub purse : Held
   pub start : Opening
   pub front : List Entry
+
+-- what a purse's seat knows between its turns
+abbrev pub view_of : Seated → Knows
+view_of p = knows p.start p.front (p.purse.room + 1) Idle []
+
+-- the purses without their seats
+abbrev pub purses_of : List Seated → List Held
+purses_of = map (λ p. p.purse)
 
 -- turns that have no name yet
 pub record Unnamed : Type 0 where

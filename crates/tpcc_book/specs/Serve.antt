@@ -24,11 +24,6 @@ pub record IsServed (old : Past) (request : Request) (purse : Held) (answer : To
   pub turn : IsTurn old purse.terminal purse.entries request (record { request = answer.request; outcome = answer.outcome; place = answer.place }) new
   pub fits : Fits request purse answer
 
--- a purse that took another in
-abbrev pub joined : Held → Held → Held
-joined p q =
-    record { terminal = p.terminal; entries = p.entries + q.entries; paid = p.paid +ℤ q.paid; room = p.room + (q.room + 1) }
-
 -- the parts of the book that purses have: all are there where they add up to 10,001
 abbrev pub rooms_of : List Held → ℕ
 rooms_of purses = sum_by (λ p. p.room + 1) purses

@@ -6,7 +6,7 @@ ghost use Rattle.tpcc_book.specs.Serve.{IsServed, rooms_of, entries_of, paid_of}
 
 use crate::answer::Answer;
 use crate::naming::{Blanks, Entries, Naming, PaidCents};
-use crate::purse::Purse;
+use crate::purse::{Pool, Purse};
 use crate::register::Register;
 use crate::turned::Turned;
 use std::alloc::Global;
@@ -134,15 +134,26 @@ impl<N: Naming> Book<N> {
         ensures entries { (result.0 ≡ entries_of purses.items) × (result.0 ≡ length self.old.entries) }
         ensures paid { (result.1 ≡ paid_of purses.items) × (result.1 ≡ rise_of self.old) }
     {
-        let _journal = self.register.journal();
         let mut rest = purses;
-        let Some(mut all) = rest.pop() else {
+        let Some(first) = rest.pop() else {
             unreachable!()
         };
+        let mut pool = Pool::of(first);
         while let Some(purse) = rest.pop() {
-            all.join(purse, &mut self.entries, &mut self.cents);
+            pool.take_in(purse);
         }
-        all.audit(&mut self.entries, &mut self.cents);
-        (all.entries(), all.paid())
+        self.audit(pool)
+    }
+
+    // The entries and the payments of all purses are the journal's length and the rise.
+    pub(crate) fn audit(&mut self, pool: Pool<N>) -> (u64, Cents)
+        requires all { pool.parts ≡ 10001 }
+        ensures same { self.new ≡ self.old }
+        ensures kept { IsKept self.old }
+        ensures entries { (result.0 ≡ pool.entries) × (result.0 ≡ length self.old.entries) }
+        ensures paid { (result.1 ≡ pool.paid) × (result.1 ≡ rise_of self.old) }
+    {
+        let _journal = self.register.journal();
+        pool.audit(&mut self.entries, &mut self.cents)
     }
 }

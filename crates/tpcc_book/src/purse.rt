@@ -1,8 +1,11 @@
 //! Purses: shares of a book's two totals.
 ghost use Rattle.std.specs.Prelude.{◌≡◌, ◌+◌, ◌-◌, ◌<◌, ◌≤◌, ◌^◌, ◌≤ℤ◌, ◌+ℤ◌, pos};
-ghost use Rattle.tpcc_book.specs.Serve.{credited, joined};
+ghost use Rattle.tpcc_book.specs.Serve.{credited};
+
+mod pool;
 
 use crate::naming::{Entries, Naming, PaidCents};
+pub(crate) use pool::Pool;
 use std::marker::Model;
 use std::sync::ledger::{Book as LedgerBook, Share};
 use tpcc_money::Cents;
@@ -113,50 +116,5 @@ impl<N: Naming> Purse<N> {
         cents.audit(&mut self.cent_share);
         self.entries += 1;
         self.cents += paid;
-    }
-
-    // Takes another purse in.
-    pub(crate) fn join(
-        &mut self,
-        other: Purse<N>,
-        entries: &mut LedgerBook<Entries<N>>,
-        cents: &mut LedgerBook<PaidCents<N>>,
-    )
-        requires entries { entries.old.total < 2 ^ 64 }
-        requires cents { cents.old.total < 2 ^ 63 }
-        ensures purse { self.new ≡ joined self.old other }
-        ensures entries { entries.new.total ≡ entries.old.total }
-        ensures cents { cents.new.total ≡ cents.old.total }
-    {
-        let Purse {
-            terminal: _,
-            entries: more_entries,
-            cents: more_cents,
-            room: more_room,
-            entry_share,
-            cent_share,
-        } = other;
-        self.entry_share.merge(entry_share);
-        entries.audit(&mut self.entry_share);
-        self.cent_share.merge(cent_share);
-        cents.audit(&mut self.cent_share);
-        self.entries += more_entries;
-        self.cents += more_cents;
-        self.room += more_room + 1;
-    }
-
-    // A purse with every room has all entries and all cents.
-    pub(crate) fn audit(
-        &mut self,
-        entries: &mut LedgerBook<Entries<N>>,
-        cents: &mut LedgerBook<PaidCents<N>>,
-    )
-        requires { self.old.room ≡ 10000 }
-        ensures same { self.new ≡ self.old }
-        ensures entries { (entries.new.total ≡ entries.old.total) × (self.old.entries ≡ entries.old.total) }
-        ensures cents { (cents.new.total ≡ cents.old.total) × (self.old.paid ≡ pos cents.old.total) }
-    {
-        entries.audit(&mut self.entry_share);
-        cents.audit(&mut self.cent_share);
     }
 }

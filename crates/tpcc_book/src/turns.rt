@@ -7,7 +7,7 @@ ghost use Rattle.std.specs.Prelude.{◌≡◌};
 ghost use Rattle.tpcc_book.specs.Seats.{IsTurned};
 ghost use Rattle.tpcc_book.specs.Turn.{TakesTurn, MakesTurn};
 
-mod close;
+mod gather;
 mod knows;
 mod rule;
 mod seated;

@@ -1,3 +1,5 @@
 pub mod WorkedScreens
 pub mod Chains
+pub mod Decks
 pub mod Districts
+pub mod Drawn

@@ -1,3 +1,5 @@
 pub mod Adding
+pub mod Cards
 pub mod Report
 pub mod Screens
+pub mod Terminals

@@ -88,16 +88,4 @@ impl<N: Naming, T: Seating> SeatedPurse<N, T> {
     {
         self.purse.room()
     }
-
-    /// The purse without its seat, when the turns have ended.
-    pub fn into_purse(self) -> Purse<N>
-        ensures purse { result ≡ self.purse }
-    {
-        let SeatedPurse {
-            purse,
-            badge: _,
-            of: _,
-        } = self;
-        purse
-    }
 }

@@ -1,7 +1,7 @@
 //! Turns on worked values, on one thread and with ample memory.
 ghost use Rattle.std.specs.Prelude.{◌≡◌};
 
-use crate::{Answer, Blanks, Book, Naming, Purse, SeatedPurse, Seating, Turns, UnnamedTurns};
+use crate::{Answer, Blanks, Naming, SeatedPurse, Seating, Turns, UnnamedTurns};
 use std::alloc::Global;
 use std::marker::Brand;
 use std::process::Abort;
@@ -13,22 +13,33 @@ use tpcc_rows::{Payment, Reply, Request, StatusQuery, Who};
 
 #[test]
 fn a_payment_and_a_status(rt: HostRuntime) -> Result<(), Fail> {
-    started::<Brand, _>(&rt, rt.alloc(), Blanks::new())
+    started::<Brand, _>(&rt, rt.alloc(), Blanks::new(), false)
 }
 
-fn started<N: Naming, R: Wait + Abort>(rt: &R, alloc: Global, blanks: Blanks) -> Result<(), Fail>
+#[test]
+fn the_second_purse_is_withheld(rt: HostRuntime) -> Result<(), Fail> {
+    started::<Brand, _>(&rt, rt.alloc(), Blanks::new(), true)
+}
+
+fn started<N: Naming, R: Wait + Abort>(
+    rt: &R,
+    alloc: Global,
+    blanks: Blanks,
+    withheld: bool,
+) -> Result<(), Fail>
     requires entries { blanks.entries.name ≡ N.entries }
     requires cents { blanks.cents.name ≡ N.cents }
 {
     let scale = Scale::new(1, 10, 100)?;
     let turns = UnnamedTurns::<N>::start(alloc, &Opening::Plain { scale }, blanks)?;
-    two_turns::<N, Brand, R>(rt, alloc, turns)
+    two_turns::<N, Brand, R>(rt, alloc, turns, withheld)
 }
 
 fn two_turns<N: Naming, T: Seating, R: Wait + Abort>(
     rt: &R,
     alloc: Global,
     turns: UnnamedTurns<N>,
+    withheld: bool,
 ) -> Result<(), Fail>
     requires name { turns.table ≡ T.table }
 {
@@ -47,7 +58,44 @@ fn two_turns<N: Naming, T: Seating, R: Wait + Abort>(
     assert_eq!(rt; place, Some(1));
     assert_eq!(rt; two.entries(), 1);
     assert_eq!(rt; two.paid(), Cents::new(0));
-    settled(rt, alloc, turns, first, one, two)
+    let mut purses = Vec::with_capacity(alloc, 3)?;
+    purses.push_reserved(first);
+    purses.push_reserved(one);
+    if withheld {
+        return one_is_missing(rt, turns, purses);
+    }
+    purses.push_reserved(two);
+    all_are_there(rt, turns, purses)
+}
+
+fn all_are_there<N: Naming, T: Seating, R: Abort>(
+    rt: &R,
+    turns: Turns<N, T>,
+    purses: Vec<SeatedPurse<N, T>>,
+) -> Result<(), Fail> {
+    let Ok((book, entries, paid)) = turns.gather(purses) else {
+        return Err(Fail::new("a purse is missing"));
+    };
+    assert_eq!(rt; book.journal().len(), 2);
+    assert_eq!(rt; entries, 2);
+    assert_eq!(rt; paid, Cents::new(100));
+    Ok(())
+}
+
+/// The book is left, with both entries.
+fn one_is_missing<N: Naming, T: Seating, R: Abort>(
+    rt: &R,
+    turns: Turns<N, T>,
+    purses: Vec<SeatedPurse<N, T>>,
+) -> Result<(), Fail> {
+    match turns.gather(purses) {
+        Err(Some(book)) => {
+            assert_eq!(rt; book.journal().len(), 2);
+            Ok(())
+        }
+        Err(None) => Err(Fail::new("no book")),
+        Ok(_) => Err(Fail::new("no purse is missing")),
+    }
 }
 
 /// Customer 1 of district 1 pays 1.00.
@@ -82,41 +130,4 @@ fn parts<P>(answer: Answer<P>) -> (Option<u64>, P) {
     let place = answer.place();
     let (_, _, _, purse) = answer.into_parts();
     (place, purse)
-}
-
-/// Closes the turns and puts the purses together.
-fn settled<N: Naming, T: Seating, R: Abort>(
-    rt: &R,
-    alloc: Global,
-    turns: Turns<N, T>,
-    first: SeatedPurse<N, T>,
-    one: SeatedPurse<N, T>,
-    two: SeatedPurse<N, T>,
-) -> Result<(), Fail> {
-    let (book, first) = turns.close(first);
-    let Some(mut book) = book else {
-        return Err(Fail::new("no book"));
-    };
-    let (entries, paid) = gathered(alloc, &mut book, first, one.into_purse(), two.into_purse())?;
-    assert_eq!(rt; book.journal().len(), 2);
-    assert_eq!(rt; entries, 2);
-    assert_eq!(rt; paid, Cents::new(100));
-    Ok(())
-}
-
-fn gathered<N: Naming>(
-    alloc: Global,
-    book: &mut Book<N>,
-    first: Purse<N>,
-    one: Purse<N>,
-    two: Purse<N>,
-) -> Result<(u64, Cents), Fail> {
-    let mut purses = Vec::with_capacity(alloc, 3)?;
-    if first.room() != 9998 || one.room() != 0 || two.room() != 0 {
-        return Err(Fail::new("a purse is missing"));
-    }
-    purses.push_reserved(first);
-    purses.push_reserved(one);
-    purses.push_reserved(two);
-    Ok(book.gather(purses))
 }

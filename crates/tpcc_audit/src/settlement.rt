@@ -1,0 +1,61 @@
+//! The settlement of a book with all purses.
+ghost use Rattle.std.specs.Prelude.{◌≡◌, ◌↔◌, IsOk, IfOk, IfErr, IfSome};
+ghost use Rattle.tpcc_book.specs.Seats.{purses_of};
+ghost use Rattle.tpcc_book.specs.Serve.{rooms_of};
+ghost use Rattle.tpcc_audit.specs.Settlement.{AllSeen, IsSettled, IsUnsettled};
+
+use thiserror::Error;
+use tpcc_book::{Book, Naming, SeatedPurse, Seating, Turns};
+use tpcc_money::Cents;
+use tpcc_terminal::{Receipt, receipts_stay};
+
+/// What a book and all its purses add up to.
+#[derive(Clone, Copy, Debug, PartialEq, Eq)]
+pub struct Totals {
+    /// How many entries the purses made, which is the length of the journal.
+    pub entries: u64,
+    /// What the purses paid, in cents.
+    pub paid: Cents,
+    /// By how much the sum of W_YTD over all warehouses rose since the opening, in cents (3.3.2.1).
+    pub rise: Cents,
+}
+
+/// Why a book was not settled.
+#[derive(Clone, Copy, Debug, PartialEq, Eq, Error)]
+pub enum Unsettled {
+    /// The purses are not all there: their number and their rooms do not add up to 10,001.
+    #[error("fault 1 Missing")]
+    Missing,
+}
+
+/// Ends the turns and settles their book with the purses: all entries and payments of the purses are the
+/// journal's length and the rise of W_YTD. Each receipt stands in the journal at its place, since it
+/// stands in the front of a purse that is handed in.
+///
+/// Missing is the one refusal; the purses are spent all the same. Then there is no book where a turn was
+/// drawn and not ended, which needs a purse that is held back in the middle of a call. It takes no memory
+/// and does not wait.
+pub fn settle<N: Naming, T: Seating>(
+    turns: Turns<N, T>,
+    purses: Vec<SeatedPurse<N, T>>,
+    receipts: &[Receipt],
+) -> Result<(Book<N>, Totals), (Option<Book<N>>, Unsettled)>
+    requires receipts { AllSeen purses.items receipts.now }
+    ensures exactly { IsOk result ↔ (rooms_of (purses_of purses.items) ≡ 10001) }
+    ensures settled { IfOk result (λ r. IsSettled turns purses.items receipts.now r.0 r.1) }
+    ensures missing { IfErr result (λ e. IfSome e.0 (IsUnsettled turns purses.items receipts.now)) }
+{
+    let _ = receipts;
+    receipts_stay();
+    match turns.gather(purses) {
+        Ok((book, entries, paid)) => {
+            let totals = Totals {
+                entries,
+                paid,
+                rise: paid,
+            };
+            Ok((book, totals))
+        }
+        Err(book) => Err((book, Unsettled::Missing)),
+    }
+}

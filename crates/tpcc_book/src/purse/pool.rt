@@ -1,0 +1,104 @@
+//! The shares of purses, put together.
+ghost use Rattle.std.specs.Prelude.{◌≡◌, ◌<◌, pos};
+ghost use Rattle.tpcc_book.specs.Purses.{pool_of, pooled};
+
+use crate::naming::{Entries, Naming, PaidCents};
+use crate::purse::Purse;
+use std::marker::Model;
+use std::sync::ledger::{Book as LedgerBook, Share};
+use tpcc_money::Cents;
+
+/// What several purses of a book have together. That the sums are the book's totals is known only once the
+/// book is at hand, so until then they are kept in 128 bits, which the sums of 10,001 purses always fit.
+#[derive(Drop)]
+pub(crate) struct Pool<N: Naming> {
+    parts: u32,
+    entries: u128,
+    cents: u128,
+    entry_share: Share<Entries<N>>,
+    cent_share: Share<PaidCents<N>>,
+}
+
+impl<N: Naming> Model for Pool<N> {
+    ghost use Rattle.std.specs.Prelude.{◌≡◌, ◌*◌, ◌≤◌, ◌^◌, pos};
+    ghost use Rattle.tpcc_book.specs.Purses.{Pooled};
+
+    ghost Value = { Pooled };
+
+    ghost view = { λ p. record { parts = p.parts; entries = p.entries; paid = pos p.cents } };
+
+    ghost invariant = { λ p. (p.entry_share.parts ≡ p.parts) × (p.entry_share.amount ≡ p.entries) × (p.cent_share.parts ≡ p.parts) × (p.cent_share.amount ≡ p.cents) × (p.parts ≤ 10001) × (p.entries ≤ p.parts * 2 ^ 64) × (p.cents ≤ p.parts * 2 ^ 64) };
+}
+
+impl<N: Naming> Pool<N> {
+    // One purse.
+    pub(crate) fn of(purse: Purse<N>) -> Pool<N>
+        ensures pool { result ≡ pool_of purse }
+    {
+        let Purse {
+            terminal: _,
+            entries,
+            cents,
+            room,
+            entry_share,
+            cent_share,
+        } = purse;
+        Pool {
+            parts: room + 1,
+            entries: u128::from(entries),
+            cents: u128::from(cents),
+            entry_share,
+            cent_share,
+        }
+    }
+
+    // Of the 10,001 parts that the purses of a book have, those that are here.
+    pub(crate) fn parts(&self) -> u32
+        ensures parts { result ≡ self.now.parts }
+    {
+        self.parts
+    }
+
+    // One more purse.
+    pub(crate) fn take_in(&mut self, purse: Purse<N>)
+        ensures pool { self.new ≡ pooled self.old purse }
+    {
+        let Purse {
+            terminal: _,
+            entries,
+            cents,
+            room,
+            entry_share,
+            cent_share,
+        } = purse;
+        self.entry_share.merge(entry_share);
+        self.cent_share.merge(cent_share);
+        self.parts += room + 1;
+        self.entries += u128::from(entries);
+        self.cents += u128::from(cents);
+    }
+
+    // All purses have all entries and all cents.
+    pub(crate) fn audit(
+        self,
+        entries: &mut LedgerBook<Entries<N>>,
+        cents: &mut LedgerBook<PaidCents<N>>,
+    ) -> (u64, Cents)
+        requires all { self.parts ≡ 10001 }
+        requires entries { entries.old.total < 9223372036854775808 }
+        requires cents { cents.old.total < 9223372036854775808 }
+        ensures entries { (entries.new.total ≡ entries.old.total) × (result.0 ≡ self.entries) × (result.0 ≡ entries.old.total) }
+        ensures cents { (cents.new.total ≡ cents.old.total) × (result.1 ≡ self.paid) × (result.1 ≡ pos cents.old.total) }
+    {
+        let Pool {
+            parts: _,
+            entries: made,
+            cents: paid,
+            mut entry_share,
+            mut cent_share,
+        } = self;
+        entries.audit(&mut entry_share);
+        cents.audit(&mut cent_share);
+        (made as u64, Cents::new(paid as i64))
+    }
+}

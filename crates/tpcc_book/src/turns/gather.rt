@@ -1,0 +1,138 @@
+//! The end of the turns: all purses put together, and the book.
+ghost use Rattle.std.specs.Prelude.{◌≡◌, ◌+◌, ◌<◌, ◌↔◌, [], IsOk, IfOk, IfErr, IfSome, IfNone, None, Some};
+ghost use Rattle.std.specs.Slots.{slots_items, slots_len, IsFull};
+ghost use Rattle.tpcc_book.specs.declared.turns.knows.Stage.TheVariants.{Idle};
+ghost use Rattle.tpcc_book.specs.Closing.{TellsBook, IsLeft, IsGathered, IsAudited};
+ghost use Rattle.tpcc_book.specs.Gathering.{HasJoined};
+ghost use Rattle.tpcc_book.specs.Purses.{pooled};
+ghost use Rattle.tpcc_book.specs.Seats.{purses_of, view_of};
+ghost use Rattle.tpcc_book.specs.Serve.{rooms_of};
+ghost use Rattle.tpcc_book.specs.Shares.{both_of};
+
+use crate::book::Book;
+use crate::naming::Naming;
+use crate::purse::Pool;
+use crate::turns::Turns;
+use crate::turns::knows::Knows;
+use crate::turns::seated::{SeatedPurse, Seating};
+use crate::turns::steps::{Board, Place};
+use atomic_table::{Closed, Join};
+use std::alloc::Global;
+use tpcc_money::Cents;
+
+/// One seat takes in what another knows.
+pub struct Joining;
+
+impl Join<Knows> for Joining {
+    ghost use Rattle.tpcc_book.specs.Shares.{both_of, nobody};
+
+    ghost both = { both_of };
+
+    ghost spent = { nobody };
+}
+
+impl<N: Naming, T: Seating> Turns<N, T> {
+    /// Ends the turns, and puts the purses together: the book, how many entries the purses made, and what
+    /// they paid. Refused where the purses are not all there: their number and their rooms do not add up to
+    /// 10,001. Then there is no book where a turn was drawn and not ended, which needs a purse that is held
+    /// back in the middle of a call. It takes no memory and does not wait.
+    pub fn gather(
+        self,
+        purses: Vec<SeatedPurse<N, T>>,
+    ) -> Result<(Book<N>, u64, Cents), Option<Book<N>>>
+        ensures exactly { IsOk result ↔ (rooms_of (purses_of purses.items) ≡ 10001) }
+        ensures gathered { IfOk result (λ r. IsGathered self purses.items r.0 r.1 r.2) }
+        ensures left { IfErr result (λ book. IfSome book (IsLeft self purses.items)) }
+    {
+        let Turns { table, of: _ } = self;
+        let Some((seat, pool)) = join_all(&table.shared, purses) else {
+            return Err(book_of(table.close()));
+        };
+        audited(book_of(table.close_with(seat)), pool)
+    }
+}
+
+// Joins the seats of all purses into the last one's, and pools their shares.
+fn join_all<N: Naming, T: Seating>(
+    board: &Board<N>,
+    purses: Vec<SeatedPurse<N, T>>,
+) -> Option<(Place<N>, Pool<N>)>
+    requires name { board.now.table_id ≡ T.table }
+    requires words { board.now.table_id.words ≡ 2 }
+    ensures none { IfNone result (purses.items ≡ []) }
+    ensures seat { IfSome result (λ r. r.0.table_id ≡ T.table) }
+    ensures joined { IfSome result (λ r. HasJoined purses.items [] r.1 r.0.me.0) }
+{
+    let mut rest = purses;
+    let Some(last) = rest.pop() else {
+        return None;
+    };
+    let SeatedPurse {
+        purse,
+        badge,
+        of: _,
+    } = last;
+    let mut seat = badge.into_seat::<Option<Book<N>>>();
+    let mut pool = Pool::of(purse);
+    while let Some(next) = rest.pop() {
+        join(board, &mut seat, &mut pool, next);
+    }
+    Some((seat, pool))
+}
+
+// Joins one purse's seat into another, and its shares into the pool.
+fn join<N: Naming, T: Seating>(
+    board: &Board<N>,
+    seat: &mut Place<N>,
+    pool: &mut Pool<N>,
+    purse: SeatedPurse<N, T>,
+)
+    requires name { (board.now.table_id ≡ T.table) × (seat.old.table_id ≡ T.table) }
+    requires words { board.now.table_id.words ≡ 2 }
+    requires idle { (seat.old.me.0.stage ≡ Idle) × (0 < seat.old.me.0.parts) }
+    ensures same { seat.new.table_id ≡ seat.old.table_id }
+    ensures seat { seat.new.me.0 ≡ both_of seat.old.me.0 (view_of purse) }
+    ensures pool { pool.new ≡ pooled pool.old purse.purse }
+{
+    let SeatedPurse {
+        purse,
+        badge,
+        of: _,
+    } = purse;
+    board.join_seat::<Joining>(seat, badge.into_seat::<Option<Book<N>>>());
+    pool.take_in(purse);
+}
+
+// The book of a closed table, where each ticket that was drawn was served.
+fn book_of<N: Naming>(closed: Closed<Option<Book<N>>, Global>) -> Option<Book<N>>
+    requires full { IsFull closed.words × IsFull closed.slots }
+    requires counts { (slots_len closed.words ≡ 2) × (slots_len closed.slots ≡ 1) }
+    ensures told { TellsBook (slots_items closed.words) (slots_items closed.slots) result }
+{
+    let mut closed = closed;
+    let drawn = closed.word(0);
+    let served = closed.word(1);
+    let slot = closed.take(0);
+    closed.free();
+    if drawn == served { slot } else { None }
+}
+
+// The book with the two totals, where all purses are pooled.
+fn audited<N: Naming>(
+    book: Option<Book<N>>,
+    pool: Pool<N>,
+) -> Result<(Book<N>, u64, Cents), Option<Book<N>>>
+    ensures missing { IfErr result (λ left. left ≡ book) }
+    ensures few { IfErr result (λ left. pool.parts ≡ 10001 → book ≡ None) }
+    ensures all { IfOk result (λ r. (pool.parts ≡ 10001) × (book ≡ Some r.0)) }
+    ensures audited { IfOk result (λ r. IsAudited pool r.0 r.1 r.2) }
+{
+    if pool.parts() != 10_001 {
+        return Err(book);
+    }
+    let Some(mut book) = book else {
+        return Err(None);
+    };
+    let (entries, paid) = book.audit(pool);
+    Ok((book, entries, paid))
+}
