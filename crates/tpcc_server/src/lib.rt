@@ -1,0 +1,22 @@
+//! Once-only jobs, clients that ask for them, and servers that run them in turn.
+//!
+//! A job is a request, a purse and a call that makes one turn of the book. A client posts it in its own
+//! mailbox by `ask`. A server takes it, waits for the purse's turn, makes the call once and answers; the
+//! answer that the client collects is of that very request and purse.
+#![tactic(auto)]
+
+mod asking;
+mod errand;
+mod gate;
+mod job;
+mod serving;
+#[cfg(test)]
+mod tests;
+mod turning;
+
+pub use asking::ask;
+pub use errand::Errand;
+pub use gate::{Gate, OpenGate};
+pub use job::{Job, JobAnswer, JobIdle, JobMailboxes, JobServing, JobWaiting, Letter};
+pub use serving::{serve_round, serve_until_closed};
+pub use turning::{Call, Turner, Turning};

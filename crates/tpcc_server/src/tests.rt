@@ -1,0 +1,188 @@
+//! Jobs on worked rows, with ample memory: the plain opening of one warehouse, ten customers a district
+//! and a hundred items, in which each customer starts with the balance -10.00.
+ghost use Rattle.std.specs.Prelude.{◌≡◌, All, IfOk};
+ghost use Rattle.tpcc_mailbox.specs.Tokens.{identity, idle_origin};
+
+mod closed;
+mod gates;
+mod limits;
+mod one_terminal;
+
+use crate::{JobIdle, JobMailboxes, Turning};
+use std::alloc::Global;
+use std::marker::Brand;
+use std::process::Abort;
+use std::sync::Wait;
+use std::test::Fail;
+use std::thread::Threads;
+use std::time::Clock;
+use tpcc_book::{
+    Answer, Blanks, Book, Naming, Purse, Register, SeatedPurse, Seating, Turned, Turns, UnnamedTurns,
+};
+use tpcc_money::{Cents, Moment};
+use tpcc_population::{Opening, Scale};
+use tpcc_rows::{Payment, Reply, Request, StatusQuery, Who};
+
+/// What a test does at the turns of a new book, with the book's first purse.
+trait Story {
+    fn tell<
+        N: Naming + Send + Sync,
+        T: Seating + Send + Sync,
+        R: Threads + Wait + Clock + Abort + Sync,
+    >(
+        self,
+        rt: &R,
+        alloc: Global,
+        turns: Turns<N, T>,
+        first: SeatedPurse<N, T>,
+    ) -> Result<(), Fail>;
+}
+
+fn told<S: Story + Drop, R: Threads + Wait + Clock + Abort + Sync>(
+    rt: &R,
+    alloc: Global,
+    story: S,
+) -> Result<(), Fail> {
+    at_a_book::<Brand, S, R>(rt, alloc, Blanks::new(), story)
+}
+
+fn at_a_book<
+    N: Naming + Send + Sync,
+    S: Story + Drop,
+    R: Threads + Wait + Clock + Abort + Sync,
+>(
+    rt: &R,
+    alloc: Global,
+    blanks: Blanks,
+    story: S,
+) -> Result<(), Fail>
+    requires entries { blanks.entries.name ≡ N.entries }
+    requires cents { blanks.cents.name ≡ N.cents }
+{
+    let scale = Scale::new(1, 10, 100)?;
+    let turns = UnnamedTurns::<N>::start(alloc, &Opening::Plain { scale }, blanks)?;
+    at_its_turns::<N, Brand, S, R>(rt, alloc, turns, story)
+}
+
+fn at_its_turns<
+    N: Naming + Send + Sync,
+    T: Seating + Send + Sync,
+    S: Story,
+    R: Threads + Wait + Clock + Abort + Sync,
+>(
+    rt: &R,
+    alloc: Global,
+    turns: UnnamedTurns<N>,
+    story: S,
+) -> Result<(), Fail>
+    requires name { turns.table ≡ T.table }
+{
+    let (turns, first) = turns.named::<T>();
+    story.tell(rt, alloc, turns, first)
+}
+
+/// A turn without a box.
+#[derive(Drop)]
+struct PlainTurn;
+
+impl Turning for PlainTurn {
+    fn turn_once(
+        self,
+        register: &mut Register,
+        request: Request,
+        terminal: u32,
+        number: u64,
+    ) -> Turned {
+        register.turn(request, terminal, number)
+    }
+}
+
+/// Customer 1 of district 1 pays 1.00.
+fn payment() -> Request {
+    Request::Payment(Payment {
+        warehouse: 1,
+        district: 1,
+        customer_warehouse: 1,
+        customer_district: 1,
+        who: Who::Number(1),
+        amount: Cents::new(100),
+        moment: Moment::new(60),
+    })
+}
+
+/// The status of customer 1 of district 1.
+fn status() -> Request {
+    Request::Status(StatusQuery {
+        warehouse: 1,
+        district: 1,
+        who: Who::Number(1),
+    })
+}
+
+/// The balance that a status shows.
+fn balance<P>(answer: &Answer<P>) -> Option<Cents> {
+    match answer.outcome() {
+        Ok(Reply::Status(status)) => Some(status.balance),
+        _ => None,
+    }
+}
+
+/// The place of an answer, and its purse.
+fn parts<P>(answer: Answer<P>) -> (Option<u64>, P) {
+    let place = answer.place();
+    let (_, _, _, purse) = answer.into_parts();
+    (place, purse)
+}
+
+type Pair<N, T, C> = (JobIdle<N, T, C>, JobIdle<N, T, C>);
+
+/// The tokens of both clients.
+fn idle_pair<N: Naming, T: Seating, C>(
+    idles: &mut Vec<JobIdle<N, T, C>>,
+    mailboxes: &JobMailboxes<N, T, C>,
+) -> Result<Pair<N, T, C>, Fail>
+    requires { All (λ x. idle_origin x ≡ identity mailboxes.now) idles.old.items }
+    ensures { IfOk result (λ r. (idle_origin r.0 ≡ identity mailboxes.now)
+        × (idle_origin r.1 ≡ identity mailboxes.now)) }
+{
+    let _ = mailboxes;
+    let Some(second) = idles.pop() else {
+        return Err(Fail::new("there are two"));
+    };
+    let Some(first) = idles.pop() else {
+        return Err(Fail::new("there are two"));
+    };
+    Ok((first, second))
+}
+
+/// Closes the turns and puts the three purses together: the entries and the payments of the whole book.
+fn settled<N: Naming, T: Seating>(
+    alloc: Global,
+    turns: Turns<N, T>,
+    first: SeatedPurse<N, T>,
+    one: SeatedPurse<N, T>,
+    two: SeatedPurse<N, T>,
+) -> Result<(u64, Cents), Fail> {
+    let (book, first) = turns.close(first);
+    let Some(mut book) = book else {
+        return Err(Fail::new("a turn was not ended"));
+    };
+    gathered(alloc, &mut book, first, one.into_purse(), two.into_purse())
+}
+
+fn gathered<N: Naming>(
+    alloc: Global,
+    book: &mut Book<N>,
+    first: Purse<N>,
+    one: Purse<N>,
+    two: Purse<N>,
+) -> Result<(u64, Cents), Fail> {
+    let mut purses = Vec::with_capacity(alloc, 3)?;
+    if first.room() != 9998 || one.room() != 0 || two.room() != 0 {
+        return Err(Fail::new("a purse is missing"));
+    }
+    purses.push_reserved(first);
+    purses.push_reserved(one);
+    purses.push_reserved(two);
+    Ok(book.gather(purses))
+}
