@@ -7,7 +7,8 @@ ghost use Rattle.tpcc_audit.specs.Settlement.{AllSeen, IsSettled, IsUnsettled};
 use thiserror::Error;
 use tpcc_book::{Book, Naming, SeatedPurse, Seating, Turns};
 use tpcc_money::Cents;
-use tpcc_terminal::{Receipt, receipts_stay};
+use tpcc_terminal::Receipt;
+use tpcc_terminal::laws::receipts_stay;
 
 /// What a book and all its purses add up to.
 #[derive(Clone, Copy, Debug, PartialEq, Eq)]

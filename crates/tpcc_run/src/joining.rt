@@ -1,9 +1,8 @@
 //! Joining the threads of terminals.
-ghost use Rattle.std.specs.Prelude.{◌≡◌, ◌<◌, IfSome, IsSome, vec_len};
+ghost use Rattle.std.specs.Prelude.{◌≡◌, ◌<◌, All, IfSome, IsSome, vec_len};
 ghost use Rattle.tpcc_mailbox.specs.Tokens.{identity, idle_origin};
 ghost use Rattle.tpcc_terminal.specs.Receipts.{AllStand};
 ghost use Rattle.tpcc_audit.specs.Settlement.{AllSeen};
-ghost use Rattle.tpcc_run.specs.Handles.{AllBackAt};
 
 use crate::gathered::Gathered;
 use crate::operator::Operator;
@@ -19,7 +18,7 @@ pub(crate) fn join_terminals<N: Naming, T: Seating, C, R: Threads>(
     mailboxes: &JobMailboxes<N, T, C>,
     all: &mut Gathered<N, T>,
 )
-    requires handles { AllBackAt (identity mailboxes.now) handles.items }
+    requires handles { All (λ h. idle_origin h.promise.0.value ≡ identity mailboxes.now) handles.items }
     requires seen { AllSeen all.old.purses.items all.old.receipts.items }
     ensures seen { AllSeen all.new.purses.items all.new.receipts.items }
 {
@@ -35,8 +34,8 @@ fn next_handle<N: Naming, T: Seating, C>(
     handles: &mut Vec<TerminalHandle<N, T, C>>,
     mailboxes: &JobMailboxes<N, T, C>,
 ) -> Option<TerminalHandle<N, T, C>>
-    requires handles { AllBackAt (identity mailboxes.now) handles.old.items }
-    ensures rest { AllBackAt (identity mailboxes.now) handles.new.items }
+    requires handles { All (λ h. idle_origin h.promise.0.value ≡ identity mailboxes.now) handles.old.items }
+    ensures rest { All (λ h. idle_origin h.promise.0.value ≡ identity mailboxes.now) handles.new.items }
     ensures one { IfSome result (λ h. idle_origin h.promise.0.value ≡ identity mailboxes.now) }
     ensures less { IsSome result → vec_len handles.new < vec_len handles.old }
 {

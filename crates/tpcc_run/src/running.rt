@@ -70,7 +70,7 @@ fn by_name<
         Ok(turns) => by_seats::<N, Brand, W, C, F, R>(
             rt,
             alloc,
-            opening.scale(),
+            scale_of(opening),
             plan,
             out,
             make,
@@ -124,5 +124,11 @@ fn by_seats<
     match report(&totals, out) {
         Ok(out) => Ok(out),
         Err(_) => Err(RunFault::Write),
+    }
+}
+
+fn scale_of(opening: &Opening) -> Scale {
+    match *opening {
+        Opening::Plain { scale } | Opening::Seeded { scale, .. } => scale,
     }
 }

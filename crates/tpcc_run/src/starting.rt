@@ -1,8 +1,8 @@
 //! Starting the threads of terminals.
-ghost use Rattle.std.specs.Prelude.{◌≡◌, ◌≤◌, ◌<◌, ◌+◌, IfSome};
+ghost use Rattle.std.specs.Prelude.{◌≡◌, ◌≤◌, All, IfSome};
 ghost use Rattle.tpcc_mailbox.specs.Tokens.{identity, idle_origin};
 ghost use Rattle.tpcc_terminal.specs.Receipts.{AllStand};
-ghost use Rattle.tpcc_run.specs.Handles.{AllIdleAt, AllBackAt};
+ghost use Rattle.tpcc_run.specs.Handles.{AllIdleAt};
 
 use crate::operator::Operator;
 use crate::plan::Plan;
@@ -111,7 +111,7 @@ pub(crate) fn start_terminals<
     requires room { plan.terminals ≤ first.old.purse.room }
     requires terminals { plan.terminals ≤ 999 }
     requires make { F.IsAlwaysCallable make.now }
-    ensures handles { AllBackAt (identity mailboxes.now) result.items }
+    ensures handles { All (λ h. idle_origin h.promise.0.value ≡ identity mailboxes.now) result.items }
 {
     let mut idles = idles;
     let mut handles = Vec::new(alloc);
@@ -158,9 +158,9 @@ fn keep_handle<N: Naming, T: Seating, C>(
     handle: TerminalHandle<N, T, C>,
     mailboxes: &JobMailboxes<N, T, C>,
 )
-    requires handles { AllBackAt (identity mailboxes.now) handles.old.items }
+    requires handles { All (λ h. idle_origin h.promise.0.value ≡ identity mailboxes.now) handles.old.items }
     requires handle { idle_origin handle.promise.0.value ≡ identity mailboxes.now }
-    ensures handles { AllBackAt (identity mailboxes.now) handles.new.items }
+    ensures handles { All (λ h. idle_origin h.promise.0.value ≡ identity mailboxes.now) handles.new.items }
 {
     let _ = mailboxes;
     let _ = handles.push(handle);

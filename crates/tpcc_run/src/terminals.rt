@@ -65,13 +65,15 @@ pub(crate) fn ask_all<N: Naming, T: Seating, C: Turning, F: Fn(Global) -> Result
             delivered: _,
             fault,
         } = ask_once(rt, mailboxes, operator, request, call);
-        let (Some(home), None) = (back, fault) else {
-            return Back {
-                operator: back,
-                fault,
-            };
-        };
-        operator = home;
+        match back {
+            Some(home) if fault.is_none() => operator = home,
+            other => {
+                return Back {
+                    operator: other,
+                    fault,
+                };
+            }
+        }
     }
     Back {
         operator: Some(operator),
