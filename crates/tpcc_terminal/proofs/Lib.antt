@@ -3,3 +3,4 @@ pub mod Chains
 pub mod Decks
 pub mod Districts
 pub mod Drawn
+pub mod Standing

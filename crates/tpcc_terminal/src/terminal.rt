@@ -1,14 +1,16 @@
 //! A terminal.
-ghost use Rattle.std.specs.Prelude.{◌≡◌, ◌≤◌, [], IfOk, OnOk, OnErr, vec_capacity};
+ghost use Rattle.std.specs.Prelude.{◌≡◌, ◌≤◌, ◌++◌, [], IfOk, OnOk, OnErr, vec_capacity};
+ghost use Rattle.tpcc_terminal.specs.Receipts.{receipts_of};
 ghost use Rattle.tpcc_terminal.specs.Terminals.{IsStarted, IsAsked};
 
 use crate::deal::deal;
 use crate::drafts::Draft;
 use crate::draws::draw;
 use crate::home::Home;
-use crate::receipts::Receipt;
+use crate::receipts::{Numbered, Receipt, keep};
 use std::alloc::Global;
 use std::marker::Model;
+use tpcc_book::Answer;
 use tpcc_draws::{Card, Stream};
 use tpcc_money::{Moment, NoMemory};
 use tpcc_population::Scale;
@@ -74,6 +76,22 @@ impl Terminal {
         let card = deal(self.alloc, &mut self.cards, &mut self.stream)?;
         self.draft = draw(&mut self.stream, &home, card, room);
         Ok(request)
+    }
+
+    /// Keeps the receipt of an accepted answer, by a purse with a seat or without one; of a refused
+    /// one there is nothing to keep. Refused only for want of memory, and then nothing has changed.
+    pub fn note<P: Numbered>(&mut self, answer: &Answer<P>) -> Result<(), NoMemory>
+        ensures noted { OnOk result (self.new ≡ record self.old { receipts = self.old.receipts ++ receipts_of P.held answer.now }) }
+        ensures refused { OnErr result (self.new ≡ self.old) }
+    {
+        keep(&mut self.receipts, answer)
+    }
+
+    /// The receipts of all accepted answers that were noted, in their order.
+    pub fn receipts(self) -> Vec<Receipt>
+        ensures receipts { result.items ≡ self.receipts }
+    {
+        self.receipts
     }
 }
 
