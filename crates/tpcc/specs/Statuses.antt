@@ -4,6 +4,8 @@ use Rattle.tpcc_script.specs.declared.fault.ScriptFault.{ScriptFault}
 use Rattle.tpcc_script.specs.declared.fault.ScriptFault.TheVariants as script
 use Rattle.tpcc_audit.specs.declared.fault.DumpFault.{DumpFault}
 use Rattle.tpcc_audit.specs.declared.fault.DumpFault.TheVariants as dump
+use Rattle.tpcc_run.specs.declared.fault.RunFault.{RunFault}
+use Rattle.tpcc_run.specs.declared.fault.RunFault.TheVariants as run
 use Rattle.tpcc.specs.declared.fault.ProgramFault.{ProgramFault}
 use Rattle.tpcc.specs.declared.fault.ProgramFault.TheVariants as program
 
@@ -21,6 +23,12 @@ abbrev pub status_of_dump : DumpFault → ℕ
 status_of_dump dump.Write = 3
 status_of_dump dump.NoMemory = 4
 
+-- 5 for a purse that is missing
+abbrev pub status_of_run : RunFault → ℕ
+status_of_run run.Missing = 5
+status_of_run run.NoMemory = 4
+status_of_run run.Write = 3
+
 -- 1 for arguments and scale
 abbrev pub status_of : ProgramFault → ℕ
 status_of program.Arguments = 1
@@ -28,3 +36,4 @@ status_of program.NoMemory = 4
 status_of (program.Scale fault) = 1
 status_of (program.Script fault) = status_of_script fault
 status_of (program.Dump fault) = status_of_dump fault
+status_of (program.Run fault) = status_of_run fault

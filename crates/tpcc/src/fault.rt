@@ -5,6 +5,7 @@ ghost use Rattle.tpcc.specs.Statuses.{status_of};
 use thiserror::Error;
 use tpcc_audit::DumpFault;
 use tpcc_population::ScaleFault;
+use tpcc_run::RunFault;
 use tpcc_script::ScriptFault;
 
 /// Why the program ends early. The text is its line on standard error.
@@ -25,11 +26,14 @@ pub enum ProgramFault {
     /// The table was not written whole.
     #[error("{0}")]
     Dump(DumpFault),
+    /// The run ended without its report.
+    #[error("{0}")]
+    Run(RunFault),
 }
 
 impl ProgramFault {
     /// The exit status: 1 for arguments and scale, 2 for a script's lines, 3 for reading and
-    /// writing, 4 for memory.
+    /// writing, 4 for memory, 5 for a purse that is missing.
     pub fn status(&self) -> u8
         ensures status { result ≡ status_of self.now }
     {
@@ -47,6 +51,11 @@ impl ProgramFault {
             ProgramFault::Dump(fault) => match fault {
                 DumpFault::Write => 3,
                 DumpFault::NoMemory => 4,
+            },
+            ProgramFault::Run(fault) => match fault {
+                RunFault::Missing => 5,
+                RunFault::NoMemory => 4,
+                RunFault::Write => 3,
             },
         }
     }

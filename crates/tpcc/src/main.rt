@@ -1,6 +1,11 @@
 //! `tpcc`: the order-entry system at the command line.
 #![tactic(auto)]
 
+ghost use Rattle.std.specs.Prelude.{IfOk};
+ghost use Rattle.tpcc_book.specs.Turn.{IsTurn};
+ghost use Rattle.tpcc_run.specs.Outcome.{IsPlan};
+ghost use Rattle.tpcc.specs.Tasks.{HasPlan};
+
 mod fault;
 mod options;
 #[cfg(test)]
@@ -8,14 +13,19 @@ mod tests;
 
 use fault::ProgramFault;
 use options::{Asked, Task, read_words};
-use std::alloc::Global;
+use std::alloc::{AllocError, Global};
 use std::env::Env;
 use std::io;
 use std::process::ExitCode;
+use std::sync::Wait;
+use std::thread::Threads;
 use tpcc_audit::{DumpFault, dump};
+use tpcc_book::{Register, Turned};
 use tpcc_population::{Opening, fill};
-use tpcc_rows::Table;
+use tpcc_rows::{Request, Table};
+use tpcc_run::Plan;
 use tpcc_script::run_script;
+use tpcc_server::{Call, Turner, Turning};
 
 /// Serves a script's requests, from standard input to standard output.
 fn script<R: Print + Input>(rt: &R, alloc: Global, opening: &Opening) -> Result<(), ProgramFault> {
@@ -43,7 +53,9 @@ fn dump_table<R: Print>(
     }
 }
 
-fn asked<R: Env + AllocGlobal>(rt: &R, alloc: Global) -> Result<Asked, ProgramFault> {
+fn asked<R: Env + AllocGlobal>(rt: &R, alloc: Global) -> Result<Asked, ProgramFault>
+    ensures plan { IfOk result (λ asked. HasPlan asked.task) }
+{
     let Ok(words) = std::env::args(rt) else {
         return Err(ProgramFault::NoMemory);
     };
@@ -54,17 +66,62 @@ fn asked<R: Env + AllocGlobal>(rt: &R, alloc: Global) -> Result<Asked, ProgramFa
     read_words(alloc, words.as_slice())
 }
 
-fn run<R: Print + Input + Env + AllocGlobal>(rt: &R, alloc: Global) -> Result<(), ProgramFault> {
+/// Runs terminals and servers, and writes the report to standard output.
+fn run_plan<
+    C: Turning + Send,
+    F: Fn(Global) -> Result<C, AllocError> + Sync,
+    R: Print + Threads + Wait + Sync,
+>(
+    rt: &R,
+    alloc: Global,
+    opening: &Opening,
+    plan: Plan,
+    make: F,
+) -> Result<(), ProgramFault>
+    requires plan { IsPlan plan }
+    requires make { F.IsAlwaysCallable make }
+{
+    match tpcc_run::run(rt, alloc, opening, plan, io::writer(rt), make) {
+        Ok(_) => Ok(()),
+        Err(fault) => Err(ProgramFault::Run(fault)),
+    }
+}
+
+fn run<
+    C: Turning + Send,
+    F: Fn(Global) -> Result<C, AllocError> + Sync,
+    R: Print + Input + Env + AllocGlobal + Threads + Wait + Sync,
+>(
+    rt: &R,
+    alloc: Global,
+    make: F,
+) -> Result<(), ProgramFault>
+    requires make { F.IsAlwaysCallable make }
+{
     let asked = asked(rt, alloc)?;
     let opening = asked.opening()?;
     match asked.task {
         Task::Script => script(rt, alloc, &opening),
         Task::Dump(table) => dump_table(rt, alloc, &opening, table),
+        Task::Run(plan) => run_plan(rt, alloc, &opening, plan, make),
     }
 }
 
 fn main(rt: HostRuntime) -> ExitCode {
-    match run(&rt, rt.alloc()) {
+    let ended = run(
+        &rt,
+        rt.alloc(),
+        |alloc: Global| -> Result<Turner, AllocError> {
+            let call: Call = Box::new(
+                alloc,
+                |register: &mut Register, request: Request, terminal: u32, number: u64| -> Turned
+                    ensures { IsTurn register.old terminal number request result register.new }
+                { register.turn(request, terminal, number) },
+            )?;
+            Ok(Turner::new(call))
+        },
+    );
+    match ended {
         Ok(()) => ExitCode::SUCCESS,
         Err(fault) => {
             let _ = eprintln!(rt; "{fault}");

@@ -1,4 +1,7 @@
 //! What the words of the command line ask.
+ghost use Rattle.std.specs.Prelude.{◌≡◌, ◌≤◌, IfOk};
+ghost use Rattle.tpcc.specs.Tasks.{HasPlan};
+ghost use Rattle.tpcc_run.specs.Outcome.{IsPlan};
 
 use crate::fault::ProgramFault;
 use clap::error::ErrorKind;
@@ -9,6 +12,7 @@ use tpcc_audit::table_named;
 use tpcc_money::Moment;
 use tpcc_population::{Opening, Scale};
 use tpcc_rows::Table;
+use tpcc_run::Plan;
 
 const FIRST_SECOND_OF_2100: u32 = 4_102_444_800;
 
@@ -19,6 +23,8 @@ pub enum Task {
     Script,
     /// Write a table of the opening.
     Dump(Table),
+    /// Run terminals and servers.
+    Run(Plan),
 }
 
 /// What the words ask.
@@ -80,6 +86,11 @@ fn with_opening<'a>(alloc: Global, name: &'static str) -> Result<Command<'a>, Al
 
 fn program<'a>(alloc: Global) -> Result<Command<'a>, AllocError> {
     let script = with_opening(alloc, "script")?;
+    let run = with_opening(alloc, "run")?
+        .arg(number(alloc, "terminals"))?
+        .arg(number(alloc, "servers"))?
+        .arg(number(alloc, "cards"))?
+        .arg(number(alloc, "retire"))?;
     let table = Arg::new(alloc, "table")
         .required(true)
         .action(ArgAction::Set);
@@ -87,12 +98,59 @@ fn program<'a>(alloc: Global) -> Result<Command<'a>, AllocError> {
     Command::new(alloc, "tpcc")
         .subcommand_required(true)
         .subcommand(script)?
-        .subcommand(dump)
+        .subcommand(dump)?
+        .subcommand(run)
 }
 
-fn read_task(name: &str, matches: &ArgMatches<'_>) -> Result<Task, ProgramFault> {
+// A number of an option's range.
+fn in_range(value: Option<u32>, default: u32, low: u32, high: u32) -> Result<u32, ProgramFault>
+    ensures least { IfOk result (λ n. low ≤ n) }
+    ensures most { IfOk result (λ n. n ≤ high) }
+{
+    let value = value.unwrap_or(default);
+    if value < low || high < value {
+        return Err(ProgramFault::Arguments);
+    }
+    Ok(value)
+}
+
+fn read_plan(matches: &ArgMatches<'_>) -> Result<Plan, ProgramFault>
+    ensures plan { IfOk result IsPlan }
+{
+    let terminals = in_range(matches.get_one::<u32>("terminals"), 2, 1, 999)?;
+    let servers = in_range(matches.get_one::<u32>("servers"), 1, 1, 16)?;
+    let cards = in_range(matches.get_one::<u32>("cards"), 23, 0, 100_000)?;
+    let retire = in_range(matches.get_one::<u32>("retire"), 0, 0, 100_000)?;
+    Ok(Plan {
+        terminals,
+        servers,
+        cards,
+        retire,
+        seed: read_seed(matches),
+        moment: read_moment(matches)?,
+    })
+}
+
+fn read_seed(matches: &ArgMatches<'_>) -> u64 {
+    matches.get_one::<u64>("seed").unwrap_or(1)
+}
+
+fn read_moment(matches: &ArgMatches<'_>) -> Result<Moment, ProgramFault> {
+    let seconds = matches.get_one::<u32>("moment").unwrap_or(0);
+    if seconds >= FIRST_SECOND_OF_2100 {
+        return Err(ProgramFault::Arguments);
+    }
+    Ok(Moment::new(seconds))
+}
+
+fn read_task(name: &str, matches: &ArgMatches<'_>) -> Result<Task, ProgramFault>
+    ensures plan { IfOk result HasPlan }
+{
     if name == "script" {
         return Ok(Task::Script);
+    }
+    if name == "run" {
+        return Ok(Task::Run(read_plan(matches)?));
     }
     let Some(table) = matches.get_str("table") else {
         return Err(ProgramFault::Arguments);
@@ -103,18 +161,17 @@ fn read_task(name: &str, matches: &ArgMatches<'_>) -> Result<Task, ProgramFault>
     }
 }
 
-fn read_options(task: Task, matches: &ArgMatches<'_>) -> Result<Asked, ProgramFault> {
-    let moment = matches.get_one::<u32>("moment").unwrap_or(0);
-    if moment >= FIRST_SECOND_OF_2100 {
-        return Err(ProgramFault::Arguments);
-    }
+fn read_options(task: Task, matches: &ArgMatches<'_>) -> Result<Asked, ProgramFault>
+    ensures task { IfOk result (λ asked. asked.task ≡ task) }
+{
+    let moment = read_moment(matches)?;
     Ok(Asked {
         task,
         warehouses: matches.get_one::<u32>("warehouses").unwrap_or(1),
         customers: matches.get_one::<u32>("customers").unwrap_or(10),
         items: matches.get_one::<u32>("items").unwrap_or(100),
-        seed: matches.get_one::<u64>("seed").unwrap_or(1),
-        moment: Moment::new(moment),
+        seed: read_seed(matches),
+        moment,
         seeded: matches.get_flag("seeded"),
     })
 }
@@ -122,8 +179,11 @@ fn read_options(task: Task, matches: &ArgMatches<'_>) -> Result<Asked, ProgramFa
 /// Reads the words, of which the first is the program's name.
 ///
 /// Refused as Arguments where `clap` refuses them, a wish for help or version among it, where no
-/// table has that name, and where the moment is past the year 2099; as NoMemory for want of memory.
-pub fn read_words<'a, S: AsStr>(alloc: Global, words: &'a [S]) -> Result<Asked, ProgramFault> {
+/// table has that name, where the moment is past the year 2099, and where an option of `run` is out of its
+/// range; as NoMemory for want of memory.
+pub fn read_words<'a, S: AsStr>(alloc: Global, words: &'a [S]) -> Result<Asked, ProgramFault>
+    ensures plan { IfOk result (λ asked. HasPlan asked.task) }
+{
     let Ok(command) = program(alloc) else {
         return Err(ProgramFault::NoMemory);
     };

@@ -3,7 +3,7 @@
 use tpcc_money::Moment;
 
 /// What a run is made of.
-#[derive(Clone, Copy, Debug)]
+#[derive(Clone, Copy, Debug, PartialEq, Eq)]
 pub struct Plan {
     /// How many terminals ask requests, 1 to 999.
     pub terminals: u32,
