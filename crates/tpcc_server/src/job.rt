@@ -57,11 +57,7 @@ impl<N: Naming, T: Seating> Job<N, T, Turner> {
         ensures request { result.request ≡ request }
         ensures purse { result.purse ≡ purse }
     {
-        Job {
-            request,
-            purse,
-            call: Turner { call },
-        }
+        Job::of(request, purse, Turner::new(call))
     }
 }
 

@@ -17,7 +17,8 @@ use std::test::Fail;
 use std::thread::Threads;
 use std::time::Clock;
 use tpcc_book::{
-    Answer, Blanks, Book, Naming, Purse, Register, SeatedPurse, Seating, Turned, Turns, UnnamedTurns,
+    Answer, Blanks, Book, Naming, Purse, Register, SeatedPurse, Seating, Turned, Turns,
+    UnnamedTurns,
 };
 use tpcc_money::{Cents, Moment};
 use tpcc_population::{Opening, Scale};
@@ -46,11 +47,7 @@ fn told<S: Story + Drop, R: Threads + Wait + Clock + Abort + Sync>(
     at_a_book::<Brand, S, R>(rt, alloc, Blanks::new(), story)
 }
 
-fn at_a_book<
-    N: Naming + Send + Sync,
-    S: Story + Drop,
-    R: Threads + Wait + Clock + Abort + Sync,
->(
+fn at_a_book<N: Naming + Send + Sync, S: Story + Drop, R: Threads + Wait + Clock + Abort + Sync>(
     rt: &R,
     alloc: Global,
     blanks: Blanks,
@@ -69,12 +66,7 @@ fn at_its_turns<
     T: Seating + Send + Sync,
     S: Story,
     R: Threads + Wait + Clock + Abort + Sync,
->(
-    rt: &R,
-    alloc: Global,
-    turns: UnnamedTurns<N>,
-    story: S,
-) -> Result<(), Fail>
+>(rt: &R, alloc: Global, turns: UnnamedTurns<N>, story: S) -> Result<(), Fail>
     requires name { turns.table ≡ T.table }
 {
     let (turns, first) = turns.named::<T>();

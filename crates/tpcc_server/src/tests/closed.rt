@@ -24,7 +24,13 @@ fn no_server_at_closed_mailboxes(rt: HostRuntime) -> Result<(), Fail> {
             ensures { IsTurn register.old terminal number request result register.new }
         { register.turn(request, terminal, number) },
     )?;
-    told(&rt, rt.alloc(), ClosedFirst { turner: Turner::new(call) })
+    told(
+        &rt,
+        rt.alloc(),
+        ClosedFirst {
+            turner: Turner::new(call),
+        },
+    )
 }
 
 #[derive(Drop)]

@@ -67,11 +67,21 @@ impl Story for HeldUp {
         let one = first.split(&turns, 1);
         let two = first.split(&turns, 2);
         let (purses, served) = two_and_two(rt, alloc, &turns, one, two)?;
-        assert_eq!(rt; served, Served { limit_met: false, by_one: 1, by_two: 1 });
+        assert_eq!(rt;
+            served,
+            Served {
+                limit_met: false,
+                by_one: 1,
+                by_two: 1
+            }
+        );
         let (Some(one), Some(two)) = purses else {
             return Err(Fail::new("a job was not answered"));
         };
-        assert_eq!(rt; (one.paid(), two.paid()), (Cents::new(100), Cents::new(100)));
+        assert_eq!(rt;
+            (one.paid(), two.paid()),
+            (Cents::new(100), Cents::new(100))
+        );
         let totals = settled(alloc, turns, first, one, two)?;
         assert_eq!(rt; totals, (2, Cents::new(200)));
         Ok(())
@@ -99,11 +109,7 @@ struct Clients<N: Naming, T: Seating> {
 }
 
 /// Makes two mailboxes, two clients and two servers, and runs the four of them.
-fn two_and_two<
-    N: Naming + Send + Sync,
-    T: Seating + Send + Sync,
-    R: Threads + Wait + Clock + Sync,
->(
+fn two_and_two<N: Naming + Send + Sync, T: Seating + Send + Sync, R: Threads + Wait + Clock + Sync>(
     rt: &R,
     alloc: Global,
     turns: &Turns<N, T>,
@@ -124,11 +130,7 @@ fn two_and_two<
     Ok(all_four(rt, &mailboxes, turns, clients, serving, other))
 }
 
-fn all_four<
-    N: Naming + Send + Sync,
-    T: Seating + Send + Sync,
-    R: Threads + Wait + Clock + Sync,
->(
+fn all_four<N: Naming + Send + Sync, T: Seating + Send + Sync, R: Threads + Wait + Clock + Sync>(
     rt: &R,
     mailboxes: &JobMailboxes<N, T, PlainTurn>,
     turns: &Turns<N, T>,
@@ -207,11 +209,7 @@ fn pay<N: Naming, T: Seating, R: Wait>(
     }
 }
 
-fn both_serve<
-    N: Naming + Send + Sync,
-    T: Seating + Send + Sync,
-    R: Threads + Wait + Clock + Sync,
->(
+fn both_serve<N: Naming + Send + Sync, T: Seating + Send + Sync, R: Threads + Wait + Clock + Sync>(
     rt: &R,
     mailboxes: &JobMailboxes<N, T, PlainTurn>,
     turns: &Turns<N, T>,

@@ -40,11 +40,7 @@ fn with_two_calls<
     C: Turning + Send,
     F: Fn(Global) -> Result<C, AllocError>,
     R: Threads + Wait + Clock + Abort + Sync,
->(
-    rt: &R,
-    alloc: Global,
-    make: F,
-) -> Result<(), Fail>
+>(rt: &R, alloc: Global, make: F) -> Result<(), Fail>
     requires make { F.IsAlwaysCallable make }
 {
     let first = make(alloc)?;

@@ -4,4 +4,6 @@ use Rattle.tpcc_server.proofs.turning.TurnerTurning.turn_once.Goals as goal
 
 pub returns : goal.returns
 returns g c =
-    c.args.self.turns _ c.args.request c.args.terminal c.args.number c.call_mut.result _ (omega arith) (omega arith) (held-called g.dyn-1.0 _ _ _ _ c.call_mut.new.self c.deref_box_mut-1.ensures.value.1 c.call_mut.ensures.0)
+    record {
+      turn = c.args.self.turns _ c.args.request c.args.terminal c.args.number c.call_mut.result _ (omega arith) (omega arith) (held-called g.dyn-1.0 _ _ _ _ c.call_mut.new.self c.deref_box_mut-1.ensures.value.1 c.call_mut.ensures.0);
+    }
