@@ -5,6 +5,7 @@ use std::test::Fail;
 use tpcc_money::Moment;
 use tpcc_population::ScaleFault;
 use tpcc_rows::Table;
+use tpcc_run::{Plan, RunFault};
 use tpcc_script::ScriptFault;
 
 static PLAIN: [&str; 2] = ["tpcc", "script"];
@@ -30,6 +31,33 @@ static DRAWN: [&str; 8] = [
     "--moment",
     "4102444799",
 ];
+
+static RUN: [&str; 2] = ["tpcc", "run"];
+
+static LONG_RUN: [&str; 12] = [
+    "tpcc",
+    "run",
+    "--terminals",
+    "999",
+    "--servers",
+    "16",
+    "--cards",
+    "100000",
+    "--retire",
+    "100000",
+    "--seed",
+    "7",
+];
+
+static NO_TERMINAL: [&str; 4] = ["tpcc", "run", "--terminals", "0"];
+
+static MANY_TERMINALS: [&str; 4] = ["tpcc", "run", "--terminals", "1000"];
+
+static MANY_SERVERS: [&str; 4] = ["tpcc", "run", "--servers", "17"];
+
+static MANY_CARDS: [&str; 4] = ["tpcc", "run", "--cards", "100001"];
+
+static SCRIPT_OF_CARDS: [&str; 4] = ["tpcc", "script", "--cards", "1"];
 
 static NOTHING: [&str; 1] = ["tpcc"];
 
@@ -75,6 +103,28 @@ fn options_and_their_defaults(rt: HostRuntime) -> Result<(), Fail> {
     Ok(())
 }
 
+#[test]
+fn plans_and_their_defaults(rt: HostRuntime) -> Result<(), Fail> {
+    let mut plan = Plan {
+        terminals: 2,
+        servers: 1,
+        cards: 23,
+        retire: 0,
+        seed: 1,
+        moment: Moment::new(0),
+    };
+    let asked = read_words(rt.alloc(), RUN.as_slice())?;
+    assert_eq!(rt; asked.task, Task::Run(plan));
+    plan.terminals = 999;
+    plan.servers = 16;
+    plan.cards = 100_000;
+    plan.retire = 100_000;
+    plan.seed = 7;
+    let asked = read_words(rt.alloc(), LONG_RUN.as_slice())?;
+    assert_eq!(rt; asked.task, Task::Run(plan));
+    Ok(())
+}
+
 fn is_refused(alloc: Global, words: &'static [&'static str]) -> bool {
     match read_words(alloc, words) {
         Ok(_) => false,
@@ -93,6 +143,11 @@ fn words_that_are_refused(rt: HostRuntime) {
     assert!(rt; is_refused(alloc, LATE.as_slice()));
     assert!(rt; is_refused(alloc, MINUS.as_slice()));
     assert!(rt; is_refused(alloc, TWICE.as_slice()));
+    assert!(rt; is_refused(alloc, NO_TERMINAL.as_slice()));
+    assert!(rt; is_refused(alloc, MANY_TERMINALS.as_slice()));
+    assert!(rt; is_refused(alloc, MANY_SERVERS.as_slice()));
+    assert!(rt; is_refused(alloc, MANY_CARDS.as_slice()));
+    assert!(rt; is_refused(alloc, SCRIPT_OF_CARDS.as_slice()));
 }
 
 #[test]
@@ -134,6 +189,9 @@ fn faults_and_their_statuses(rt: HostRuntime) -> Result<(), Fail> {
             "fault 2 NoMemory",
             4,
         ),
+        (ProgramFault::Run(RunFault::Missing), "fault 1 Missing", 5),
+        (ProgramFault::Run(RunFault::NoMemory), "fault 3 NoMemory", 4),
+        (ProgramFault::Run(RunFault::Write), "fault 4 Write", 3),
     ] {
         let line = fault.to_string(alloc)?;
         assert_eq!(rt; line.as_str(), text);

@@ -1,13 +1,16 @@
 -- Receipts that stand in the fronts of purses.
 use Rattle.std.proofs.Common.{◌≡◌, ℕ, zero, suc, ◌<◌, List, [], ◌∷◌, length, slice_index_or, refl, subst, Some, arith, All}
-use Rattle.std.specs.Prelude.{slice_get}
+use Rattle.std.specs.Prelude.{slice_get, Option, None, IfSome}
 use Rattle.std.proofs.lemmas.List.Elements.{All-head, All-tail}
 use mathlib.Core.List.{IsPrefix}
 use Rattle.tpcc_rows.specs.declared.entry.Entry.{Entry}
+use Rattle.tpcc_population.specs.declared.opening.Opening.{Opening}
+use Rattle.tpcc_book.specs.Past.{Past}
+use Rattle.tpcc_book.specs.Closing.{IsLeft}
 use Rattle.tpcc_book.specs.Seats.{Seated}
 use Rattle.tpcc_terminal.specs.declared.receipts.Receipt.{Receipt}
 use Rattle.tpcc_terminal.specs.Receipts.{Stands, AllStand}
-use Rattle.tpcc_audit.specs.Settlement.{AllSeen}
+use Rattle.tpcc_audit.specs.Settlement.{AllSeen, IsUnsettled}
 
 -- what holds of all holds of the one at a place
 at_place : {X : Type 0} (P : X → Type 0) (xs : List X) (k : ℕ) (x : X) → All P xs → slice_get xs k ≡ Some x → P x
@@ -32,3 +35,9 @@ seen_stand stay purses journal receipts seen begin k d below =
     let r = slice_index_or receipts k d in
     let begins = at_place (λ (p : Seated). IsPrefix p.front journal) purses s.place s.purse begin s.there in
     stay s.purse.front journal (r ∷ []) begins (one s.purse.front r s.stands) zero r (omega arith)
+
+-- also where a purse is missing
+pub left_stand : Stay → (start : Opening) (purses : List Seated) (receipts : List Receipt) (book : Option Past) → AllSeen purses receipts → IfSome book (IsLeft start purses) → IfSome book (IsUnsettled start purses receipts)
+left_stand stay start purses receipts None seen left = tt
+left_stand stay start purses receipts (Some book) seen left =
+    record { left = left; stand = seen_stand stay purses book.entries receipts seen left.begins }
