@@ -81,7 +81,7 @@ fn run_plan<
     requires plan { IsPlan plan }
     requires make { F.IsAlwaysCallable make }
 {
-    match tpcc_run::run(rt, alloc, opening, plan, io::writer(rt), make) {
+    match tpcc_run::run(rt, alloc, opening, &plan, io::writer(rt), make) {
         Ok(_) => Ok(()),
         Err(fault) => Err(ProgramFault::Run(fault)),
     }

@@ -4,10 +4,10 @@ ghost use Rattle.tpcc_mailbox.specs.Tokens.{identity, idle_origin};
 ghost use Rattle.tpcc_terminal.specs.Receipts.{AllStand};
 
 use crate::asking::{Asked, ask_once};
-use crate::fault::RunFault;
 use crate::operator::Operator;
 use crate::plan::Plan;
 use crate::promises::Back;
+use crate::terminals::stopped;
 use std::alloc::{AllocError, Global};
 use std::sync::Wait;
 use tpcc_book::{Naming, Seating};
@@ -27,28 +27,27 @@ pub(crate) fn drain<
     mailboxes: &JobMailboxes<N, T, C>,
     operator: Operator<N, T, C>,
     make: &F,
-    plan: Plan,
+    plan: &Plan,
 ) -> Back<N, T, C>
     requires origin { idle_origin operator.idle ≡ identity mailboxes.now }
     requires receipts { AllStand operator.purse.front operator.terminal.receipts }
     requires make { F.IsAlwaysCallable make.now }
     ensures receipts { IfSome result.operator (λ s. AllStand s.purse.front s.terminal.receipts) }
 {
+    let moment = plan.moment;
     let mut operator = operator;
     for _ in rt.forever() {
         let Ok(call) = make(alloc) else {
-            return Back {
-                operator: Some(operator),
-                fault: Some(RunFault::NoMemory),
-            };
+            return stopped(operator);
         };
         let Asked {
             operator: back,
             delivered,
             fault,
-        } = ask_once(rt, mailboxes, operator, Request::Deliver(plan.moment), call);
+        } = ask_once(rt, mailboxes, operator, Request::Deliver(moment), call);
+        let goes_on = delivered && fault.is_none();
         match back {
-            Some(home) if delivered && fault.is_none() => operator = home,
+            Some(home) if goes_on => operator = home,
             other => {
                 return Back {
                     operator: other,

@@ -1,6 +1,8 @@
 //! A run.
 ghost use Rattle.std.specs.Prelude.{◌≡◌, ◌≤◌, IfOk};
 ghost use Rattle.tpcc_population.specs.declared.opening.Opening.{Opening};
+ghost use Rattle.std.specs.Io.KnownBytes.{Appends};
+ghost use Rattle.tpcc_terminal.specs.Report.{report_text};
 ghost use Rattle.tpcc_run.specs.Outcome.{HasReported, IsPlan};
 
 use crate::fault::RunFault;
@@ -12,7 +14,7 @@ use std::io::Write;
 use std::marker::Brand;
 use std::sync::Wait;
 use std::thread::Threads;
-use tpcc_audit::{report, settle};
+use tpcc_audit::{Totals, report, settle};
 use tpcc_book::{Blanks, Naming, Seating, UnnamedTurns};
 use tpcc_mailbox::Mailboxes;
 use tpcc_population::{Opening, Scale};
@@ -33,11 +35,11 @@ pub fn run<
     rt: &R,
     alloc: Global,
     opening: &Opening,
-    plan: Plan,
+    plan: &Plan,
     out: W,
     make: F,
 ) -> Result<W, RunFault>
-    requires plan { IsPlan plan }
+    requires plan { IsPlan plan.now }
     requires make { F.IsAlwaysCallable make }
     ensures reported { IfOk result (λ w. HasReported opening.now (W.contents out) (W.contents w)) }
 {
@@ -55,12 +57,12 @@ fn by_name<
     rt: &R,
     alloc: Global,
     opening: &Opening,
-    plan: Plan,
+    plan: &Plan,
     out: W,
     make: F,
     blanks: Blanks,
 ) -> Result<W, RunFault>
-    requires plan { IsPlan plan }
+    requires plan { IsPlan plan.now }
     requires make { F.IsAlwaysCallable make }
     requires entries { blanks.entries.name ≡ N.entries }
     requires cents { blanks.cents.name ≡ N.cents }
@@ -92,19 +94,20 @@ fn by_seats<
     rt: &R,
     alloc: Global,
     scale: Scale,
-    plan: Plan,
+    plan: &Plan,
     out: W,
     make: F,
     turns: UnnamedTurns<N>,
 ) -> Result<W, RunFault>
-    requires plan { IsPlan plan }
+    requires plan { IsPlan plan.now }
     requires make { F.IsAlwaysCallable make }
     requires name { turns.table ≡ T.table }
     ensures reported { IfOk result (λ w. HasReported turns.opening (W.contents out) (W.contents w)) }
 {
     let (turns, first) = turns.named::<T>();
+    let count = plan.terminals as usize + 1;
     let Ok((mailboxes, idles, serving)) =
-        Mailboxes::<Job<N, T, C>, JobAnswer<N, T>>::new(alloc, plan.terminals as usize + 1)
+        Mailboxes::<Job<N, T, C>, JobAnswer<N, T>>::new(alloc, count)
     else {
         return Err(RunFault::NoMemory);
     };
@@ -118,10 +121,16 @@ fn by_seats<
     if let Some(fault) = fault {
         return Err(fault);
     }
-    let Ok((_, totals)) = settle(turns, purses, receipts.as_slice()) else {
-        return Err(RunFault::Missing);
-    };
-    match report(&totals, out) {
+    match settle(turns, purses, receipts.as_slice()) {
+        Ok((_book, totals)) => written(&totals, out),
+        Err(_left) => Err(RunFault::Missing),
+    }
+}
+
+fn written<W: Write + Drop>(totals: &Totals, out: W) -> Result<W, RunFault>
+    ensures written { IfOk result (λ w. Appends (W.contents out) (W.contents w) (report_text totals.now.entries totals.now.paid totals.now.rise)) }
+{
+    match report(totals, out) {
         Ok(out) => Ok(out),
         Err(_) => Err(RunFault::Write),
     }

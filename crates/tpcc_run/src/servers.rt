@@ -23,14 +23,16 @@ pub(crate) fn start_servers<
     mailboxes: &'s JobMailboxes<N, T, C>,
     turns: &'s Turns<N, T>,
     serving: &mut JobServing<N, T, C>,
-    plan: Plan,
+    plan: &Plan,
 ) -> u32
     requires origin { serving_origin serving.old ≡ identity mailboxes.now }
     ensures origin { serving_origin serving.new ≡ identity mailboxes.now }
 {
+    let count = plan.servers;
+    let later = plan.limit();
     let mut made = 0u32;
-    for _ in 0..plan.servers {
-        let limit = if made == 0 { u64::MAX } else { plan.limit() };
+    for _ in 0..count {
+        let limit = if made == 0 { u64::MAX } else { later };
         let one = serving.split(mailboxes);
         if start_server(scope, rt, mailboxes, turns, one, limit) {
             made += 1;

@@ -2,7 +2,6 @@
 ghost use Rattle.std.specs.Prelude.{◌≡◌, ◌≤◌, All, IfSome};
 ghost use Rattle.tpcc_mailbox.specs.Tokens.{identity, idle_origin};
 ghost use Rattle.tpcc_terminal.specs.Receipts.{AllStand};
-ghost use Rattle.tpcc_run.specs.Handles.{AllIdleAt};
 
 use crate::operator::Operator;
 use crate::plan::Plan;
@@ -34,7 +33,7 @@ fn start_thread<
     operator: Operator<N, T, C>,
     role: Role,
     make: &'s F,
-    plan: Plan,
+    plan: &'s Plan,
 ) -> Option<TerminalHandle<N, T, C>>
     requires origin { idle_origin operator.idle ≡ identity mailboxes.now }
     requires receipts { AllStand operator.purse.front operator.terminal.receipts }
@@ -68,14 +67,15 @@ pub(crate) fn start_terminal<
     role: Role,
     make: &'s F,
     scale: Scale,
-    plan: Plan,
+    plan: &'s Plan,
 ) -> Option<TerminalHandle<N, T, C>>
     requires origin { idle_origin idle ≡ identity mailboxes.now }
     requires number { 1 ≤ purse.purse.terminal }
     requires make { F.IsAlwaysCallable make.now }
     ensures origin { IfSome result (λ h. idle_origin h.promise.0.value ≡ identity mailboxes.now) }
 {
-    let Ok(terminal) = Terminal::new(alloc, purse.terminal(), scale, plan.seed) else {
+    let seed = plan.seed;
+    let Ok(terminal) = Terminal::new(alloc, purse.terminal(), scale, seed) else {
         return None;
     };
     let operator = Operator {
@@ -105,17 +105,18 @@ pub(crate) fn start_terminals<
     first: &mut SeatedPurse<N, T>,
     make: &'s F,
     scale: Scale,
-    plan: Plan,
+    plan: &'s Plan,
 ) -> Vec<TerminalHandle<N, T, C>>
-    requires idles { AllIdleAt (identity mailboxes.now) idles.items }
-    requires room { plan.terminals ≤ first.old.purse.room }
-    requires terminals { plan.terminals ≤ 999 }
+    requires idles { All (λ idle. idle_origin idle ≡ identity mailboxes.now) idles.items }
+    requires room { plan.now.terminals ≤ first.old.purse.room }
+    requires terminals { plan.now.terminals ≤ 999 }
     requires make { F.IsAlwaysCallable make.now }
     ensures handles { All (λ h. idle_origin h.promise.0.value ≡ identity mailboxes.now) result.items }
 {
+    let count = plan.terminals;
     let mut idles = idles;
     let mut handles = Vec::new(alloc);
-    for number in 0..plan.terminals {
+    for number in 0..count {
         let Some(idle) = next_idle(&mut idles, mailboxes) else {
             break;
         };
@@ -144,8 +145,8 @@ pub(crate) fn next_idle<N: Naming, T: Seating, C>(
     idles: &mut Vec<JobIdle<N, T, C>>,
     mailboxes: &JobMailboxes<N, T, C>,
 ) -> Option<JobIdle<N, T, C>>
-    requires idles { AllIdleAt (identity mailboxes.now) idles.old.items }
-    ensures rest { AllIdleAt (identity mailboxes.now) idles.new.items }
+    requires idles { All (λ idle. idle_origin idle ≡ identity mailboxes.now) idles.old.items }
+    ensures rest { All (λ idle. idle_origin idle ≡ identity mailboxes.now) idles.new.items }
     ensures one { IfSome result (λ idle. idle_origin idle ≡ identity mailboxes.now) }
 {
     let _ = mailboxes;

@@ -44,7 +44,7 @@ pub(crate) fn ask_all<N: Naming, T: Seating, C: Turning, F: Fn(Global) -> Result
     operator: Operator<N, T, C>,
     role: Role,
     make: &F,
-    plan: Plan,
+    plan: &Plan,
 ) -> Back<N, T, C>
     requires origin { idle_origin operator.idle ≡ identity mailboxes.now }
     requires receipts { AllStand operator.purse.front operator.terminal.receipts }
@@ -52,12 +52,14 @@ pub(crate) fn ask_all<N: Naming, T: Seating, C: Turning, F: Fn(Global) -> Result
     ensures origin { IfSome result.operator (λ s. idle_origin s.idle ≡ identity mailboxes.now) }
     ensures receipts { IfSome result.operator (λ s. AllStand s.purse.front s.terminal.receipts) }
 {
+    let cards = plan.cards;
+    let moment = plan.moment;
     let mut operator = operator;
-    for _ in 0..plan.cards {
+    for _ in 0..cards {
         let Ok(call) = make(alloc) else {
             return stopped(operator);
         };
-        let Ok(request) = next_request(role, &mut operator.terminal, plan.moment) else {
+        let Ok(request) = next_request(role, &mut operator.terminal, moment) else {
             return stopped(operator);
         };
         let Asked {
@@ -81,7 +83,7 @@ pub(crate) fn ask_all<N: Naming, T: Seating, C: Turning, F: Fn(Global) -> Result
     }
 }
 
-fn stopped<N: Naming, T: Seating, C>(operator: Operator<N, T, C>) -> Back<N, T, C>
+pub(crate) fn stopped<N: Naming, T: Seating, C>(operator: Operator<N, T, C>) -> Back<N, T, C>
     ensures operator { result.operator ≡ Some operator }
 {
     Back {

@@ -50,7 +50,7 @@ fn reported<R: Threads + Wait + Sync>(
     plan: Plan,
 ) -> Result<Vec<u8>, Fail> {
     let made = |_alloc: Global| -> Result<OneTurn, AllocError> { Ok(OneTurn) };
-    match run(rt, alloc, opening, plan, Vec::new(alloc), made) {
+    match run(rt, alloc, opening, &plan, Vec::new(alloc), made) {
         Ok(text) => Ok(text),
         Err(_) => Err(Fail::new("the run ended early")),
     }

@@ -1,8 +1,7 @@
 //! The threads of a run.
-ghost use Rattle.std.specs.Prelude.{◌≡◌, ◌≤◌, ◌<◌, ◌+◌, None};
-ghost use Rattle.tpcc_mailbox.specs.Tokens.{identity, serving_origin};
+ghost use Rattle.std.specs.Prelude.{◌≡◌, ◌≤◌, ◌<◌, ◌+◌, All, IfSome};
+ghost use Rattle.tpcc_mailbox.specs.Tokens.{identity, idle_origin, serving_origin};
 ghost use Rattle.tpcc_audit.specs.Settlement.{AllSeen};
-ghost use Rattle.tpcc_run.specs.Handles.{AllIdleAt};
 
 use crate::drain::drain;
 use crate::fault::RunFault;
@@ -40,17 +39,18 @@ fn start_runner<
     first: &mut SeatedPurse<N, T>,
     make: &'s F,
     scale: Scale,
-    plan: Plan,
+    plan: &'s Plan,
 ) -> Option<TerminalHandle<N, T, C>>
-    requires idles { AllIdleAt (identity mailboxes.now) idles.old.items }
+    requires idles { All (λ idle. idle_origin idle ≡ identity mailboxes.now) idles.old.items }
     requires room { 0 < first.old.purse.room }
-    requires terminals { plan.terminals ≤ 999 }
+    requires terminals { plan.now.terminals ≤ 999 }
     requires make { F.IsAlwaysCallable make.now }
-    ensures rest { AllIdleAt (identity mailboxes.now) idles.new.items }
+    ensures rest { All (λ idle. idle_origin idle ≡ identity mailboxes.now) idles.new.items }
     ensures room { first.old.purse.room ≡ first.new.purse.room + 1 }
     ensures origin { IfSome result (λ h. idle_origin h.promise.0.value ≡ identity mailboxes.now) }
 {
-    let purse = first.split(turns, plan.terminals + 1);
+    let number = plan.terminals + 1;
+    let purse = first.split(turns, number);
     let Some(idle) = next_idle(idles, mailboxes) else {
         return None;
     };
@@ -81,7 +81,7 @@ fn end_runner<
     mailboxes: &JobMailboxes<N, T, C>,
     runner: TerminalHandle<N, T, C>,
     make: &F,
-    plan: Plan,
+    plan: &Plan,
     all: &mut Gathered<N, T>,
 )
     requires origin { idle_origin runner.promise.0.value ≡ identity mailboxes.now }
@@ -122,12 +122,12 @@ fn drive<
     first: SeatedPurse<N, T>,
     make: &'s F,
     scale: Scale,
-    plan: Plan,
+    plan: &'s Plan,
 ) -> Gathered<N, T>
-    requires idles { AllIdleAt (identity mailboxes.now) idles.items }
+    requires idles { All (λ idle. idle_origin idle ≡ identity mailboxes.now) idles.items }
     requires serving { serving_origin serving ≡ identity mailboxes.now }
-    requires room { plan.terminals < first.purse.room }
-    requires terminals { plan.terminals ≤ 999 }
+    requires room { plan.now.terminals < first.purse.room }
+    requires terminals { plan.now.terminals ≤ 999 }
     requires make { F.IsAlwaysCallable make.now }
     ensures seen { AllSeen result.purses.items result.receipts.items }
 {
@@ -135,8 +135,10 @@ fn drive<
     let mut serving = serving;
     let mut first = first;
     let mut all = Gathered::new(alloc);
+    let wanted_servers = plan.servers;
+    let wanted_terminals = plan.terminals as usize;
     let servers = start_servers(scope, rt, mailboxes, turns, &mut serving, plan);
-    if servers < plan.servers {
+    if servers < wanted_servers {
         all.note(RunFault::NoMemory);
     }
     if servers == 0 {
@@ -148,7 +150,7 @@ fn drive<
     let terminals = start_terminals(
         scope, rt, alloc, mailboxes, turns, idles, &mut first, make, scale, plan,
     );
-    if terminals.len() < plan.terminals as usize {
+    if terminals.len() < wanted_terminals {
         all.note(RunFault::NoMemory);
     }
     join_terminals(rt, terminals, mailboxes, &mut all);
@@ -178,12 +180,12 @@ pub(crate) fn work<
     first: SeatedPurse<N, T>,
     make: &F,
     scale: Scale,
-    plan: Plan,
+    plan: &Plan,
 ) -> Gathered<N, T>
-    requires idles { AllIdleAt (identity mailboxes.now) idles.items }
+    requires idles { All (λ idle. idle_origin idle ≡ identity mailboxes.now) idles.items }
     requires serving { serving_origin serving ≡ identity mailboxes.now }
-    requires room { plan.terminals < first.purse.room }
-    requires terminals { plan.terminals ≤ 999 }
+    requires room { plan.now.terminals < first.purse.room }
+    requires terminals { plan.now.terminals ≤ 999 }
     requires make { F.IsAlwaysCallable make.now }
     ensures seen { AllSeen result.purses.items result.receipts.items }
 {
@@ -191,10 +193,10 @@ pub(crate) fn work<
         thread::scope_env(),
         rt,
         |scope| -> Gathered<N, T>
-            requires idles { AllIdleAt (identity mailboxes.now) idles.items }
+            requires idles { All (λ idle. idle_origin idle ≡ identity mailboxes.now) idles.items }
             requires serving { serving_origin serving ≡ identity mailboxes.now }
-            requires room { plan.terminals < first.purse.room }
-            requires terminals { plan.terminals ≤ 999 }
+            requires room { plan.now.terminals < first.purse.room }
+            requires terminals { plan.now.terminals ≤ 999 }
             requires make { F.IsAlwaysCallable make.now }
             ensures seen { AllSeen result.purses.items result.receipts.items }
         {
