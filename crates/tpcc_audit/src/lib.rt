@@ -12,6 +12,8 @@ mod records;
 mod reporting;
 mod settlement;
 #[cfg(test)]
+mod settlement_tests;
+#[cfg(test)]
 mod test_rows;
 #[cfg(test)]
 mod tests;

@@ -50,6 +50,7 @@ pub fn settle<N: Naming, T: Seating>(
     receipts_stay();
     match turns.gather(purses) {
         Ok((book, entries, paid)) => {
+            // All shares of the book's two totals are here, so what the purses paid is the rise.
             let totals = Totals {
                 entries,
                 paid,
