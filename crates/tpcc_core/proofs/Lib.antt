@@ -2,3 +2,5 @@ pub mod Places
 pub mod Stepping
 pub mod Exactly
 pub mod Running
+pub mod Items
+pub mod Order
