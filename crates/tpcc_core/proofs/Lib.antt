@@ -4,3 +4,5 @@ pub mod Exactly
 pub mod Running
 pub mod Items
 pub mod Order
+pub mod UnderWay
+pub mod Journals
