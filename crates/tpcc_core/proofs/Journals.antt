@@ -121,7 +121,7 @@ refused t old c refusal is none =
       grown = sym (append-nil old);
     }
 
-abbrev answer_for : ℕ → ℕ → Collected → List Collected
+abbrev pub answer_for : ℕ → ℕ → Collected → List Collected
 answer_for terminal t c = cond (eqb terminal t) (c ∷ []) []
 
 the_entry : (a b : ℕ) (m n : ℕ) (q r : Request) (x y : Reply) → a ≡ b → m ≡ n → q ≡ r → x ≡ y

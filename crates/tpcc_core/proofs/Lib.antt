@@ -6,3 +6,4 @@ pub mod Items
 pub mod Order
 pub mod UnderWay
 pub mod Journals
+pub mod Sound

@@ -24,13 +24,13 @@ use Rattle.tpcc_core.specs.Traces.{asked_by, answer_in, answered_by}
 use Rattle.tpcc_core.proofs.Places.{same-item}
 use Rattle.tpcc_core.proofs.Items.{was_at, is_at, else_at, told_of, told_kept}
 
-abbrev home : Mailbox Held
+abbrev pub home : Mailbox Held
 home = box.Taken 0
 
-abbrev taker_in : Option (SeatNow Held) → Option ℕ
+abbrev pub taker_in : Option (SeatNow Held) → Option ℕ
 taker_in found = told None (λ seat. taken_by seat.mailbox) found
 
-abbrev way_in : List (Hand Held) → Option (SeatNow Held) → Mailbox Held
+abbrev pub way_in : List (Hand Held) → Option (SeatNow Held) → Mailbox Held
 way_in hands found = told home (λ seat. brought_back hands seat.mailbox) found
 
 -- ---- what a change of one hand does to what terminals have under way
@@ -55,7 +55,7 @@ back_held hands s (box.Posted l) is = absurd cc
 back_held hands s (box.Taken n) is = ap (λ k. brought_back hands (box.Taken k)) (same-item n s is)
 back_held hands s (box.Answered a) is = absurd cc
 
-way_held : (hands : List (Hand Held)) (s : ℕ) (h : Hand Held) (found : Option (SeatNow Held)) → taker_in found ≡ Some s → item hands s ≡ Some h → way_in hands found ≡ returned s h
+pub way_held : (hands : List (Hand Held)) (s : ℕ) (h : Hand Held) (found : Option (SeatNow Held)) → taker_in found ≡ Some s → item hands s ≡ Some h → way_in hands found ≡ returned s h
 way_held hands s h None is at = absurd cc
 way_held hands s h (Some seat) is at = back_held hands s seat.mailbox is ∙ ap (told (box.Taken s) (returned s)) at
 

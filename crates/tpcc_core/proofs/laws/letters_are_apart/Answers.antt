@@ -1,5 +1,4 @@
-use Rattle.tpcc_core.proofs.UnderWay.{quiet_trip}
-use Rattle.tpcc_core.proofs.Journals.{serve_records}
+use Rattle.tpcc_core.proofs.Sound.{passes_lead}
 use Rattle.tpcc_core.proofs.Order.{start_ordered, passes_ordered}
 use Rattle.tpcc_core.specs.Started.{started}
 use Rattle.tpcc_core.proofs.laws.letters_are_apart.Goals as goal
