@@ -22,7 +22,7 @@ pub same_number : (a b : ℕ) → (a ≡ b) ⊎ (a ≡ b → ⊥)
 same_number a b = ⊎_elim (λ (y : (eqb a b ≡ true) × (a ≡ b)). inl y.1) (λ (n : (eqb a b ≡ false) × (a ≢ b)). inr n.1) (eqb_tells a b)
 
 -- a place is the number less one
-number_of : (number count place : ℕ) → place_of number count ≡ Some place → number ≡ suc place
+pub number_of : (number count place : ℕ) → place_of number count ≡ Some place → number ≡ suc place
 number_of zero count place h = absurd cc
 number_of (suc n) count place h = ap suc (chosen n place (nat_lt n count) h)
   where

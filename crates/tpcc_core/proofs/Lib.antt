@@ -7,3 +7,4 @@ pub mod Order
 pub mod UnderWay
 pub mod Journals
 pub mod Sound
+pub mod Begins

@@ -1,4 +1,4 @@
-use Rattle.tpcc_core.proofs.Sound.{passes_lead}
+use Rattle.tpcc_core.proofs.Begins.{start_sound}
 use Rattle.tpcc_core.proofs.Order.{start_ordered, passes_ordered}
 use Rattle.tpcc_core.specs.Started.{started}
 use Rattle.tpcc_core.proofs.laws.letters_are_apart.Goals as goal
