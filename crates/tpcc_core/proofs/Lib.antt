@@ -8,3 +8,4 @@ pub mod UnderWay
 pub mod Journals
 pub mod Sound
 pub mod Begins
+pub mod Ends

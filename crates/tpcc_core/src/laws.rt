@@ -1,13 +1,43 @@
 //! The laws of every list of events, each as the contract of a function with nothing to do.
-ghost use Rattle.std.specs.Prelude.{◌≡◌, ℕ, List};
+ghost use Rattle.std.specs.Prelude.{◌≡◌, ℕ, List, ◌++◌, map, All};
 ghost use Rattle.tpcc_population.specs.declared.opening.Opening.{Opening};
 ghost use Rattle.tpcc_core.specs.declared.event.Event.{Event};
-ghost use Rattle.tpcc_core.specs.After.{After};
-ghost use Rattle.tpcc_core.specs.Desks.{DeskNow};
-ghost use Rattle.tpcc_core.specs.Flights.{IsOrdered};
+ghost use Rattle.tpcc_core.specs.After.{After, posted, served};
+ghost use Rattle.tpcc_core.specs.Desks.{DeskNow, collected_of};
+ghost use Rattle.tpcc_core.specs.Flights.{IsOrdered, under_way, unserved};
+ghost use Rattle.tpcc_core.specs.SeatSteps.{waiting};
+ghost use Rattle.tpcc_core.specs.Traces.{entries_by, entries_from, IsRecorded, IsAllOrAllButLast};
 
 /// A letter or its answer is in one place alone, at most one of a terminal and one in a hand.
 pub fn letters_are_apart()
     ensures { (opening : Opening) (terminals servers : ℕ) (events : List Event) (desk : DeskNow)
         → After opening terminals servers events desk → IsOrdered desk }
+{}
+
+/// A terminal's requests are served once each and in posting order: all that it posted, or all but the last, which
+/// is then under way.
+pub fn requests_are_served_in_order()
+    ensures order { (opening : Opening) (terminals servers : ℕ) (events : List Event) (desk : DeskNow) (after : After opening terminals servers events desk) (terminal : ℕ)
+        → IsAllOrAllButLast (map (λ answer. answer.request) (served after terminal)) (posted after terminal) }
+    ensures last { (opening : Opening) (terminals servers : ℕ) (events : List Event) (desk : DeskNow) (after : After opening terminals servers events desk) (terminal : ℕ)
+        → posted after terminal ≡ map (λ answer. answer.request) (served after terminal) ++ unserved (under_way desk terminal) }
+{}
+
+/// A terminal has collected all its answers, or all but the last, which is then under way.
+pub fn answers_are_collected_in_order()
+    ensures order { (opening : Opening) (terminals servers : ℕ) (events : List Event) (desk : DeskNow) (after : After opening terminals servers events desk) (terminal : ℕ)
+        → IsAllOrAllButLast (collected_of desk terminal) (served after terminal) }
+    ensures last { (opening : Opening) (terminals servers : ℕ) (events : List Event) (desk : DeskNow) (after : After opening terminals servers events desk) (terminal : ℕ)
+        → served after terminal ≡ collected_of desk terminal ++ waiting (under_way desk terminal) }
+{}
+
+/// A terminal's entries in the journal are its accepted requests with their replies, in the order of serving and numbered
+/// 0, 1, 2 and so on. Each accepted answer, collected or under way, is that of the entry at its place.
+pub fn entries_are_accepted_requests()
+    ensures entries { (opening : Opening) (terminals servers : ℕ) (events : List Event) (desk : DeskNow) (after : After opening terminals servers events desk) (terminal : ℕ)
+        → entries_by terminal desk.book.entries ≡ entries_from terminal 0 (served after terminal) }
+    ensures served { (opening : Opening) (terminals servers : ℕ) (events : List Event) (desk : DeskNow) (after : After opening terminals servers events desk) (terminal : ℕ)
+        → All (IsRecorded desk.book.entries terminal) (served after terminal) }
+    ensures collected { (opening : Opening) (terminals servers : ℕ) (events : List Event) (desk : DeskNow) (after : After opening terminals servers events desk) (terminal : ℕ)
+        → All (IsRecorded desk.book.entries terminal) (collected_of desk terminal) }
 {}
