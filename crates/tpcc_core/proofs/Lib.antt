@@ -9,3 +9,4 @@ pub mod Journals
 pub mod Sound
 pub mod Begins
 pub mod Ends
+pub mod Keeps

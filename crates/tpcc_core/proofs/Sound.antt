@@ -154,10 +154,10 @@ move_leads false d e m sound in_range same =
     }
 
 -- a list of events
-head_in_range : (e : Event) (es : List Event) → list_all is_in_range (e ∷ es) ≡ true → is_in_range e ≡ true
+pub head_in_range : (e : Event) (es : List Event) → list_all is_in_range (e ∷ es) ≡ true → is_in_range e ≡ true
 head_in_range e es h = grind (arith, h)
 
-tail_in_range : (e : Event) (es : List Event) → list_all is_in_range (e ∷ es) ≡ true → list_all is_in_range es ≡ true
+pub tail_in_range : (e : Event) (es : List Event) → list_all is_in_range (e ∷ es) ≡ true → list_all is_in_range es ≡ true
 tail_in_range e es h = grind (arith, h)
 
 pub passes_lead : (d : DeskNow) (es : List Event) (n : DeskNow) → IsSound d → list_all is_in_range es ≡ true → (p : Passes d es n)

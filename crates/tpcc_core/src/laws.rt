@@ -1,5 +1,6 @@
 //! The laws of every list of events, each as the contract of a function with nothing to do.
 ghost use Rattle.std.specs.Prelude.{◌≡◌, ℕ, List, ◌++◌, map, All};
+ghost use Rattle.tpcc_book.specs.Past.{IsKept};
 ghost use Rattle.tpcc_population.specs.declared.opening.Opening.{Opening};
 ghost use Rattle.tpcc_core.specs.declared.event.Event.{Event};
 ghost use Rattle.tpcc_core.specs.After.{After, posted, served};
@@ -7,6 +8,23 @@ ghost use Rattle.tpcc_core.specs.Desks.{DeskNow, collected_of};
 ghost use Rattle.tpcc_core.specs.Flights.{IsOrdered, under_way, unserved};
 ghost use Rattle.tpcc_core.specs.SeatSteps.{waiting};
 ghost use Rattle.tpcc_core.specs.Traces.{entries_by, entries_from, IsRecorded, IsAllOrAllButLast};
+
+use tpcc_population::{Opening, opening_is_sound};
+use tpcc_rows::laws;
+
+/// The book's rows are consistent (3.3.2) and are the opening's followed by its journal one transaction at a time, and
+/// each entry is what its request gave at its place.
+pub fn book_is_kept(opening: Opening)
+    ensures kept { (terminals servers : ℕ) (events : List Event) (desk : DeskNow)
+        → After opening terminals servers events desk → IsKept desk.book }
+    ensures opening { (terminals servers : ℕ) (events : List Event) (desk : DeskNow)
+        → After opening terminals servers events desk → desk.book.opening ≡ opening }
+{
+    opening_is_sound(opening);
+    laws::turn_keeps();
+    laws::turn_pays();
+    laws::journal_grows();
+}
 
 /// A letter or its answer is in one place alone, at most one of a terminal and one in a hand.
 pub fn letters_are_apart()
