@@ -10,3 +10,4 @@ pub mod Sound
 pub mod Begins
 pub mod Ends
 pub mod Keeps
+pub mod Sums

@@ -7,6 +7,7 @@ ghost use Rattle.tpcc_core.specs.After.{After, posted, served};
 ghost use Rattle.tpcc_core.specs.Desks.{DeskNow, collected_of};
 ghost use Rattle.tpcc_core.specs.Flights.{IsOrdered, under_way, unserved};
 ghost use Rattle.tpcc_core.specs.SeatSteps.{waiting};
+ghost use Rattle.tpcc_core.specs.Shares.{AddsUp};
 ghost use Rattle.tpcc_core.specs.Traces.{entries_by, entries_from, IsRecorded, IsAllOrAllButLast};
 
 use tpcc_population::{Opening, opening_is_sound};
@@ -59,3 +60,12 @@ pub fn entries_are_accepted_requests()
     ensures collected { (opening : Opening) (terminals servers : ℕ) (events : List Event) (desk : DeskNow) (after : After opening terminals servers events desk) (terminal : ℕ)
         → All (IsRecorded desk.book.entries terminal) (collected_of desk terminal) }
 {}
+
+/// The purses at the terminals, in letters, in hands and in answers are all there with the first: their entries add up
+/// to the journal's length, and their cents to the rise of the sum of W_YTD.
+pub fn purses_add_up(opening: Opening)
+    ensures { (terminals servers : ℕ) (events : List Event) (desk : DeskNow)
+        → After opening terminals servers events desk → AddsUp desk }
+{
+    book_is_kept(opening);
+}
