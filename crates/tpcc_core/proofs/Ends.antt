@@ -1,5 +1,5 @@
 -- What holds after every list of events.
-use Rattle.std.proofs.Common.{◌≡◌, ◌∙◌, sym, ap, refl, subst, ℕ, zero, ◌+◌, ◌⊎◌, inl, inr, List, [], ◌∷◌, ◌++◌, length, map, append-nil, append_assoc}
+use Rattle.std.proofs.Common.{◌≡◌, ◌∙◌, sym, ap, refl, subst, ℕ, zero, ◌+◌, ◌≤◌, arith, ◌⊎◌, inl, inr, List, [], ◌∷◌, ◌++◌, length, map, append-nil, append_assoc}
 use Rattle.std.specs.Prelude.{Bool, true, false, ◌&&◌, All, Option, Some, None}
 use Rattle.std.specs.List.{list_all}
 use Rattle.std.proofs.lemmas.List.Elements.{All-get_or, All-nil, All-cons, All-head, All-tail}
@@ -16,9 +16,11 @@ use Rattle.tpcc_core.specs.Desks.{DeskNow, collected_of}
 use Rattle.tpcc_core.specs.Started.{started}
 use Rattle.tpcc_core.specs.Flights.{under_way, unserved}
 use Rattle.tpcc_core.specs.Traces.{posts_of, served_of, entries_from, entries_by, IsRecorded, IsAllOrAllButLast}
-use Rattle.tpcc_core.specs.After.{After, posted, served}
+use Rattle.tpcc_core.specs.After.{After, is_in_range, posted, served}
 use Rattle.tpcc_core.proofs.Begins.{begun, start_sound}
-use Rattle.tpcc_core.proofs.Sound.{Leads, passes_lead}
+use Rattle.tpcc_core.proofs.Sound.{Leads, passes_lead, head_in_range, tail_in_range}
+use Rattle.tpcc_core.specs.Runs.{Passes}
+use Rattle.tpcc_core.proofs.Running.{passes_both}
 
 pub after_leads : (opening : Opening) (terminals servers : ℕ) (events : List Event) (desk : DeskNow) (after : After opening terminals servers events desk)
     → Leads (started opening terminals servers) desk (posted after) (served after)
@@ -79,3 +81,24 @@ pub collected_recorded : (opening : Opening) (terminals servers : ℕ) (events :
 collected_recorded opening terminals servers events desk after t =
     all_first (IsRecorded desk.book.entries t) (collected_of desk t) (waiting (under_way desk t))
         (subst (All (IsRecorded desk.book.entries t)) (served_is opening terminals servers events desk after t) (all_recorded opening terminals servers events desk after t))
+
+-- one list of events after another
+and_true : (a b : Bool) → a ≡ true → b ≡ true → a && b ≡ true
+and_true a b h k = grind (arith, h, k)
+
+list_all-both : (es later : List Event) → list_all is_in_range es ≡ true → list_all is_in_range later ≡ true → list_all is_in_range (es ++ later) ≡ true
+list_all-both [] later h k = k
+list_all-both (e ∷ es) later h k = and_true (is_in_range e) (list_all is_in_range (es ++ later)) (head_in_range e es h) (list_all-both es later (tail_in_range e es h) k)
+
+pub started_after : (opening : Opening) (terminals servers : ℕ) → (1 ≤ terminals) × (terminals ≤ 10000) → 1 ≤ servers → After opening terminals servers [] (started opening terminals servers)
+started_after opening terminals servers terminals_in servers_in = record { terminals_in = terminals_in; servers_in = servers_in; in_range = refl; passes = refl }
+
+pub events_more : (opening : Opening) (terminals servers : ℕ) (events later : List Event) (desk last : DeskNow)
+    → After opening terminals servers events desk → list_all is_in_range later ≡ true → Passes desk later last → After opening terminals servers (events ++ later) last
+events_more opening terminals servers events later desk last after in_range passes =
+    record {
+      terminals_in = after.terminals_in;
+      servers_in = after.servers_in;
+      in_range = list_all-both events later after.in_range in_range;
+      passes = passes_both (started opening terminals servers) events later desk last after.passes passes;
+    }

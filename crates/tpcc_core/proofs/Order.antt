@@ -13,7 +13,8 @@ use Rattle.tpcc_core.specs.declared.mailbox.Mailbox.TheVariants as box
 use Rattle.tpcc_core.specs.Seats.{SeatNow, is_free, is_answered, is_taken}
 use Rattle.tpcc_core.specs.SeatSteps.{sent, emptied}
 use Rattle.tpcc_core.specs.Desks.{DeskNow, place_of, item_in, item, told}
-use Rattle.tpcc_core.specs.Events.{is_ready, Steps, IsPostedAt, IsTakenAt, IsServedBy, IsAnsweredBy, IsCollectedAt}
+use Rattle.tpcc_core.specs.Hands.{holds_answer}
+use Rattle.tpcc_core.specs.Events.{tests_in, tests_at, answer_place, can_answer, is_ready, Steps, IsPostedAt, IsTakenAt, IsServedBy, IsAnsweredBy, IsCollectedAt}
 use Rattle.tpcc_core.specs.Flights.{held_for, taken_by, AreApart, IsOrdered}
 use Rattle.tpcc_core.specs.Started.{seats_of, hands_of, seat_of, started}
 use Rattle.tpcc_core.specs.Runs.{MovesBy, Passes}
@@ -164,3 +165,27 @@ pub start_ordered : (opening : Opening) (terminals servers : ℕ) → IsOrdered 
 start_ordered opening terminals servers a b =
     (λ is. absurd (nothing _ b (told_none held_for (hands_of servers) (empty_hands servers) (place_of a (length (hands_of {P = Held} servers)))) is),
      λ is. absurd (nothing _ a (told_none (λ seat. taken_by seat.mailbox) (seats_of terminals) (free_seats terminals) (place_of b (length (seats_of terminals)))) is))
+
+-- ---- an answer in a hand has its mailbox waiting for it
+
+taken_box : (o : Option (SeatNow Held)) (s : ℕ) → told None (λ seat. taken_by seat.mailbox) o ≡ Some s → told false (λ seat. is_taken seat.mailbox) o ≡ true
+taken_box None s is = absurd cc
+taken_box (Some seat) s is = box_taken seat.mailbox s is
+  where
+    box_taken : (b : Mailbox Held) (s : ℕ) → taken_by b ≡ Some s → is_taken b ≡ true
+    box_taken (box.Free p) s is = absurd cc
+    box_taken (box.Posted l) s is = absurd cc
+    box_taken (box.Taken n) s is = refl
+    box_taken (box.Answered a) s is = absurd cc
+
+pub answer_ready_in : (d : DeskNow) (s : ℕ) → IsOrdered d → can_answer d s ≡ tests_at holds_answer d.hands s
+answer_ready_in d s ordered = by_item (item d.hands s) refl
+  where
+    by_hand : (h : Hand Held) → item d.hands s ≡ Some h → tests_in (λ seat. is_taken seat.mailbox) d.seats (answer_place h d.seats) ≡ holds_answer h
+    by_hand hand.Empty at = refl
+    by_hand (hand.Holds t l) at = refl
+    by_hand (hand.Served t a) at = taken_box (item d.seats t) s ((ordered s t).0 (ap (told None held_for) at))
+
+    by_item : (o : Option (Hand Held)) → item d.hands s ≡ o → told false (λ h. tests_in (λ seat. is_taken seat.mailbox) d.seats (answer_place h d.seats)) o ≡ told false holds_answer o
+    by_item None at = refl
+    by_item (Some h) at = by_hand h at

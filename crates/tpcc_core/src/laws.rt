@@ -1,11 +1,16 @@
 //! The laws of every list of events, each as the contract of a function with nothing to do.
-ghost use Rattle.std.specs.Prelude.{◌≡◌, ℕ, List, ◌++◌, map, All};
+ghost use Rattle.std.specs.List.{list_all};
+ghost use Rattle.std.specs.Prelude.{◌≡◌, ◌≤◌, ℕ, List, [], ◌++◌, map, All, true};
 ghost use Rattle.tpcc_book.specs.Past.{IsKept};
 ghost use Rattle.tpcc_population.specs.declared.opening.Opening.{Opening};
 ghost use Rattle.tpcc_core.specs.declared.event.Event.{Event};
-ghost use Rattle.tpcc_core.specs.After.{After, posted, served};
+ghost use Rattle.tpcc_core.specs.After.{After, is_in_range, posted, served};
 ghost use Rattle.tpcc_core.specs.Desks.{DeskNow, collected_of};
+ghost use Rattle.tpcc_core.specs.Events.{can_answer, tests_at};
+ghost use Rattle.tpcc_core.specs.Hands.{holds_answer};
 ghost use Rattle.tpcc_core.specs.Flights.{IsOrdered, under_way, unserved};
+ghost use Rattle.tpcc_core.specs.Runs.{Passes};
+ghost use Rattle.tpcc_core.specs.Started.{started};
 ghost use Rattle.tpcc_core.specs.SeatSteps.{waiting};
 ghost use Rattle.tpcc_core.specs.Shares.{AddsUp};
 ghost use Rattle.tpcc_core.specs.Traces.{entries_by, entries_from, IsRecorded, IsAllOrAllButLast};
@@ -27,10 +32,13 @@ pub fn book_is_kept(opening: Opening)
     laws::journal_grows();
 }
 
-/// A letter or its answer is in one place alone, at most one of a terminal and one in a hand.
+/// A letter or its answer is in one place alone, at most one of a terminal and one in a hand. So an Answer is ready
+/// exactly where the server's hand holds an answer.
 pub fn letters_are_apart()
-    ensures { (opening : Opening) (terminals servers : ℕ) (events : List Event) (desk : DeskNow)
+    ensures apart { (opening : Opening) (terminals servers : ℕ) (events : List Event) (desk : DeskNow)
         → After opening terminals servers events desk → IsOrdered desk }
+    ensures answers { (opening : Opening) (terminals servers : ℕ) (events : List Event) (desk : DeskNow)
+        → After opening terminals servers events desk → (server : ℕ) → can_answer desk server ≡ tests_at holds_answer desk.hands server }
 {}
 
 /// A terminal's requests are served once each and in posting order: all that it posted, or all but the last, which
@@ -69,3 +77,12 @@ pub fn purses_add_up(opening: Opening)
 {
     book_is_kept(opening);
 }
+
+/// A run over more events goes on where the one before it ended.
+pub fn events_follow()
+    ensures start { (opening : Opening) (terminals servers : ℕ) → (1 ≤ terminals) × (terminals ≤ 10000) → 1 ≤ servers
+        → After opening terminals servers [] (started opening terminals servers) }
+    ensures more { (opening : Opening) (terminals servers : ℕ) (events later : List Event) (desk last : DeskNow)
+        → After opening terminals servers events desk → list_all is_in_range later ≡ true → Passes desk later last
+        → After opening terminals servers (events ++ later) last }
+{}
