@@ -1,16 +1,15 @@
 -- The desk of an opening, before any event.
-use Rattle.std.proofs.Common.{◌≡◌, ◌∙◌, sym, ap, refl, subst, ℕ, zero, suc, ◌+◌, ◌-◌, ◌≤◌, Bool, true, false, cond, ◌⊎◌, inl, inr, ⊎_elim, List, [], ◌∷◌, ◌++◌, length, map, arith}
+use Rattle.std.proofs.Common.{◌≡◌, ◌∙◌, sym, ap, refl, ℕ, zero, suc, ◌⊎◌, inl, inr, ⊎_elim, List, [], ◌∷◌, ◌++◌, length, map}
 use Rattle.std.specs.Prelude.{Option, Some, None, slice_get}
 use Rattle.std.specs.List.{list_all}
 use Rattle.tpcc_rows.specs.Moments.{has_moment_in_range}
 use Rattle.tpcc_population.specs.declared.opening.Opening.{Opening}
 use Rattle.tpcc_book.specs.Purses.{Held}
-use Rattle.tpcc_core.specs.declared.mailbox.Mailbox.TheVariants as box
 use Rattle.tpcc_core.specs.Seats.{SeatNow}
 use Rattle.tpcc_core.specs.SeatSteps.{waiting}
 use Rattle.tpcc_core.specs.Desks.{DeskNow, place_of, item, item_in, told, collected_of}
-use Rattle.tpcc_core.specs.Started.{started, seats_of, hands_of, seat_of}
-use Rattle.tpcc_core.specs.Flights.{under_way, unserved, brought_back}
+use Rattle.tpcc_core.specs.Started.{started, seats_of, seat_of}
+use Rattle.tpcc_core.specs.Flights.{under_way, unserved}
 use Rattle.tpcc_core.specs.Shares.{purses_in}
 use Rattle.tpcc_core.proofs.Places.{same-item}
 use Rattle.tpcc_core.proofs.Items.{number_of}

@@ -1,9 +1,8 @@
 -- What holds after every list of events.
-use Rattle.std.proofs.Common.{◌≡◌, ◌∙◌, sym, ap, refl, subst, ℕ, zero, ◌+◌, ◌≤◌, arith, ◌⊎◌, inl, inr, List, [], ◌∷◌, ◌++◌, length, map, append-nil, append_assoc}
-use Rattle.std.specs.Prelude.{Bool, true, false, ◌&&◌, All, Option, Some, None}
+use Rattle.std.proofs.Common.{◌≡◌, ◌∙◌, sym, ap, refl, subst, ℕ, ◌≤◌, arith, inl, inr, List, [], ◌∷◌, ◌++◌, map, append-nil}
+use Rattle.std.specs.Prelude.{Bool, true, ◌&&◌, All}
 use Rattle.std.specs.List.{list_all}
-use Rattle.std.proofs.lemmas.List.Elements.{All-get_or, All-nil, All-cons, All-head, All-tail}
-use Rattle.tpcc_rows.specs.declared.entry.Entry.{Entry}
+use Rattle.std.proofs.lemmas.List.Elements.{All-nil, All-cons, All-head, All-tail}
 use Rattle.tpcc_rows.specs.declared.requests.Request.{Request}
 use Rattle.tpcc_population.specs.declared.opening.Opening.{Opening}
 use Rattle.tpcc_book.specs.Purses.{Held}
@@ -15,7 +14,7 @@ use Rattle.tpcc_core.specs.SeatSteps.{waiting, kept_of}
 use Rattle.tpcc_core.specs.Desks.{DeskNow, collected_of}
 use Rattle.tpcc_core.specs.Started.{started}
 use Rattle.tpcc_core.specs.Flights.{under_way, unserved}
-use Rattle.tpcc_core.specs.Traces.{posts_of, served_of, entries_from, entries_by, IsRecorded, IsAllOrAllButLast}
+use Rattle.tpcc_core.specs.Traces.{entries_from, entries_by, IsRecorded, IsAllOrAllButLast}
 use Rattle.tpcc_core.specs.After.{After, is_in_range, posted, served}
 use Rattle.tpcc_core.proofs.Begins.{begun, start_sound}
 use Rattle.tpcc_core.proofs.Sound.{Leads, passes_lead, head_in_range, tail_in_range}

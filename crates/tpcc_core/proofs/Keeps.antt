@@ -1,6 +1,6 @@
 -- The book of a desk is kept whatever happens.
-use Rattle.std.proofs.Common.{◌≡◌, ◌∙◌, sym, ap, refl, subst, ℕ, ◌≤◌, Bool, true, false, List, [], ◌∷◌, arith}
-use Rattle.std.specs.Prelude.{Option, Result, Ok, Err, pos}
+use Rattle.std.proofs.Common.{◌≡◌, ◌∙◌, sym, ap, refl, subst, ℕ, Bool, true, false, List, [], ◌∷◌, arith}
+use Rattle.std.specs.Prelude.{Option, Result, Ok, Err}
 use Rattle.std.specs.List.{list_all}
 use Rattle.std.specs.Result.{ForOk, ForErr}
 use Rattle.std.proofs.lemmas.Int.{ints}
@@ -11,15 +11,12 @@ use Rattle.tpcc_rows.specs.Moments.{has_moment_in_range}
 use Rattle.tpcc_population.specs.declared.opening.Opening.{Opening}
 use Rattle.tpcc_population.specs.Opening.{opening_scale, opening_rows, IsSoundOpening}
 use Rattle.tpcc_book.specs.Past.{Past, IsKept, opened}
-use Rattle.tpcc_book.specs.Purses.{Held}
-use Rattle.tpcc_book.specs.Told.{Told}
 use Rattle.tpcc_book.specs.Turn.{Accepts, Refuses}
-use Rattle.tpcc_book.specs.Serve.{IsServed}
 use Rattle.tpcc_book.proofs.Keeps.{KeepLaws, PayLaws, after-kept}
 use Rattle.tpcc_core.specs.declared.event.Event.{Event}
 use Rattle.tpcc_core.specs.declared.event.Event.TheVariants as event
 use Rattle.tpcc_core.specs.Desks.{DeskNow}
-use Rattle.tpcc_core.specs.Events.{is_ready, Steps, IsServedBy}
+use Rattle.tpcc_core.specs.Events.{is_ready, Steps}
 use Rattle.tpcc_core.specs.Runs.{MovesBy, Passes}
 use Rattle.tpcc_core.specs.Started.{started}
 use Rattle.tpcc_core.specs.After.{After, is_in_range}

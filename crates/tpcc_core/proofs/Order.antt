@@ -1,5 +1,5 @@
 -- A letter or its answer is in one place alone, whatever happens.
-use Rattle.std.proofs.Common.{◌≡◌, ◌∙◌, sym, ap, refl, subst, ℕ, zero, suc, Bool, true, false, cond, ◌⊎◌, inl, inr, ⊎_elim, List, [], ◌∷◌, ◌++◌, length, nat_lt}
+use Rattle.std.proofs.Common.{◌≡◌, ◌∙◌, sym, ap, refl, subst, ℕ, zero, suc, Bool, true, false, ⊎_elim, List, [], ◌∷◌, ◌++◌, length}
 use Rattle.std.specs.Prelude.{Option, Some, None, slice_get, ◌↔◌}
 use Rattle.tpcc_rows.specs.declared.requests.Request.{Request}
 use Rattle.tpcc_population.specs.declared.opening.Opening.{Opening}
@@ -10,12 +10,12 @@ use Rattle.tpcc_core.specs.declared.mailbox.Hand.{Hand}
 use Rattle.tpcc_core.specs.declared.mailbox.Hand.TheVariants as hand
 use Rattle.tpcc_core.specs.declared.mailbox.Mailbox.{Mailbox}
 use Rattle.tpcc_core.specs.declared.mailbox.Mailbox.TheVariants as box
-use Rattle.tpcc_core.specs.Seats.{SeatNow, is_free, is_answered, is_taken}
+use Rattle.tpcc_core.specs.Seats.{SeatNow, is_taken}
 use Rattle.tpcc_core.specs.SeatSteps.{sent, emptied}
 use Rattle.tpcc_core.specs.Desks.{DeskNow, place_of, item_in, item, told}
 use Rattle.tpcc_core.specs.Hands.{holds_answer}
 use Rattle.tpcc_core.specs.Events.{tests_in, tests_at, answer_place, can_answer, is_ready, Steps, IsPostedAt, IsTakenAt, IsServedBy, IsAnsweredBy, IsCollectedAt}
-use Rattle.tpcc_core.specs.Flights.{held_for, taken_by, AreApart, IsOrdered}
+use Rattle.tpcc_core.specs.Flights.{held_for, taken_by, IsOrdered}
 use Rattle.tpcc_core.specs.Started.{seats_of, hands_of, seat_of, started}
 use Rattle.tpcc_core.specs.Runs.{MovesBy, Passes}
 use Rattle.tpcc_core.proofs.Places.{same-item}

@@ -1,13 +1,12 @@
 -- What every event keeps, and what a list of them comes to for each terminal.
-use Rattle.std.proofs.Common.{◌≡◌, ◌∙◌, sym, ap, refl, subst, ℕ, zero, suc, Bool, true, false, cond, eqb, List, [], ◌∷◌, ◌++◌, length, map, ◌&&◌, arith}
-use Rattle.std.specs.Prelude.{Option, Some, None, Result, Ok, Err, MatchResult, slice_get}
+use Rattle.std.proofs.Common.{◌≡◌, ◌∙◌, sym, ap, refl, subst, ℕ, Bool, true, false, cond, eqb, List, [], ◌∷◌, ◌++◌, map, arith}
+use Rattle.std.specs.Prelude.{Some, None, Result, Ok, Err, MatchResult}
 use Rattle.std.specs.List.{list_all}
 use Rattle.tpcc_rows.specs.declared.requests.Request.{Request}
 use Rattle.tpcc_rows.specs.declared.replies.Reply.{Reply}
 use Rattle.tpcc_rows.specs.declared.refusals.Refusal.{Refusal}
 use Rattle.tpcc_rows.specs.Moments.{has_moment_in_range}
 use Rattle.tpcc_rows.specs.Replay.{paid_by_request}
-use Rattle.tpcc_population.specs.declared.opening.Opening.{Opening}
 use Rattle.tpcc_book.specs.Past.{Past}
 use Rattle.tpcc_book.specs.Purses.{Held}
 use Rattle.tpcc_book.specs.Told.{Told}
@@ -15,24 +14,20 @@ use Rattle.tpcc_book.specs.Serve.{IsServed, credited}
 use Rattle.tpcc_core.specs.declared.event.Event.{Event}
 use Rattle.tpcc_core.specs.declared.event.Event.TheVariants as event
 use Rattle.tpcc_core.specs.declared.mailbox.Collected.{Collected}
-use Rattle.tpcc_core.specs.declared.mailbox.Hand.{Hand}
 use Rattle.tpcc_core.specs.declared.mailbox.Hand.TheVariants as hand
 use Rattle.tpcc_core.specs.declared.mailbox.Letter.{Letter}
-use Rattle.tpcc_core.specs.declared.mailbox.Mailbox.{Mailbox}
 use Rattle.tpcc_core.specs.declared.mailbox.Mailbox.TheVariants as box
-use Rattle.tpcc_core.specs.Seats.{SeatNow}
-use Rattle.tpcc_core.specs.SeatSteps.{kept_of, waiting}
+use Rattle.tpcc_core.specs.SeatSteps.{kept_of}
 use Rattle.tpcc_core.specs.Desks.{DeskNow, item, told, collected_of}
 use Rattle.tpcc_core.specs.Events.{is_ready, Steps, IsServedBy}
 use Rattle.tpcc_core.specs.Runs.{MovesBy, Passes}
-use Rattle.tpcc_core.specs.Started.{started, seats_of, hands_of, seat_of}
-use Rattle.tpcc_core.specs.Flights.{held_for, IsOrdered, under_way, unserved, returned}
+use Rattle.tpcc_core.specs.Flights.{held_for, IsOrdered, under_way, unserved}
 use Rattle.tpcc_core.specs.Shares.{purses_in}
-use Rattle.tpcc_core.specs.Traces.{asked_by, answer_in, answered_by, posts_of, served_of, entries_from, entries_by, IsRecorded}
+use Rattle.tpcc_core.specs.Traces.{asked_by, answer_in, answered_by, posts_of, served_of}
 use Rattle.tpcc_core.specs.After.{is_in_range}
 use Rattle.tpcc_core.proofs.Items.{was_at, is_at}
-use Rattle.tpcc_core.proofs.Order.{step_ordered, start_ordered}
-use Rattle.tpcc_core.proofs.UnderWay.{Trip, IsAnswerTo, trip_stays, quiet_trip, serve_trip, further, way_held, taker_in}
+use Rattle.tpcc_core.proofs.Order.{step_ordered}
+use Rattle.tpcc_core.proofs.UnderWay.{Trip, IsAnswerTo, trip_stays, quiet_trip, serve_trip, further, way_held}
 use Rattle.tpcc_core.proofs.Journals.{Records, nothing_new, later_records, serve_records, answer_for}
 
 -- ---- requests whose moments are in range

@@ -1,6 +1,6 @@
 -- What the purses of a desk add up to.
-use Rattle.std.proofs.Common.{◌≡◌, ◌∙◌, sym, ap, refl, subst, ℕ, zero, suc, ◌+◌, ◌-◌, ◌*◌, ◌≤◌, Bool, true, false, List, [], ◌∷◌, ◌++◌, length, arith}
-use Rattle.std.specs.Prelude.{Option, Some, None, Result, Ok, Err, MatchResult, slice_get, slice_set, ℤ, pos, ◌+ℤ◌, ◌-ℤ◌}
+use Rattle.std.proofs.Common.{◌≡◌, ◌∙◌, sym, ap, refl, subst, ℕ, zero, suc, ◌+◌, ◌≤◌, Bool, true, false, List, [], ◌∷◌, ◌++◌, length, arith}
+use Rattle.std.specs.Prelude.{Option, Some, Result, Ok, Err, MatchResult, slice_get, slice_set, ℤ, pos, ◌+ℤ◌}
 use Rattle.std.specs.List.{flat_map, sum_by}
 use Rattle.std.specs.Result.{ForOk, ForErr}
 use Rattle.std.proofs.lemmas.Int.{ints}
@@ -14,18 +14,17 @@ use Rattle.tpcc_rows.specs.declared.refusals.Refusal.{Refusal}
 use Rattle.tpcc_rows.specs.Replay.{paid_by_entries, paid_by_request}
 use Rattle.tpcc_rows.proofs.ListLemmas.{total-append}
 use Rattle.tpcc_population.specs.declared.opening.Opening.{Opening}
-use Rattle.tpcc_book.specs.Past.{Past, IsKept, rise_of}
+use Rattle.tpcc_book.specs.Past.{Past, IsKept}
 use Rattle.tpcc_book.specs.Purses.{Held}
-use Rattle.tpcc_book.specs.Told.{Told}
 use Rattle.tpcc_book.specs.Turn.{entry_of, Accepts, Refuses}
-use Rattle.tpcc_book.specs.Serve.{IsServed, credited, rooms_of, entries_of, paid_of}
+use Rattle.tpcc_book.specs.Serve.{credited}
 use Rattle.tpcc_core.specs.declared.event.Event.{Event}
 use Rattle.tpcc_core.specs.declared.event.Event.TheVariants as event
 use Rattle.tpcc_core.specs.declared.mailbox.Hand.{Hand}
 use Rattle.tpcc_core.specs.declared.mailbox.Hand.TheVariants as hand
 use Rattle.tpcc_core.specs.declared.mailbox.Mailbox.{Mailbox}
 use Rattle.tpcc_core.specs.declared.mailbox.Mailbox.TheVariants as box
-use Rattle.tpcc_core.specs.Seats.{SeatNow, is_free, is_taken, is_answered}
+use Rattle.tpcc_core.specs.Seats.{SeatNow, is_taken}
 use Rattle.tpcc_core.specs.SeatSteps.{sent, emptied, collected_from}
 use Rattle.tpcc_core.specs.Desks.{DeskNow}
 use Rattle.tpcc_core.specs.Events.{is_ready, Steps, IsChangedAt, IsPostedAt, IsTakenAt, IsServedBy, IsAnsweredBy, IsCollectedAt}

@@ -44,7 +44,8 @@ fn status() -> Request {
 fn push_turn(events: &mut Vec<Event>, server: u32, terminal: u32) -> Result<(), AllocError> {
     events.push(Event::Serve { server })?;
     events.push(Event::Answer { server })?;
-    events.push(Event::Collect { terminal })
+    events.push(Event::Collect { terminal })?;
+    Ok(())
 }
 
 /// The first terminal's payment on its way to the server and back; the second take isn't ready.
