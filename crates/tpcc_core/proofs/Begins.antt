@@ -37,8 +37,8 @@ seat_at : (count place : ℕ) (x : SeatNow Held) → slice_get (seats_of count) 
 seat_at zero place x is = absurd cc
 seat_at (suc count) place x is =
     ⊎_elim (λ (h : slice_get (seats_of count) place ≡ Some x). seat_at count place x h)
-        (λ (h : (place ≡ length (seats_of count)) × (x ≡ seat_of (suc count))). h.1 ∙ ap (λ k. seat_of (suc k)) (sym (h.0 ∙ seats-length count)))
-        (snoc_get (seats_of count) (seat_of (suc count)) place x is)
+    (λ (h : (place ≡ length (seats_of count)) × (x ≡ seat_of (suc count))). h.1 ∙ ap (λ k. seat_of (suc k)) (sym (h.0 ∙ seats-length count)))
+    (snoc_get (seats_of count) (seat_of (suc count)) place x is)
 
 seat_numbered : (count t : ℕ) → (item (seats_of count) t ≡ None) ⊎ (item (seats_of count) t ≡ Some (seat_of t))
 seat_numbered count t = by_place (place_of t (length (seats_of count))) refl

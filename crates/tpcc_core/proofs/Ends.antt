@@ -79,7 +79,7 @@ pub collected_recorded : (opening : Opening) (terminals servers : ℕ) (events :
     → All (IsRecorded desk.book.entries t) (collected_of desk t)
 collected_recorded opening terminals servers events desk after t =
     all_first (IsRecorded desk.book.entries t) (collected_of desk t) (waiting (under_way desk t))
-        (subst (All (IsRecorded desk.book.entries t)) (served_is opening terminals servers events desk after t) (all_recorded opening terminals servers events desk after t))
+    (subst (All (IsRecorded desk.book.entries t)) (served_is opening terminals servers events desk after t) (all_recorded opening terminals servers events desk after t))
 
 -- one list of events after another
 and_true : (a b : Bool) → a ≡ true → b ≡ true → a && b ≡ true

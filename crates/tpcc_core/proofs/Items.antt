@@ -61,8 +61,8 @@ pub told_kept : {X Y : Type 0} (none : Y) (f : X → Y) (xs ys : List X) (number
     → IsChangedAt xs number was is ys → f is ≡ f was → told none f (item ys other) ≡ told none f (item xs other)
 told_kept none f xs ys number was is other c same =
     ⊎_elim (λ (e : other ≡ number).
-          ap (λ n. told none f (item ys n)) e
-          ∙ (told_of none f ys number is (is_at xs ys number was is c)
-          ∙ (same ∙ (sym (told_of none f xs number was (was_at xs ys number was is c)) ∙ ap (λ n. told none f (item xs n)) (sym e)))))
-        (λ (apart : other ≡ number → ⊥). ap (told none f) (else_at xs ys number was is other c apart))
-        (same_number other number)
+    ap (λ n. told none f (item ys n)) e
+    ∙ (told_of none f ys number is (is_at xs ys number was is c)
+    ∙ (same ∙ (sym (told_of none f xs number was (was_at xs ys number was is c)) ∙ ap (λ n. told none f (item xs n)) (sym e)))))
+    (λ (apart : other ≡ number → ⊥). ap (told none f) (else_at xs ys number was is other c apart))
+    (same_number other number)

@@ -39,10 +39,10 @@ nothing_new t old new same =
 entered_more : (t : ℕ) (xs ys : List Collected) (n : ℕ) (request : Request) (o : Result Reply Refusal)
     → ((k : ℕ) → entries_from t k (xs ++ ys) ≡ entries_from t k xs ++ entries_from t (k + length (entries_from t k xs)) ys)
     → entered t n request o (λ k. entries_from t k (xs ++ ys))
-      ≡ entered t n request o (λ k. entries_from t k xs) ++ entries_from t (n + length (entered t n request o (λ k. entries_from t k xs))) ys
+    ≡ entered t n request o (λ k. entries_from t k xs) ++ entries_from t (n + length (entered t n request o (λ k. entries_from t k xs))) ys
 entered_more t xs ys n request (Ok reply) rest =
     ap (λ es. record { terminal = t; number = n; request = request; reply = reply } ∷ es)
-        (rest (n + 1) ∙ ap (λ k. entries_from t (n + 1) xs ++ entries_from t k ys) (omega arith))
+    (rest (n + 1) ∙ ap (λ k. entries_from t (n + 1) xs ++ entries_from t k ys) (omega arith))
 entered_more t xs ys n request (Err refusal) rest = rest n
 
 entries_more : (t : ℕ) (xs ys : List Collected) (n : ℕ) → entries_from t n (xs ++ ys) ≡ entries_from t n xs ++ entries_from t (n + length (entries_from t n xs)) ys
@@ -137,22 +137,22 @@ turn_records old new purse request asked place (Ok reply) t same accepts refuses
     let c : Collected = record { request = asked; outcome = Ok reply; place = place } in
     let number : purse.entries ≡ count_of purse.terminal old.entries = (accepted_by old purse.terminal purse.entries request a.none_applies).number_is in
     subst (λ es. Records t old.entries es (answer_for purse.terminal t c)) (sym (ap (λ (p : Past). p.entries) a.new_is))
-        (⊎_elim
-            (λ (yes : (eqb purse.terminal t ≡ true) × (purse.terminal ≡ t)). subst (λ b. Records t old.entries (old.entries ++ entry ∷ []) (cond b (c ∷ []) [])) (sym yes.0)
-              (own_entry t old.entries entry c reply refl a.place_is
-                  (the_entry purse.terminal t purse.entries (length (entries_by t old.entries)) request asked (reply_to old.state request) reply
-                      yes.1 (number ∙ (ap (λ k. count_of k old.entries) yes.1 ∙ sym (length-filter (λ e. eqb e.terminal t) old.entries))) (sym same) (sym a.reply_is))))
-            (λ (not : (eqb purse.terminal t ≡ false) × (purse.terminal ≢ t)). subst (λ b. Records t old.entries (old.entries ++ entry ∷ []) (cond b (c ∷ []) [])) (sym not.0)
-              (other_entry t old.entries entry not.1))
-            (eqb_tells purse.terminal t))
+    (⊎_elim
+    (λ (yes : (eqb purse.terminal t ≡ true) × (purse.terminal ≡ t)). subst (λ b. Records t old.entries (old.entries ++ entry ∷ []) (cond b (c ∷ []) [])) (sym yes.0)
+    (own_entry t old.entries entry c reply refl a.place_is
+    (the_entry purse.terminal t purse.entries (length (entries_by t old.entries)) request asked (reply_to old.state request) reply
+    yes.1 (number ∙ (ap (λ k. count_of k old.entries) yes.1 ∙ sym (length-filter (λ e. eqb e.terminal t) old.entries))) (sym same) (sym a.reply_is))))
+    (λ (not : (eqb purse.terminal t ≡ false) × (purse.terminal ≢ t)). subst (λ b. Records t old.entries (old.entries ++ entry ∷ []) (cond b (c ∷ []) [])) (sym not.0)
+    (other_entry t old.entries entry not.1))
+    (eqb_tells purse.terminal t))
 turn_records old new purse request asked place (Err refusal) t same accepts refuses =
     let r = refuses refusal refl in
     let c : Collected = record { request = asked; outcome = Err refusal; place = place } in
     subst (λ es. Records t old.entries es (answer_for purse.terminal t c)) (sym (ap (λ (p : Past). p.entries) r.same))
-        (⊎_elim
-            (λ (yes : (eqb purse.terminal t ≡ true) × (purse.terminal ≡ t)). subst (λ b. Records t old.entries old.entries (cond b (c ∷ []) [])) (sym yes.0) (refused t old.entries c refusal refl r.no_place))
-            (λ (not : (eqb purse.terminal t ≡ false) × (purse.terminal ≢ t)). subst (λ b. Records t old.entries old.entries (cond b (c ∷ []) [])) (sym not.0) (nothing_new t old.entries old.entries refl))
-            (eqb_tells purse.terminal t))
+    (⊎_elim
+    (λ (yes : (eqb purse.terminal t ≡ true) × (purse.terminal ≡ t)). subst (λ b. Records t old.entries old.entries (cond b (c ∷ []) [])) (sym yes.0) (refused t old.entries c refusal refl r.no_place))
+    (λ (not : (eqb purse.terminal t ≡ false) × (purse.terminal ≢ t)). subst (λ b. Records t old.entries old.entries (cond b (c ∷ []) [])) (sym not.0) (nothing_new t old.entries old.entries refl))
+    (eqb_tells purse.terminal t))
 
 -- the answer of a served request, of this terminal or another
 pub serve_records : (old new : Past) (request : Request) (purse : Held) (answer : Told Held) (t : ℕ) → IsServed old request purse answer new

@@ -36,22 +36,22 @@ joined : (h h' k k' : ℕ → Option ℕ) (s t : ℕ) → Points h k → k t ≡
     → ((n : ℕ) → (n ≡ s → ⊥) → h' n ≡ h n) → ((n : ℕ) → (n ≡ t → ⊥) → k' n ≡ k n) → Points h' k'
 joined h h' k k' s t points none here there h_else k_else a b is =
     ⊎_elim (λ (e : a ≡ s).
-          let f : t ≡ b = same-item t b (sym here ∙ (ap h' (sym e) ∙ is)) in
-          ap k' (sym f) ∙ (there ∙ ap (λ n. Some n) (sym e)))
-        (λ (apart : a ≡ s → ⊥).
-          let was : k b ≡ Some a = points a b (sym (h_else a apart) ∙ is) in
-          k_else b (λ f. nothing (k b) a (ap k f ∙ none) was) ∙ was)
-        (same_number a s)
+    let f : t ≡ b = same-item t b (sym here ∙ (ap h' (sym e) ∙ is)) in
+    ap k' (sym f) ∙ (there ∙ ap (λ n. Some n) (sym e)))
+    (λ (apart : a ≡ s → ⊥).
+    let was : k b ≡ Some a = points a b (sym (h_else a apart) ∙ is) in
+    k_else b (λ f. nothing (k b) a (ap k f ∙ none) was) ∙ was)
+    (same_number a s)
 
 -- one pair less
 parted : (h h' k k' : ℕ → Option ℕ) (s t : ℕ) → Points h k → k t ≡ Some s → h' s ≡ None
     → ((n : ℕ) → (n ≡ s → ⊥) → h' n ≡ h n) → ((n : ℕ) → (n ≡ t → ⊥) → k' n ≡ k n) → Points h' k'
 parted h h' k k' s t points pair none h_else k_else a b is =
     ⊎_elim (λ (e : a ≡ s). absurd (nothing (h' a) b (ap h' e ∙ none) is))
-        (λ (apart : a ≡ s → ⊥).
-          let was : k b ≡ Some a = points a b (sym (h_else a apart) ∙ is) in
-          k_else b (λ f. apart (same-item a s (sym was ∙ (ap k f ∙ pair)))) ∙ was)
-        (same_number a s)
+    (λ (apart : a ≡ s → ⊥).
+    let was : k b ≡ Some a = points a b (sym (h_else a apart) ∙ is) in
+    k_else b (λ f. apart (same-item a s (sym was ∙ (ap k f ∙ pair)))) ∙ was)
+    (same_number a s)
 
 -- the same in both
 kept : (h h' k k' : ℕ → Option ℕ) → AreMates h k → ((n : ℕ) → h' n ≡ h n) → ((n : ℕ) → k' n ≡ k n) → AreMates h' k'
@@ -82,20 +82,20 @@ emptied_taken (box.Answered a) = refl
 post_ordered : (d m : DeskNow) (t : ℕ) (q : Request) → IsOrdered d → IsPostedAt d t q m → IsOrdered m
 post_ordered d m t q ordered p =
     kept (hand_of d.hands) (hand_of m.hands) (taker_of d.seats) (taker_of m.seats) ordered
-        (λ n. ap (λ (x : DeskNow). hand_of x.hands n) p.rest)
-        (λ n. told_kept None (λ seat. taken_by seat.mailbox) d.seats m.seats t p.seat (record p.seat { mailbox = sent p.seat.mailbox q }) n p.seats (sent_taken p.seat.mailbox q))
+    (λ n. ap (λ (x : DeskNow). hand_of x.hands n) p.rest)
+    (λ n. told_kept None (λ seat. taken_by seat.mailbox) d.seats m.seats t p.seat (record p.seat { mailbox = sent p.seat.mailbox q }) n p.seats (sent_taken p.seat.mailbox q))
 
 collect_ordered : (d m : DeskNow) (t : ℕ) → IsOrdered d → IsCollectedAt d t m → IsOrdered m
 collect_ordered d m t ordered p =
     kept (hand_of d.hands) (hand_of m.hands) (taker_of d.seats) (taker_of m.seats) ordered
-        (λ n. ap (λ (x : DeskNow). hand_of x.hands n) p.rest)
-        (λ n. told_kept None (λ seat. taken_by seat.mailbox) d.seats m.seats t p.seat _ n p.seats (emptied_taken p.seat.mailbox))
+    (λ n. ap (λ (x : DeskNow). hand_of x.hands n) p.rest)
+    (λ n. told_kept None (λ seat. taken_by seat.mailbox) d.seats m.seats t p.seat _ n p.seats (emptied_taken p.seat.mailbox))
 
 serve_ordered : (d m : DeskNow) (s : ℕ) → IsOrdered d → IsServedBy d s m → IsOrdered m
 serve_ordered d m s ordered p =
     kept (hand_of d.hands) (hand_of m.hands) (taker_of d.seats) (taker_of m.seats) ordered
-        (λ n. told_kept None held_for d.hands m.hands s p.held p.holds n p.hands (ap held_for p.served.is ∙ sym (ap held_for p.served.was)))
-        (λ n. ap (λ (x : DeskNow). taker_of x.seats n) p.rest)
+    (λ n. told_kept None held_for d.hands m.hands s p.held p.holds n p.hands (ap held_for p.served.is ∙ sym (ap held_for p.served.was)))
+    (λ n. ap (λ (x : DeskNow). taker_of x.seats n) p.rest)
 
 take_ordered : (d m : DeskNow) (s t : ℕ) → IsOrdered d → IsTakenAt d s t m → IsOrdered m
 take_ordered d m s t ordered p =
@@ -162,9 +162,10 @@ free_seats zero place x is = absurd cc
 free_seats (suc count) place x is = snoc_all (λ seat. taken_by seat.mailbox) (seats_of count) (seat_of (suc count)) (free_seats count) refl place x is
 
 pub start_ordered : (opening : Opening) (terminals servers : ℕ) → IsOrdered (started opening terminals servers)
-start_ordered opening terminals servers a b =
-    (λ is. absurd (nothing _ b (told_none held_for (hands_of servers) (empty_hands servers) (place_of a (length (hands_of {P = Held} servers)))) is),
-     λ is. absurd (nothing _ a (told_none (λ seat. taken_by seat.mailbox) (seats_of terminals) (free_seats terminals) (place_of b (length (seats_of terminals)))) is))
+start_ordered opening terminals servers a b = (
+  λ is. absurd (nothing _ b (told_none held_for (hands_of servers) (empty_hands servers) (place_of a (length (hands_of {P = Held} servers)))) is),
+  λ is. absurd (nothing _ a (told_none (λ seat. taken_by seat.mailbox) (seats_of terminals) (free_seats terminals) (place_of b (length (seats_of terminals)))) is),
+)
 
 -- ---- an answer in a hand has its mailbox waiting for it
 

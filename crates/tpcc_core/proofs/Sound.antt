@@ -106,8 +106,8 @@ serve_step d m s n sound p =
     let is : item m.hands s ≡ Some (hand.Served p.served.terminal answer) = is_at d.hands m.hands s p.held p.holds p.hands ∙ ap (λ h. Some h) p.served.is in
     let told_is : answered_by n (event.Serve s) m ≡ answer_for p.served.terminal n (kept_of answer) = ap (told [] (answer_in n)) is in
     subst (Records n d.book.entries m.book.entries) (sym told_is)
-        (subst (λ k. Records n d.book.entries m.book.entries (answer_for k n (kept_of answer))) (served_purse d m s sound p)
-            (serve_records d.book m.book p.served.letter.request p.served.letter.purse answer n p.served.served))
+    (subst (λ k. Records n d.book.entries m.book.entries (answer_for k n (kept_of answer))) (served_purse d m s sound p)
+    (serve_records d.book m.book p.served.letter.request p.served.letter.purse answer n p.served.served))
 
 step_records : (d : DeskNow) (e : Event) (m : DeskNow) → IsSound d → Steps d e m → (n : ℕ) → Records n d.book.entries m.book.entries (answered_by n e m)
 step_records d (event.Post t q) m sound step n = nothing_new n d.book.entries m.book.entries (ap (λ (x : DeskNow). x.book.entries) step.rest)

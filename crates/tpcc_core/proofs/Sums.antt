@@ -61,9 +61,9 @@ worth f d = f d.first +ℤ (total (in_seat f) d.seats +ℤ total (in_hand f) d.h
 worth_is : (f : Held → ℤ) (d : DeskNow) → total f (purses_of d) ≡ worth f d
 worth_is f d =
     ap (λ n. f d.first +ℤ n)
-        (total-append f (flat_map (λ seat. purses_in seat.mailbox) d.seats) (flat_map purses_held d.hands)
-        ∙ (ap (λ n. n +ℤ total f (flat_map purses_held d.hands)) (total_flat f (λ seat. purses_in seat.mailbox) d.seats)
-        ∙ ap (λ n. total (in_seat f) d.seats +ℤ n) (total_flat f purses_held d.hands)))
+    (total-append f (flat_map (λ seat. purses_in seat.mailbox) d.seats) (flat_map purses_held d.hands)
+    ∙ (ap (λ n. n +ℤ total f (flat_map purses_held d.hands)) (total_flat f (λ seat. purses_in seat.mailbox) d.seats)
+    ∙ ap (λ n. total (in_seat f) d.seats +ℤ n) (total_flat f purses_held d.hands)))
 
 -- ---- events without a turn move purses
 

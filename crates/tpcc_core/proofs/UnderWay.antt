@@ -82,7 +82,7 @@ stays w c = record { posts = append-nil (unserved w); served = append-nil (c ++ 
 pub trip_stays : (t : ℕ) (d m : DeskNow) → under_way m t ≡ under_way d t → collected_of m t ≡ collected_of d t → Trip t d m [] []
 trip_stays t d m way collected =
     travels_at (under_way d t) (under_way d t) (under_way d t) (under_way m t) (collected_of d t) (collected_of d t) (collected_of d t) (collected_of m t) [] []
-        refl way refl collected (stays (under_way d t) (collected_of d t))
+    refl way refl collected (stays (under_way d t) (collected_of d t))
 
 -- ---- Post
 
@@ -98,11 +98,11 @@ post_here d m t q p =
     let letter : Letter Held = record { request = q; purse = free.0 } in
     let new = record p.seat { mailbox = sent p.seat.mailbox q } in
     travels_at (box.Free free.0) (box.Posted letter) (under_way d t) (under_way m t) p.seat.collected p.seat.collected (collected_of d t) (collected_of m t) (q ∷ []) []
-        (told_of home (λ seat. brought_back d.hands seat.mailbox) d.seats t p.seat (was_at d.seats m.seats t p.seat new p.seats) ∙ ap (brought_back d.hands) free.1)
-        (told_of home (λ seat. brought_back m.hands seat.mailbox) m.seats t new (is_at d.seats m.seats t p.seat new p.seats) ∙ ap (λ b. brought_back m.hands (sent b q)) free.1)
-        (told_of [] (λ seat. seat.collected) d.seats t p.seat (was_at d.seats m.seats t p.seat new p.seats))
-        (told_of [] (λ seat. seat.collected) m.seats t new (is_at d.seats m.seats t p.seat new p.seats))
-        (record { posts = refl; served = append-nil (p.seat.collected ++ []); purses = refl })
+    (told_of home (λ seat. brought_back d.hands seat.mailbox) d.seats t p.seat (was_at d.seats m.seats t p.seat new p.seats) ∙ ap (brought_back d.hands) free.1)
+    (told_of home (λ seat. brought_back m.hands seat.mailbox) m.seats t new (is_at d.seats m.seats t p.seat new p.seats) ∙ ap (λ b. brought_back m.hands (sent b q)) free.1)
+    (told_of [] (λ seat. seat.collected) d.seats t p.seat (was_at d.seats m.seats t p.seat new p.seats))
+    (told_of [] (λ seat. seat.collected) m.seats t new (is_at d.seats m.seats t p.seat new p.seats))
+    (record { posts = refl; served = append-nil (p.seat.collected ++ []); purses = refl })
 
 -- what is the same of all seats but one
 seats_else : (d m : DeskNow) (t other : ℕ) → m.hands ≡ d.hands → item m.seats other ≡ item d.seats other → Trip other d m [] []
@@ -112,10 +112,10 @@ seats_else d m t other hands same =
 post_trip : (d m : DeskNow) (t : ℕ) (q : Request) → IsPostedAt d t q m → (n : ℕ) → Trip n d m (asked_by n (event.Post t q)) []
 post_trip d m t q p n =
     ⊎_elim
-        (λ (yes : (eqb t n ≡ true) × (t ≡ n)). subst (λ b. Trip n d m (cond b (q ∷ []) []) []) (sym yes.0) (subst (λ k. Trip k d m (q ∷ []) []) yes.1 (post_here d m t q p)))
-        (λ (not : (eqb t n ≡ false) × (t ≢ n)). subst (λ b. Trip n d m (cond b (q ∷ []) []) []) (sym not.0)
-            (seats_else d m t n (ap (λ (x : DeskNow). x.hands) p.rest) (else_at d.seats m.seats t _ _ n p.seats (λ e. not.1 (sym e)))))
-        (eqb_tells t n)
+    (λ (yes : (eqb t n ≡ true) × (t ≡ n)). subst (λ b. Trip n d m (cond b (q ∷ []) []) []) (sym yes.0) (subst (λ k. Trip k d m (q ∷ []) []) yes.1 (post_here d m t q p)))
+    (λ (not : (eqb t n ≡ false) × (t ≢ n)). subst (λ b. Trip n d m (cond b (q ∷ []) []) []) (sym not.0)
+    (seats_else d m t n (ap (λ (x : DeskNow). x.hands) p.rest) (else_at d.seats m.seats t _ _ n p.seats (λ e. not.1 (sym e)))))
+    (eqb_tells t n)
 
 -- ---- Collect
 
@@ -131,18 +131,18 @@ collect_here d m t p =
     let answer = answered.0 in
     let new = collected_from p.seat in
     travels_at (box.Answered answer) (box.Free answer.purse) (under_way d t) (under_way m t) p.seat.collected (p.seat.collected ++ kept_of answer ∷ []) (collected_of d t) (collected_of m t) [] []
-        (told_of home (λ seat. brought_back d.hands seat.mailbox) d.seats t p.seat (was_at d.seats m.seats t p.seat new p.seats) ∙ ap (brought_back d.hands) answered.1)
-        (told_of home (λ seat. brought_back m.hands seat.mailbox) m.seats t new (is_at d.seats m.seats t p.seat new p.seats) ∙ ap (λ b. brought_back m.hands (emptied b)) answered.1)
-        (told_of [] (λ seat. seat.collected) d.seats t p.seat (was_at d.seats m.seats t p.seat new p.seats))
-        (told_of [] (λ seat. seat.collected) m.seats t new (is_at d.seats m.seats t p.seat new p.seats) ∙ ap (λ b. p.seat.collected ++ waiting b) answered.1)
-        (record { posts = refl; served = refl; purses = refl })
+    (told_of home (λ seat. brought_back d.hands seat.mailbox) d.seats t p.seat (was_at d.seats m.seats t p.seat new p.seats) ∙ ap (brought_back d.hands) answered.1)
+    (told_of home (λ seat. brought_back m.hands seat.mailbox) m.seats t new (is_at d.seats m.seats t p.seat new p.seats) ∙ ap (λ b. brought_back m.hands (emptied b)) answered.1)
+    (told_of [] (λ seat. seat.collected) d.seats t p.seat (was_at d.seats m.seats t p.seat new p.seats))
+    (told_of [] (λ seat. seat.collected) m.seats t new (is_at d.seats m.seats t p.seat new p.seats) ∙ ap (λ b. p.seat.collected ++ waiting b) answered.1)
+    (record { posts = refl; served = refl; purses = refl })
 
 collect_trip : (d m : DeskNow) (t : ℕ) → IsCollectedAt d t m → (n : ℕ) → Trip n d m [] []
 collect_trip d m t p n =
     ⊎_elim
-        (λ (yes : (eqb t n ≡ true) × (t ≡ n)). subst (λ k. Trip k d m [] []) yes.1 (collect_here d m t p))
-        (λ (not : (eqb t n ≡ false) × (t ≢ n)). seats_else d m t n (ap (λ (x : DeskNow). x.hands) p.rest) (else_at d.seats m.seats t _ _ n p.seats (λ e. not.1 (sym e))))
-        (eqb_tells t n)
+    (λ (yes : (eqb t n ≡ true) × (t ≡ n)). subst (λ k. Trip k d m [] []) yes.1 (collect_here d m t p))
+    (λ (not : (eqb t n ≡ false) × (t ≢ n)). seats_else d m t n (ap (λ (x : DeskNow). x.hands) p.rest) (else_at d.seats m.seats t _ _ n p.seats (λ e. not.1 (sym e))))
+    (eqb_tells t n)
 
 -- ---- Take and Answer: the letter or answer goes between a mailbox and a hand, and is under way as before
 
@@ -164,12 +164,12 @@ take_trip d m s t ordered p n =
     let after : under_way m t ≡ box.Posted p.letter = way_held m.hands s (hand.Holds t p.letter) (item m.seats t) (told_of None (λ seat. taken_by seat.mailbox) m.seats t new is) letter in
     let empty : told None held_for (item d.hands s) ≡ None = ap (told None held_for) (was_at d.hands m.hands s hand.Empty (hand.Holds t p.letter) p.hands) in
     trip_stays n d m
-        (⊎_elim
-            (λ (yes : (eqb t n ≡ true) × (t ≡ n)). subst (λ k. under_way m k ≡ under_way d k) yes.1 (after ∙ sym before))
-            (λ (not : (eqb t n ≡ false) × (t ≢ n)).
-              way_other d m s n ordered (λ other. else_at d.hands m.hands s _ _ other p.hands) (λ held. nothing _ n empty held) (else_at d.seats m.seats t _ _ n p.seats (λ e. not.1 (sym e))))
-            (eqb_tells t n))
-        (told_kept [] (λ seat. seat.collected) d.seats m.seats t p.seat new n p.seats refl)
+    (⊎_elim
+    (λ (yes : (eqb t n ≡ true) × (t ≡ n)). subst (λ k. under_way m k ≡ under_way d k) yes.1 (after ∙ sym before))
+    (λ (not : (eqb t n ≡ false) × (t ≢ n)).
+    way_other d m s n ordered (λ other. else_at d.hands m.hands s _ _ other p.hands) (λ held. nothing _ n empty held) (else_at d.seats m.seats t _ _ n p.seats (λ e. not.1 (sym e))))
+    (eqb_tells t n))
+    (told_kept [] (λ seat. seat.collected) d.seats m.seats t p.seat new n p.seats refl)
   where
     nothing : (o : Option ℕ) (a : ℕ) → o ≡ None → o ≡ Some a → ⊥
     nothing o a h k = absurd cc
@@ -184,12 +184,12 @@ answer_trip d m s ordered p n =
     let before : under_way d t ≡ box.Answered p.answer = way_held d.hands s (hand.Served t p.answer) (item d.seats t) ((ordered s t).0 held) answer in
     let after : under_way m t ≡ box.Answered p.answer = told_of home (λ seat. brought_back m.hands seat.mailbox) m.seats t new is in
     trip_stays n d m
-        (⊎_elim
-            (λ (yes : (eqb t n ≡ true) × (t ≡ n)). subst (λ k. under_way m k ≡ under_way d k) yes.1 (after ∙ sym before))
-            (λ (not : (eqb t n ≡ false) × (t ≢ n)).
-              way_other d m s n ordered (λ other. else_at d.hands m.hands s _ _ other p.hands) (not_same _ t n held not.1) (else_at d.seats m.seats t _ _ n p.seats (λ e. not.1 (sym e))))
-            (eqb_tells t n))
-        (told_kept [] (λ seat. seat.collected) d.seats m.seats t p.seat new n p.seats refl)
+    (⊎_elim
+    (λ (yes : (eqb t n ≡ true) × (t ≡ n)). subst (λ k. under_way m k ≡ under_way d k) yes.1 (after ∙ sym before))
+    (λ (not : (eqb t n ≡ false) × (t ≢ n)).
+    way_other d m s n ordered (λ other. else_at d.hands m.hands s _ _ other p.hands) (not_same _ t n held not.1) (else_at d.seats m.seats t _ _ n p.seats (λ e. not.1 (sym e))))
+    (eqb_tells t n))
+    (told_kept [] (λ seat. seat.collected) d.seats m.seats t p.seat new n p.seats refl)
 
 -- ---- Serve: the letter in the hand becomes its answer
 
@@ -221,16 +221,16 @@ serve_trip d m s ordered p to n =
     let after : under_way m t ≡ box.Answered answer = way_held m.hands s (hand.Served t answer) (item m.seats t) (ap taker_in (same t) ∙ taken) is in
     let told_is : answered_by n (event.Serve s) m ≡ cond (eqb t n) (kept_of answer ∷ []) [] = ap (told [] (answer_in n)) is in
     let here : Trip t d m [] (kept_of answer ∷ []) =
-      travels_at (box.Posted letter) (box.Answered answer) (under_way d t) (under_way m t) (collected_of d t) (collected_of d t) (collected_of d t) (collected_of m t) [] (kept_of answer ∷ [])
-          before after refl (ap (told [] (λ seat. seat.collected)) (same t)) (answers letter answer (collected_of d t) to) in
+    travels_at (box.Posted letter) (box.Answered answer) (under_way d t) (under_way m t) (collected_of d t) (collected_of d t) (collected_of d t) (collected_of m t) [] (kept_of answer ∷ [])
+    before after refl (ap (told [] (λ seat. seat.collected)) (same t)) (answers letter answer (collected_of d t) to) in
     subst (Trip n d m []) (sym told_is)
-        (⊎_elim
-            (λ (yes : (eqb t n ≡ true) × (t ≡ n)). subst (λ b. Trip n d m [] (cond b (kept_of answer ∷ []) [])) (sym yes.0) (subst (λ k. Trip k d m [] (kept_of answer ∷ [])) yes.1 here))
-            (λ (not : (eqb t n ≡ false) × (t ≢ n)). subst (λ b. Trip n d m [] (cond b (kept_of answer ∷ []) [])) (sym not.0)
-              (trip_stays n d m
-                  (way_other d m s n ordered (λ other. else_at d.hands m.hands s _ _ other p.hands) (not_same _ t n held not.1) (same n))
-                  (ap (told [] (λ seat. seat.collected)) (same n))))
-            (eqb_tells t n))
+    (⊎_elim
+    (λ (yes : (eqb t n ≡ true) × (t ≡ n)). subst (λ b. Trip n d m [] (cond b (kept_of answer ∷ []) [])) (sym yes.0) (subst (λ k. Trip k d m [] (kept_of answer ∷ [])) yes.1 here))
+    (λ (not : (eqb t n ≡ false) × (t ≢ n)). subst (λ b. Trip n d m [] (cond b (kept_of answer ∷ []) [])) (sym not.0)
+    (trip_stays n d m
+    (way_other d m s n ordered (λ other. else_at d.hands m.hands s _ _ other p.hands) (not_same _ t n held not.1) (same n))
+    (ap (told [] (λ seat. seat.collected)) (same n))))
+    (eqb_tells t n))
 
 -- ---- one event after another
 

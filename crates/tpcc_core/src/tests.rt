@@ -210,7 +210,10 @@ fn by_two_servers<N: Naming, R: Abort>(rt: &R, alloc: Global, blanks: Blanks) ->
     step_all(rt, &mut desk, overtaking(alloc)?, 3);
     assert_eq!(rt; entry_at(&desk, 0), Some((2, Some(Cents::new(-1_000)))));
     assert_eq!(rt; entry_at(&desk, 1), Some((1, Some(Cents::new(-1_100)))));
-    assert_eq!(rt; (first_place(&desk, 1), first_place(&desk, 2)), (Some(1), Some(0)));
+    assert_eq!(rt;
+        (first_place(&desk, 1), first_place(&desk, 2)),
+        (Some(1), Some(0))
+    );
     assert_eq!(rt; at_terminal(&desk, 1), (Some((1, Cents::new(100))), 1));
     assert_eq!(rt; at_terminal(&desk, 2), (Some((1, Cents::new(0))), 1));
     Ok(())
