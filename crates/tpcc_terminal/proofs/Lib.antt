@@ -1,3 +1,6 @@
 pub mod WorkedScreens
 pub mod Chains
+pub mod Decks
 pub mod Districts
+pub mod Drawn
+pub mod Standing

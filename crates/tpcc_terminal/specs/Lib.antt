@@ -1,3 +1,6 @@
 pub mod Adding
+pub mod Cards
+pub mod Receipts
 pub mod Report
 pub mod Screens
+pub mod Terminals

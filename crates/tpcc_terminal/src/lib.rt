@@ -1,20 +1,33 @@
-//! What terminals show: the screens of answers, and the report of a run.
+//! What terminals ask and show: requests from decks of cards, receipts, the screens of answers, and the report of a run.
 #![tactic(auto)]
 
 mod answer_screen;
 mod answers;
+mod deal;
 mod delivery;
+mod drafts;
+mod draws;
+mod home;
+pub mod laws;
 mod lines;
 mod new_order;
 mod order_status;
 mod payment;
+#[cfg(test)]
+mod receipt_tests;
+mod receipts;
 mod refusal;
 mod report;
 mod stock_level;
+mod terminal;
+#[cfg(test)]
+mod terminal_tests;
 #[cfg(test)]
 mod tests;
 
 pub use answer_screen::screen;
 pub use answers::{broken_screen, consistent_screen, refusal_screen, reply_screen, results_screen};
 pub use lines::Screen;
+pub use receipts::{Numbered, Receipt};
 pub use report::Report;
+pub use terminal::Terminal;

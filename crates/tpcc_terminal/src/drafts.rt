@@ -1,0 +1,157 @@
+//! What a card's draws gave: the numbers of a request, before its texts are made.
+ghost use Rattle.std.specs.Prelude.{◌≡◌, ◌<◌, IfOk};
+ghost use Rattle.tpcc_terminal.specs.Cards.{who_of, order_of, payment_of, request_of};
+
+use crate::home::Home;
+use std::alloc::Global;
+use std::marker::Model;
+use tpcc_draws::last_name;
+use tpcc_money::{Cents, Moment, NoMemory};
+use tpcc_rows::{Lines, Order, Payment, Request, StatusQuery, StockQuery, Ticket, Who};
+
+/// The number of a last name (4.3.2.3), 0 to 999, seen as that number.
+#[derive(Clone, Copy)]
+pub struct NameNumber {
+    number: u32,
+}
+
+impl Model for NameNumber {
+    ghost use Rattle.std.specs.Prelude.{ℕ, ◌<◌};
+
+    ghost Value = { ℕ };
+
+    ghost view = { λ n. n.number };
+
+    ghost inverse = { λ n. record { number = n } };
+
+    ghost invariant = { λ n. n.number < 1000 };
+}
+
+impl NameNumber {
+    /// The name of this number.
+    pub fn new(number: u32) -> NameNumber
+        requires small { number < 1000 }
+        ensures number { result ≡ number }
+    {
+        NameNumber { number }
+    }
+
+    fn get(self) -> u32
+        ensures number { result ≡ self }
+        ensures small { result < 1000 }
+    {
+        self.number
+    }
+}
+
+/// A customer by last name or by C_ID (2.5.1.2, 2.6.1.2).
+#[derive(Clone, Copy)]
+pub enum DrawnCustomer {
+    Name(NameNumber),
+    Number(u32),
+}
+
+impl DrawnCustomer {
+    fn who(self, alloc: Global) -> Result<Who, NoMemory>
+        ensures who { IfOk result (λ who. who ≡ who_of self) }
+    {
+        match self {
+            DrawnCustomer::Name(name) => Ok(Who::Name(last_name(alloc, name.get())?)),
+            DrawnCustomer::Number(number) => Ok(Who::Number(number)),
+        }
+    }
+}
+
+/// Of a New-Order (2.4.1).
+#[derive(Drop)]
+pub struct OrderDraft {
+    pub district: u32,
+    pub customer: u32,
+    pub lines: Lines,
+}
+
+/// Of a Payment (2.5.1): the district that is paid, the one of the customer who pays, and H_AMOUNT in cents.
+#[derive(Clone, Copy)]
+pub struct PaymentDraft {
+    pub district: u32,
+    pub customer_warehouse: u32,
+    pub customer_district: u32,
+    pub customer: DrawnCustomer,
+    pub cents: u32,
+}
+
+/// Of an Order-Status (2.6.1).
+#[derive(Clone, Copy)]
+pub struct StatusDraft {
+    pub district: u32,
+    pub customer: DrawnCustomer,
+}
+
+/// Of any card: a Delivery draws its carrier (2.7.1.2), a Stock-Level its threshold (2.8.1.2).
+#[derive(Drop)]
+pub enum Draft {
+    NewOrder(OrderDraft),
+    Payment(PaymentDraft),
+    OrderStatus(StatusDraft),
+    Delivery(u32),
+    StockLevel(u32),
+}
+
+impl Draft {
+    /// The request of a terminal at home there, at that moment. Refused only for want of memory.
+    pub fn request(&self, alloc: Global, home: Home, moment: Moment) -> Result<Request, NoMemory>
+        ensures request { IfOk result (λ request. request ≡ request_of home moment self.now) }
+    {
+        match self {
+            Draft::NewOrder(order) => Ok(Request::NewOrder(order.request(home, moment)?)),
+            Draft::Payment(payment) => Ok(Request::Payment(payment.request(alloc, home, moment)?)),
+            Draft::OrderStatus(status) => Ok(Request::Status(StatusQuery {
+                warehouse: home.warehouse,
+                district: status.district,
+                who: status.customer.who(alloc)?,
+            })),
+            Draft::Delivery(carrier) => Ok(Request::Delivery(Ticket {
+                warehouse: home.warehouse,
+                carrier: *carrier,
+                queued: moment,
+            })),
+            Draft::StockLevel(threshold) => Ok(Request::Stock(StockQuery {
+                warehouse: home.warehouse,
+                district: home.district,
+                threshold: *threshold,
+            })),
+        }
+    }
+}
+
+impl OrderDraft {
+    fn request(&self, home: Home, moment: Moment) -> Result<Order, NoMemory>
+        ensures order { IfOk result (λ order. order ≡ order_of home moment self.now) }
+    {
+        let lines = self.lines.duplicate()?;
+        Ok(Order {
+            warehouse: home.warehouse,
+            district: self.district,
+            customer: self.customer,
+            moment,
+            lines,
+        })
+    }
+}
+
+impl PaymentDraft {
+    fn request(&self, alloc: Global, home: Home, moment: Moment) -> Result<Payment, NoMemory>
+        ensures payment { IfOk result (λ payment. payment ≡ payment_of home moment self.now) }
+    {
+        let who = self.customer.who(alloc)?;
+        Ok(Payment {
+            warehouse: home.warehouse,
+            district: self.district,
+            customer_warehouse: self.customer_warehouse,
+            customer_district: self.customer_district,
+            who,
+            amount: Cents::new(i64::from(self.cents)),
+            moment,
+        })
+    }
+}

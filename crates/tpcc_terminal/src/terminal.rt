@@ -1,0 +1,107 @@
+//! A terminal.
+ghost use Rattle.std.specs.Prelude.{◌≡◌, ◌≤◌, ◌++◌, [], IfOk, OnOk, OnErr, vec_capacity};
+ghost use Rattle.tpcc_terminal.specs.Receipts.{receipts_of};
+ghost use Rattle.tpcc_terminal.specs.Terminals.{IsStarted, IsAsked};
+
+use crate::deal::deal;
+use crate::drafts::Draft;
+use crate::draws::draw;
+use crate::home::Home;
+use crate::receipts::{Numbered, Receipt, keep};
+use std::alloc::Global;
+use std::marker::Model;
+use tpcc_book::Answer;
+use tpcc_draws::{Card, Stream};
+use tpcc_money::{Moment, NoMemory};
+use tpcc_population::Scale;
+use tpcc_rows::{Line, Request};
+
+/// One terminal: it asks what its cards say, and keeps receipts of what was accepted (5.2.4.2). The
+/// draws of the next card are made ahead, so that a refused [`Terminal::next`] has changed nothing.
+#[derive(Drop)]
+pub struct Terminal {
+    alloc: Global,
+    number: u32,
+    scale: Scale,
+    draft: Draft,
+    cards: Vec<Card>,
+    stream: Stream,
+    receipts: Vec<Receipt>,
+}
+
+impl Model for Terminal {
+    ghost use Rattle.std.specs.Prelude.{◌≤◌};
+    ghost use Rattle.tpcc_terminal.specs.Terminals.{Station};
+
+    ghost Value = { Station };
+
+    ghost view = { λ t. record { number = t.number; scale = t.scale; draft = t.draft; cards = t.cards.items; generator = t.stream; receipts = t.receipts.items } };
+
+    ghost invariant = { λ t. 1 ≤ t.number };
+}
+
+impl Terminal {
+    /// Terminal `number`, counted from 1, of a population of this scale. Its draws are those of the
+    /// seed's stream for it. Refused only for want of memory.
+    pub fn new(alloc: Global, number: u32, scale: Scale, seed: u64) -> Result<Terminal, NoMemory>
+        requires number { 1 ≤ number }
+        ensures started { IfOk result (IsStarted number scale seed) }
+    {
+        let home = Home::of(number, scale);
+        let mut stream = Stream::of(seed, 10, u64::from(number));
+        let room = line_room(alloc)?;
+        let mut cards = Vec::new(alloc);
+        let card = deal(alloc, &mut cards, &mut stream)?;
+        let draft = draw(&mut stream, &home, card, room);
+        Ok(Terminal {
+            alloc,
+            number,
+            scale,
+            draft,
+            cards,
+            stream,
+            receipts: Vec::new(alloc),
+        })
+    }
+
+    /// The request of the next card, at a moment. Refused only for want of memory, and then the same
+    /// card comes again.
+    pub fn next(&mut self, moment: Moment) -> Result<Request, NoMemory>
+        ensures asked { IfOk result (λ request. IsAsked self.old moment request self.new) }
+        ensures refused { OnErr result (self.new ≡ self.old) }
+    {
+        let home = Home::of(self.number, self.scale);
+        let room = line_room(self.alloc)?;
+        let request = self.draft.request(self.alloc, home, moment)?;
+        let card = deal(self.alloc, &mut self.cards, &mut self.stream)?;
+        self.draft = draw(&mut self.stream, &home, card, room);
+        Ok(request)
+    }
+
+    /// Keeps the receipt of an accepted answer, by a purse with a seat or without one; of a refused
+    /// one there is nothing to keep. Refused only for want of memory, and then nothing has changed.
+    pub fn note<P: Numbered>(&mut self, answer: &Answer<P>) -> Result<(), NoMemory>
+        ensures noted { OnOk result (self.new ≡ record self.old { receipts = self.old.receipts ++ receipts_of P.held answer.now }) }
+        ensures refused { OnErr result (self.new ≡ self.old) }
+    {
+        keep(&mut self.receipts, answer)
+    }
+
+    /// The receipts of all accepted answers that were noted, in their order.
+    pub fn receipts(self) -> Vec<Receipt>
+        ensures receipts { result.items ≡ self.receipts }
+    {
+        self.receipts
+    }
+}
+
+// Room for the lines of any order.
+fn line_room(alloc: Global) -> Result<Vec<Line>, NoMemory>
+    ensures empty { IfOk result (λ room. room.items ≡ []) }
+    ensures room { IfOk result (λ room. 15 ≤ vec_capacity room) }
+{
+    match Vec::with_capacity(alloc, 15) {
+        Ok(room) => Ok(room),
+        Err(_) => Err(NoMemory),
+    }
+}
