@@ -2,3 +2,12 @@ pub mod Places
 pub mod Stepping
 pub mod Exactly
 pub mod Running
+pub mod Items
+pub mod Order
+pub mod UnderWay
+pub mod Journals
+pub mod Sound
+pub mod Begins
+pub mod Ends
+pub mod Keeps
+pub mod Sums

@@ -29,7 +29,7 @@ pub read_at : {X : Type 0} (seen xs : List X) (number place : ℕ) (x : X) (o : 
 read_at seen xs number place x o same numbered is bound value =
     (ap (λ ys. place_of number (length ys)) (sym same) ∙ sym numbered ∙ is, slice_get_read xs (length seen) place x (ap length same) bound value)
 
-same-item : {X : Type 0} (a b : X) → Some a ≡ Some b → a ≡ b
+pub same-item : {X : Type 0} (a b : X) → Some a ≡ Some b → a ≡ b
 same-item a b h = cc
 
 -- the same in its place

@@ -19,17 +19,21 @@ abbrev pub place_of : ℕ → ℕ → Option ℕ
 place_of zero count = None
 place_of (suc place) count = if nat_lt place count then Some place else None
 
--- what is there of a terminal's seat, or nothing where there is no such terminal
-abbrev pub purse_in : List (SeatNow Held) → Option ℕ → Option Held
-purse_in seats None = None
-purse_in seats (Some place) = unwrap_or (option_map (λ seat. purse_at seat.mailbox) (slice_get seats place)) None
+-- what is at a place, and what has a number
+abbrev pub item_in : {X : Type 0} → List X → Option ℕ → Option X
+item_in xs None = None
+item_in xs (Some place) = slice_get xs place
 
+abbrev pub item : {X : Type 0} → List X → ℕ → Option X
+item xs number = item_in xs (place_of number (length xs))
+
+-- what f tells of an item, and a value where there is none
+abbrev pub told : {X Y : Type 0} → Y → (X → Y) → Option X → Y
+told none f found = unwrap_or (option_map f found) none
+
+-- of a number of no terminal there is neither purse nor answer
 abbrev pub purse_of : DeskNow → ℕ → Option Held
-purse_of d terminal = purse_in d.seats (place_of terminal (length d.seats))
-
-abbrev pub collected_in : List (SeatNow Held) → Option ℕ → List Collected
-collected_in seats None = []
-collected_in seats (Some place) = unwrap_or (option_map (λ seat. seat.collected) (slice_get seats place)) []
+purse_of d terminal = told None (λ seat. purse_at seat.mailbox) (item d.seats terminal)
 
 abbrev pub collected_of : DeskNow → ℕ → List Collected
-collected_of d terminal = collected_in d.seats (place_of terminal (length d.seats))
+collected_of d terminal = told [] (λ seat. seat.collected) (item d.seats terminal)

@@ -1,5 +1,5 @@
 -- The six events: when each is ready, and what it does to a desk.
-use Rattle.std.specs.Prelude.{ℕ, ◌≡◌, Bool, true, false, ◌&&◌, List, length, slice_get, slice_set, Option, Some, None, option_map, unwrap_or}
+use Rattle.std.specs.Prelude.{ℕ, ◌≡◌, Bool, true, false, ◌&&◌, List, length, slice_get, slice_set, Option, Some, None}
 use Rattle.tpcc_rows.specs.declared.requests.Request.{Request}
 use Rattle.tpcc_book.specs.Purses.{Held}
 use Rattle.tpcc_book.specs.Told.{Told}
@@ -12,12 +12,11 @@ use Rattle.tpcc_core.specs.declared.mailbox.Letter.{Letter}
 use Rattle.tpcc_core.specs.Seats.{SeatNow, is_free, is_posted, is_taken, is_answered}
 use Rattle.tpcc_core.specs.SeatSteps.{sent, collected_from}
 use Rattle.tpcc_core.specs.Hands.{is_empty, holds_letter, answer_for, Serves}
-use Rattle.tpcc_core.specs.Desks.{DeskNow, place_of}
+use Rattle.tpcc_core.specs.Desks.{DeskNow, place_of, item_in, told}
 
 -- what has this number is so; nothing that is not there is
 abbrev pub tests_in : {X : Type 0} → (X → Bool) → List X → Option ℕ → Bool
-tests_in test xs None = false
-tests_in test xs (Some place) = unwrap_or (option_map test (slice_get xs place)) false
+tests_in test xs place = told false test (item_in xs place)
 
 abbrev pub tests_at : {X : Type 0} → (X → Bool) → List X → ℕ → Bool
 tests_at test xs number = tests_in test xs (place_of number (length xs))

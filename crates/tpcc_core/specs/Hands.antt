@@ -18,6 +18,11 @@ holds_letter hand.Empty = false
 holds_letter (hand.Holds terminal letter) = true
 holds_letter (hand.Served terminal answer) = false
 
+abbrev pub holds_answer : {P : Type 0} → Hand P → Bool
+holds_answer hand.Empty = false
+holds_answer (hand.Holds terminal letter) = false
+holds_answer (hand.Served terminal answer) = true
+
 -- the terminal of the answer that it holds
 abbrev pub answer_for : {P : Type 0} → Hand P → Option ℕ
 answer_for hand.Empty = None

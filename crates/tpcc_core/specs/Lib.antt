@@ -6,3 +6,7 @@ pub mod Events
 pub mod Exchanges
 pub mod Started
 pub mod Runs
+pub mod Flights
+pub mod Traces
+pub mod Shares
+pub mod After

@@ -3,7 +3,7 @@ ghost use Rattle.std.specs.Prelude.{◌≡◌, take, is_ok, ◌↔◌, ◌<◌, 
 ghost use Rattle.std.specs.Option.{option_copied};
 ghost use Rattle.tpcc_book.specs.Past.{IsKept};
 ghost use Rattle.tpcc_core.specs.Started.{started};
-ghost use Rattle.tpcc_core.specs.Runs.{Moves, Passes};
+ghost use Rattle.tpcc_core.specs.Runs.{Moves, Passes, StopsAt};
 ghost use Rattle.tpcc_core.specs.Desks.{place_of, purse_of, collected_of};
 ghost use Rattle.tpcc_core.specs.Events.{answer_place, is_ready, is_post, Steps, IsPostedAt, IsTakenAt, IsServedBy, IsAnsweredBy, IsCollectedAt, can_post, can_take, can_serve, can_answer, can_collect};
 
@@ -223,12 +223,13 @@ impl<N: Naming> Desk<N> {
         }
     }
 
-    #[tactic(auto, using(crate::proofs::Running::passes_more))]
-    /// The events in their order; one that is not ready is passed over. At the first want of memory it ends
-    /// with the number of events before that one.
+    #[tactic(auto, using(crate::proofs::Running::passes_more, crate::proofs::Running::stops))]
+    /// The events in their order; one that is not ready is passed over. At the first want of memory, which a ready Post
+    /// alone meets, it ends with the number of events before that one.
     pub fn run(&mut self, events: Vec<Event>) -> Result<(), u64>
         ensures all { OnOk result (Passes self.old events.items self.new) }
         ensures first { IfErr result (λ count. Passes self.old (take count events.items) self.new) }
+        ensures stops { IfErr result (λ count. StopsAt events.items count self.new) }
     {
         let mut count = 0u64;
         for event in events {

@@ -4,6 +4,7 @@
 mod desk;
 mod event;
 mod fault;
+pub mod laws;
 mod mailbox;
 mod opening;
 mod seat;

@@ -1,5 +1,7 @@
 //! The cards of terminals with a seed. The expected draws come from a second program in another language,
 //! written from the definitions of the generator, of the shuffle and of each card's draws.
+ghost use Rattle.std.specs.Prelude.{◌≤◌};
+
 use super::*;
 use std::alloc::Global;
 use std::test::Fail;
@@ -136,7 +138,7 @@ fn later_cards_of_terminal_1(rt: HostRuntime) -> Result<(), Fail> {
 }
 
 #[test]
-fn other_warehouses_and_unused_items(rt: HostRuntime) -> Result<(), Fail> {
+fn lines_from_other_warehouses(rt: HostRuntime) -> Result<(), Fail> {
     let alloc = rt.alloc();
     let lines = [
         (19, 1, 3),
@@ -152,10 +154,12 @@ fn other_warehouses_and_unused_items(rt: HostRuntime) -> Result<(), Fail> {
     ];
     let expected = order(alloc, 2, 6, 9, lines.as_slice())?;
     assert_eq!(rt; terminal(alloc, 8, 3, 164)?.next(moment())?, expected);
+    Ok(())
+}
 
-    let mut rolled_back = terminal(alloc, 8, 3, 86)?;
-    let expected = payment(2, 1, 3, 6, name(alloc, b"BARBARBAR")?, 349_405);
-    assert_eq!(rt; rolled_back.next(moment())?, expected);
+#[test]
+fn an_unused_item(rt: HostRuntime) -> Result<(), Fail> {
+    let alloc = rt.alloc();
     let lines = [
         (21, 2, 8),
         (98, 2, 3),
@@ -165,8 +169,13 @@ fn other_warehouses_and_unused_items(rt: HostRuntime) -> Result<(), Fail> {
         (101, 2, 4),
     ];
     let expected = order(alloc, 2, 9, 2, lines.as_slice())?;
-    assert_eq!(rt; rolled_back.next(moment())?, expected);
+    assert_eq!(rt; behind(&mut terminal(alloc, 8, 3, 86)?, 1)?, expected);
+    Ok(())
+}
 
+#[test]
+fn payers_of_other_warehouses(rt: HostRuntime) -> Result<(), Fail> {
+    let alloc = rt.alloc();
     let mut remote = terminal(alloc, 8, 3, 194)?;
     let expected = payment(2, 1, 1, 1, name(alloc, b"BARBARABLE")?, 136_386);
     assert_eq!(rt; behind(&mut remote, 2)?, expected);
