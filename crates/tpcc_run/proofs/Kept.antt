@@ -1,14 +1,16 @@
 -- Receipts that were kept stand in the fronts of purses that were kept.
-use Rattle.std.proofs.Common.{◌≡◌, ℕ, zero, suc, ◌+◌, ◌<◌, List, [], ◌∷◌, ◌++◌, length, slice_index_or, refl, subst, Some, arith, All}
-use Rattle.std.specs.Prelude.{slice_get}
-use Rattle.std.proofs.lemmas.List.{length-append}
+use Rattle.std.proofs.Common.{◌≡◌, ℕ, zero, suc, ◌+◌, ◌<◌, List, [], ◌∷◌, ◌++◌, length, slice_index_or, refl, sym, subst, Some, arith, All, ⊎_elim}
+use Rattle.std.specs.Prelude.{slice_get, Bool, true, false, if◌then◌else◌}
+use Rattle.std.proofs.lemmas.List.{length-append, get_or_append_left}
 use Rattle.std.proofs.lemmas.List.Elements.{All-append}
-use Rattle.std.proofs.lemmas.Grind.{get_or_append_left}
 use Rattle.tpcc_rows.specs.declared.entry.Entry.{Entry}
-use Rattle.tpcc_book.specs.Seats.{Seated}
+use Rattle.tpcc_rows.specs.declared.requests.Request.{Request}
+use Rattle.tpcc_book.specs.Told.{Told}
+use Rattle.tpcc_book.specs.Seats.{Seated, IsTurned}
 use Rattle.tpcc_terminal.specs.declared.receipts.Receipt.{Receipt}
-use Rattle.tpcc_terminal.specs.Receipts.{Stands, AllStand}
+use Rattle.tpcc_terminal.specs.Receipts.{Stands, AllStand, receipts_of}
 use Rattle.tpcc_audit.specs.Settlement.{IsSeen, AllSeen}
+use Rattle.tpcc_run.specs.Outcome.{KeepsSome}
 
 read_before : (xs ys : List Seated) (k : ℕ) (p : Seated) → slice_get xs k ≡ Some p → slice_get (xs ++ ys) k ≡ Some p
 read_before [] ys k p h = absurd (cc h)
@@ -34,7 +36,27 @@ pub seen_with : (purses : List Seated) (p : Seated) (before more : List Receipt)
 seen_with purses p before more seen stand =
     All-append (IsSeen (purses ++ p ∷ [])) before more (seen_before purses p before seen) (seen_last purses p more stand)
 
+-- with all of them, or without them where there was no room
+pub seen_appended : (purses held : List Seated) (p : Seated) (before more now : List Receipt) (ok : Bool) → AllSeen purses before → AllStand p.front more → held ≡ purses ++ p ∷ [] → now ≡ (if ok then before ++ more else before) → AllSeen held now
+seen_appended purses held p before more now true seen stand same is =
+    subst (λ (rs : List Receipt). AllSeen held rs) (sym is) (subst (λ (ps : List Seated). AllSeen ps (before ++ more)) (sym same) (seen_with purses p before more seen stand))
+seen_appended purses held p before more now false seen stand same is =
+    subst (λ (rs : List Receipt). AllSeen held rs) (sym is) (subst (λ (ps : List Seated). AllSeen ps before) (sym same) (seen_before purses p before seen))
+
 -- receipts that stand with more stand without
 pub stand_without : (entries : List Entry) (before more : List Receipt) → AllStand entries (before ++ more) → AllStand entries before
 stand_without entries before more all k d below =
     subst (Stands entries) (get_or_append_left before more d k below) (all k d (omega (arith, length-append before more, below)))
+
+-- the receipts that a terminal has after an answer stand in its purse's front
+pub stand_after : ((request : Request) (purse : Seated) (answer : Told Seated) (receipts : List Receipt) → IsTurned request purse answer → AllStand purse.front receipts → AllStand answer.purse.front (receipts ++ receipts_of (λ p. p.purse) answer))
+    → (request : Request) (purse held after : Seated) (answer : Told Seated) (before now : List Receipt)
+    → IsTurned request held answer → held ≡ purse → after ≡ answer.purse → AllStand purse.front before → KeepsSome before (receipts_of (λ p. p.purse) answer) now → AllStand after.front now
+stand_after law request purse held after answer before now turned same is stand kept =
+    let all = law request purse answer before (subst (λ (p : Seated). IsTurned request p answer) same turned) stand in
+    let more = receipts_of (λ (p : Seated). p.purse) answer in
+    let here : AllStand answer.purse.front now = ⊎_elim
+        (λ (e : now ≡ before ++ more). subst (AllStand answer.purse.front) (sym e) all)
+        (λ (e : now ≡ before). subst (AllStand answer.purse.front) (sym e) (stand_without answer.purse.front before more all))
+        kept in
+    subst (λ (p : Seated). AllStand p.front now) (sym is) here

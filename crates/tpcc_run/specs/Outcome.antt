@@ -1,8 +1,9 @@
 -- What a run is made of, and what it comes to.
-use Rattle.std.specs.Prelude.{ℕ, ◌≡◌, ◌≤◌, List, Option, length}
+use Rattle.std.specs.Prelude.{ℕ, ◌≡◌, ◌⊎◌, ◌≤◌, List, ◌++◌, Option, length}
 use Rattle.std.specs.Io.KnownBytes.{Appends}
 use Rattle.tpcc_population.specs.declared.opening.Opening.{Opening}
 use Rattle.tpcc_book.specs.Past.{Past, IsKept, rise_of}
+use Rattle.tpcc_terminal.specs.declared.receipts.Receipt.{Receipt}
 use Rattle.tpcc_terminal.specs.Report.{report_text}
 use Rattle.tpcc_run.specs.declared.plan.Plan.{Plan}
 
@@ -21,3 +22,7 @@ pub record HasReported (opening : Opening) (before after : Option (List ℕ)) : 
   pub opening_is : book.opening ≡ opening
   pub kept : IsKept book
   pub written : Appends before after (report_text (length book.entries) (rise_of book) (rise_of book))
+
+-- more receipts were added, or none
+abbrev pub KeepsSome : List Receipt → List Receipt → List Receipt → Type 0
+KeepsSome before more now = (now ≡ before ++ more) ⊎ (now ≡ before)

@@ -1,7 +1,8 @@
 //! One request of a terminal, from its mailbox to its receipt.
 ghost use Rattle.std.specs.Prelude.{◌≡◌, IfSome};
 ghost use Rattle.tpcc_mailbox.specs.Tokens.{identity, idle_origin};
-ghost use Rattle.tpcc_terminal.specs.Receipts.{AllStand};
+ghost use Rattle.tpcc_terminal.specs.Receipts.{AllStand, receipts_of};
+ghost use Rattle.tpcc_run.specs.Outcome.{KeepsSome};
 
 use crate::fault::RunFault;
 use crate::operator::Operator;
@@ -9,6 +10,8 @@ use std::sync::Wait;
 use tpcc_book::{Naming, SeatedPurse, Seating};
 use tpcc_rows::{Delivery, Reply, Request};
 use tpcc_server::{Job, JobAnswer, JobMailboxes, Turning, ask};
+use tpcc_terminal::Terminal;
+use tpcc_terminal::laws::receipts_stand;
 
 /// What became of a request.
 #[derive(Drop)]
@@ -42,10 +45,8 @@ pub(crate) fn ask_once<N: Naming, T: Seating, C: Turning, R: Wait>(
     let mut terminal = terminal;
     match ask(rt, mailboxes, idle, Job::of(request, purse, call)) {
         Ok((idle, answer)) => {
-            let fault = match terminal.note(&answer) {
-                Ok(()) => None,
-                Err(_) => Some(RunFault::NoMemory),
-            };
+            receipts_stand();
+            let fault = note(&mut terminal, &answer);
             let delivered = is_delivered(&answer);
             let purse = purse_of(answer);
             Asked {
@@ -63,6 +64,19 @@ pub(crate) fn ask_once<N: Naming, T: Seating, C: Turning, R: Wait>(
             delivered: false,
             fault: Some(RunFault::Missing),
         },
+    }
+}
+
+// Keeps the receipt, or tells that there was no room for it.
+fn note<N: Naming, T: Seating>(
+    terminal: &mut Terminal,
+    answer: &JobAnswer<N, T>,
+) -> Option<RunFault>
+    ensures kept { KeepsSome terminal.old.receipts (receipts_of (λ p. p.purse) answer.now) terminal.new.receipts }
+{
+    match terminal.note(answer) {
+        Ok(()) => None,
+        Err(_) => Some(RunFault::NoMemory),
     }
 }
 

@@ -5,6 +5,7 @@ ghost use Rattle.tpcc_audit.specs.Settlement.{AllSeen};
 
 use crate::fault::RunFault;
 use crate::operator::Operator;
+use crate::promises::Back;
 use std::alloc::Global;
 use tpcc_book::{Naming, SeatedPurse, Seating};
 use tpcc_terminal::Receipt;
@@ -30,16 +31,45 @@ impl<N: Naming, T: Seating> Gathered<N, T> {
 
     // Want of memory comes before a purse that is missing.
     pub(crate) fn note(&mut self, fault: RunFault)
-        ensures purses { self.new.purses ≡ self.old.purses }
-        ensures receipts { self.new.receipts ≡ self.old.receipts }
+        requires seen { AllSeen self.old.purses.items self.old.receipts.items }
+        ensures seen { AllSeen self.new.purses.items self.new.receipts.items }
     {
         if self.fault != Some(RunFault::NoMemory) {
             self.fault = Some(fault);
         }
     }
 
-    // The purse and the receipts of a terminal that came back.
-    pub(crate) fn keep<C>(&mut self, operator: Operator<N, T, C>)
+    // What a terminal's thread gave back.
+    pub(crate) fn take_in<C>(&mut self, back: Back<N, T, C>)
+        requires receipts { IfSome back.operator (λ s. AllStand s.purse.front s.terminal.receipts) }
+        requires seen { AllSeen self.old.purses.items self.old.receipts.items }
+        ensures seen { AllSeen self.new.purses.items self.new.receipts.items }
+    {
+        let Back { operator, fault } = back;
+        self.note_any(fault);
+        self.keep_any(operator);
+    }
+
+    fn note_any(&mut self, fault: Option<RunFault>)
+        requires seen { AllSeen self.old.purses.items self.old.receipts.items }
+        ensures seen { AllSeen self.new.purses.items self.new.receipts.items }
+    {
+        if let Some(fault) = fault {
+            self.note(fault);
+        }
+    }
+
+    fn keep_any<C>(&mut self, operator: Option<Operator<N, T, C>>)
+        requires receipts { IfSome operator (λ s. AllStand s.purse.front s.terminal.receipts) }
+        requires seen { AllSeen self.old.purses.items self.old.receipts.items }
+        ensures seen { AllSeen self.new.purses.items self.new.receipts.items }
+    {
+        if let Some(operator) = operator {
+            self.keep_operator(operator);
+        }
+    }
+
+    fn keep_operator<C>(&mut self, operator: Operator<N, T, C>)
         requires receipts { AllStand operator.purse.front operator.terminal.receipts }
         requires seen { AllSeen self.old.purses.items self.old.receipts.items }
         ensures seen { AllSeen self.new.purses.items self.new.receipts.items }
@@ -49,23 +79,36 @@ impl<N: Naming, T: Seating> Gathered<N, T> {
             purse,
             terminal,
         } = operator;
-        let mut receipts = terminal.receipts();
-        if self.purses.push(purse).is_err() {
-            self.note(RunFault::NoMemory);
-            return;
-        }
-        if self.receipts.append(&mut receipts).is_err() {
-            self.note(RunFault::NoMemory);
-        }
+        self.keep(purse, terminal.receipts());
     }
 
-    // A purse that made no entry.
-    pub(crate) fn keep_purse(&mut self, purse: SeatedPurse<N, T>)
+    // A purse with its receipts. Where there is no room they are let go.
+    pub(crate) fn keep(&mut self, purse: SeatedPurse<N, T>, receipts: Vec<Receipt>)
+        requires receipts { AllStand purse.front receipts.items }
         requires seen { AllSeen self.old.purses.items self.old.receipts.items }
         ensures seen { AllSeen self.new.purses.items self.new.receipts.items }
     {
-        if self.purses.push(purse).is_err() {
+        if !hold(&mut self.purses, &mut self.receipts, purse, receipts) {
             self.note(RunFault::NoMemory);
         }
     }
+}
+
+// Whether there was room for all of them.
+fn hold<N: Naming, T: Seating>(
+    purses: &mut Vec<SeatedPurse<N, T>>,
+    kept: &mut Vec<Receipt>,
+    purse: SeatedPurse<N, T>,
+    receipts: Vec<Receipt>,
+) -> bool
+    requires receipts { AllStand purse.front receipts.items }
+    requires seen { AllSeen purses.old.items kept.old.items }
+    ensures seen { AllSeen purses.new.items kept.new.items }
+{
+    if purses.reserve(1).is_err() {
+        return false;
+    }
+    purses.push_reserved(purse);
+    let mut receipts = receipts;
+    kept.append(&mut receipts).is_ok()
 }

@@ -5,7 +5,6 @@ ghost use Rattle.tpcc_terminal.specs.Receipts.{AllStand};
 ghost use Rattle.tpcc_audit.specs.Settlement.{AllSeen};
 
 use crate::gathered::Gathered;
-use crate::operator::Operator;
 use crate::promises::{Back, TerminalHandle};
 use std::thread::Threads;
 use tpcc_book::{Naming, Seating};
@@ -24,9 +23,7 @@ pub(crate) fn join_terminals<N: Naming, T: Seating, C, R: Threads>(
 {
     let mut handles = handles;
     while let Some(handle) = next_handle(&mut handles, mailboxes) {
-        if let Some(operator) = join_terminal(rt, handle, mailboxes, all) {
-            all.keep(operator);
-        }
+        all.take_in(join_terminal(rt, handle, mailboxes));
     }
 }
 
@@ -43,23 +40,16 @@ fn next_handle<N: Naming, T: Seating, C>(
     handles.pop()
 }
 
-/// Joins the thread of one terminal, and notes what stopped it.
+/// Joins the thread of one terminal.
 pub(crate) fn join_terminal<N: Naming, T: Seating, C, R: Threads>(
     rt: &R,
     handle: TerminalHandle<N, T, C>,
     mailboxes: &JobMailboxes<N, T, C>,
-    all: &mut Gathered<N, T>,
-) -> Option<Operator<N, T, C>>
+) -> Back<N, T, C>
     requires origin { idle_origin handle.promise.0.value ≡ identity mailboxes.now }
-    ensures origin { IfSome result (λ s. idle_origin s.idle ≡ identity mailboxes.now) }
-    ensures receipts { IfSome result (λ s. AllStand s.purse.front s.terminal.receipts) }
-    ensures purses { all.new.purses ≡ all.old.purses }
-    ensures kept { all.new.receipts ≡ all.old.receipts }
+    ensures origin { IfSome result.operator (λ s. idle_origin s.idle ≡ identity mailboxes.now) }
+    ensures receipts { IfSome result.operator (λ s. AllStand s.purse.front s.terminal.receipts) }
 {
     let _ = mailboxes;
-    let Back { operator, fault } = handle.join(rt);
-    if let Some(fault) = fault {
-        all.note(fault);
-    }
-    operator
+    handle.join(rt)
 }

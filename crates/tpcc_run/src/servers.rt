@@ -35,7 +35,7 @@ pub(crate) fn start_servers<
         let limit = if made == 0 { u64::MAX } else { later };
         let one = serving.split(mailboxes);
         if start_server(scope, rt, mailboxes, turns, one, limit) {
-            made += 1;
+            made = made.saturating_add(1);
         }
     }
     made

@@ -1,6 +1,7 @@
 //! The threads of a run.
 ghost use Rattle.std.specs.Prelude.{◌≡◌, ◌≤◌, ◌<◌, ◌+◌, All, IfSome};
 ghost use Rattle.tpcc_mailbox.specs.Tokens.{identity, idle_origin, serving_origin};
+ghost use Rattle.tpcc_terminal.specs.Receipts.{AllStand};
 ghost use Rattle.tpcc_audit.specs.Settlement.{AllSeen};
 
 use crate::drain::drain;
@@ -89,15 +90,37 @@ fn end_runner<
     requires seen { AllSeen all.old.purses.items all.old.receipts.items }
     ensures seen { AllSeen all.new.purses.items all.new.receipts.items }
 {
-    let Some(operator) = join_terminal(rt, runner, mailboxes, all) else {
-        return;
-    };
-    let Back { operator, fault } = drain(rt, alloc, mailboxes, operator, make, plan);
-    if let Some(fault) = fault {
-        all.note(fault);
-    }
-    if let Some(operator) = operator {
-        all.keep(operator);
+    let back = join_terminal(rt, runner, mailboxes);
+    all.take_in(drain_back(rt, alloc, mailboxes, back, make, plan));
+}
+
+// What a runner that nothing stopped still asks.
+fn drain_back<
+    N: Naming,
+    T: Seating,
+    C: Turning,
+    F: Fn(Global) -> Result<C, AllocError>,
+    R: Wait,
+>(
+    rt: &R,
+    alloc: Global,
+    mailboxes: &JobMailboxes<N, T, C>,
+    back: Back<N, T, C>,
+    make: &F,
+    plan: &Plan,
+) -> Back<N, T, C>
+    requires origin { IfSome back.operator (λ s. idle_origin s.idle ≡ identity mailboxes.now) }
+    requires receipts { IfSome back.operator (λ s. AllStand s.purse.front s.terminal.receipts) }
+    requires make { F.IsAlwaysCallable make.now }
+    ensures receipts { IfSome result.operator (λ s. AllStand s.purse.front s.terminal.receipts) }
+{
+    let Back { operator, fault } = back;
+    match operator {
+        Some(operator) if fault.is_none() => drain(rt, alloc, mailboxes, operator, make, plan),
+        other => Back {
+            operator: other,
+            fault,
+        },
     }
 }
 
@@ -159,7 +182,7 @@ fn drive<
         None => all.note(RunFault::NoMemory),
     }
     mailboxes.close(&mut serving);
-    all.keep_purse(first);
+    all.keep(first, Vec::new(alloc));
     all
 }
 
