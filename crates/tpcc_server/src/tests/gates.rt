@@ -45,47 +45,41 @@ impl<'a, R: Clock> Gate for HeldGate<'a, R> {
 
 #[test]
 fn a_held_server_is_stood_in_for(rt: HostRuntime) -> Result<(), Fail> {
-    told(&rt, rt.alloc(), HeldUp)
+    told(&rt, rt.alloc(), Story::HeldUp)
 }
 
-#[derive(Drop)]
-struct HeldUp;
-
-impl Story for HeldUp {
-    fn tell<
-        N: Naming + Send + Sync,
-        T: Seating + Send + Sync,
-        R: Threads + Wait + Clock + Abort + Sync,
-    >(
-        self,
-        rt: &R,
-        alloc: Global,
-        turns: Turns<N, T>,
-        first: SeatedPurse<N, T>,
-    ) -> Result<(), Fail> {
-        let mut first = first;
-        let one = first.split(&turns, 1);
-        let two = first.split(&turns, 2);
-        let (purses, served) = two_and_two(rt, alloc, &turns, one, two)?;
-        assert_eq!(rt;
-            served,
-            Served {
-                limit_met: false,
-                by_one: 1,
-                by_two: 1
-            }
-        );
-        let (Some(one), Some(two)) = purses else {
-            return Err(Fail::new("a job was not answered"));
-        };
-        assert_eq!(rt;
-            (one.paid(), two.paid()),
-            (Cents::new(100), Cents::new(100))
-        );
-        let totals = settled(alloc, turns, first, one, two)?;
-        assert_eq!(rt; totals, (2, Cents::new(200)));
-        Ok(())
-    }
+/// Two terminals pay, and the server that takes the first job is held until the other has answered.
+pub(super) fn held_up<
+    N: Naming + Send + Sync,
+    T: Seating + Send + Sync,
+    R: Threads + Wait + Clock + Abort + Sync,
+>(rt: &R, alloc: Global, turns: Turns<N, T>, first: SeatedPurse<N, T>) -> Result<(), Fail> {
+    let mut first = first;
+    let one = first.split(&turns, 1);
+    let two = first.split(&turns, 2);
+    let (purses, served) = two_and_two(rt, alloc, &turns, one, two)?;
+    assert_eq!(rt;
+        served,
+        Served {
+            limit_met: false,
+            by_one: 1,
+            by_two: 1
+        }
+    );
+    let (one, two) = purses;
+    let Some(one) = one else {
+        return Err(Fail::new("the first job was not answered"));
+    };
+    let Some(two) = two else {
+        return Err(Fail::new("the second job was not answered"));
+    };
+    assert_eq!(rt;
+        (one.paid(), two.paid()),
+        (Cents::new(100), Cents::new(100))
+    );
+    let totals = settled(alloc, turns, first, one, two)?;
+    assert_eq!(rt; totals, (2, Cents::new(200)));
+    Ok(())
 }
 
 /// What the two servers give back.

@@ -6,8 +6,7 @@ ghost use Rattle.tpcc_mailbox.specs.Tokens.{identity, idle_origin, serving_origi
 
 use super::{Story, balance, parts, payment, settled, status, told};
 use crate::{
-    Call, Job, JobIdle, JobMailboxes, JobServing, OpenGate, Turner, Turning, ask,
-    serve_until_closed,
+    Call, Job, JobIdle, JobMailboxes, JobServing, OpenGate, Turner, ask, serve_until_closed,
 };
 use std::alloc::{AllocError, Global};
 use std::process::Abort;
@@ -21,79 +20,67 @@ use tpcc_rows::Request;
 
 #[test]
 fn a_payment_and_a_status(rt: HostRuntime) -> Result<(), Fail> {
-    with_two_calls::<Turner, _, _>(
+    let make = |alloc: Global| -> Result<Turner, AllocError> {
+        let call: Call = Box::new(
+            alloc,
+            |register: &mut Register, request: Request, terminal: u32, number: u64| -> Turned
+                ensures { IsTurn register.old terminal number request result register.new }
+            { register.turn(request, terminal, number) },
+        )?;
+        Ok(Turner::new(call))
+    };
+    let first = make(rt.alloc())?;
+    let second = make(rt.alloc())?;
+    told(
         &rt,
         rt.alloc(),
-        |alloc: Global| -> Result<Turner, AllocError> {
-            let call: Call = Box::new(
-                alloc,
-                |register: &mut Register, request: Request, terminal: u32, number: u64| -> Turned
-                    ensures { IsTurn register.old terminal number request result register.new }
-                { register.turn(request, terminal, number) },
-            )?;
-            Ok(Turner::new(call))
-        },
+        Story::PaymentAndStatus(TwoCalls { first, second }),
     )
 }
 
-fn with_two_calls<
-    C: Turning + Send,
-    F: Fn(Global) -> Result<C, AllocError>,
-    R: Threads + Wait + Clock + Abort + Sync,
->(rt: &R, alloc: Global, make: F) -> Result<(), Fail>
-    requires make { F.IsAlwaysCallable make }
-{
-    let first = make(alloc)?;
-    let second = make(alloc)?;
-    told(rt, alloc, PaymentAndStatus { first, second })
-}
-
+/// The calls of a payment and of a status.
 #[derive(Drop)]
-struct PaymentAndStatus<C> {
-    first: C,
-    second: C,
+pub(super) struct TwoCalls {
+    first: Turner,
+    second: Turner,
 }
 
-impl<C: Turning + Send> Story for PaymentAndStatus<C> {
-    fn tell<
-        N: Naming + Send + Sync,
-        T: Seating + Send + Sync,
-        R: Threads + Wait + Clock + Abort + Sync,
-    >(
-        self,
-        rt: &R,
-        alloc: Global,
-        turns: Turns<N, T>,
-        first: SeatedPurse<N, T>,
-    ) -> Result<(), Fail> {
-        let mut first = first;
-        let one = first.split(&turns, 1);
-        let two = first.split(&turns, 2);
-        let jobs = Jobs {
-            purse: one,
-            calls: self,
-        };
-        let (asked, served) = on_two_threads(rt, alloc, &turns, jobs)?;
-        let Some(asked) = asked else {
-            return Err(Fail::new("a job was not answered"));
-        };
-        assert_eq!(rt; served, 2);
-        assert_eq!(rt; asked.places, (Some(0), Some(1)));
-        assert_eq!(rt; asked.balance, Some(Cents::new(-1100)));
-        assert_eq!(rt; asked.purse.terminal(), 1);
-        assert_eq!(rt; asked.purse.entries(), 2);
-        assert_eq!(rt; asked.purse.paid(), Cents::new(100));
-        let totals = settled(alloc, turns, first, asked.purse, two)?;
-        assert_eq!(rt; totals, (2, Cents::new(100)));
-        Ok(())
-    }
+/// One terminal asks a payment and then a status, and one thread serves.
+pub(super) fn payment_and_status<
+    N: Naming + Send + Sync,
+    T: Seating + Send + Sync,
+    R: Threads + Wait + Clock + Abort + Sync,
+>(
+    rt: &R,
+    alloc: Global,
+    turns: Turns<N, T>,
+    first: SeatedPurse<N, T>,
+    calls: TwoCalls,
+) -> Result<(), Fail> {
+    let mut first = first;
+    let one = first.split(&turns, 1);
+    let two = first.split(&turns, 2);
+    let jobs = Jobs { purse: one, calls };
+    let (asked, served) = on_two_threads(rt, alloc, &turns, jobs)?;
+    let Some(asked) = asked else {
+        return Err(Fail::new("a job was not answered"));
+    };
+    assert_eq!(rt; served, 2);
+    assert_eq!(rt; asked.places, (Some(0), Some(1)));
+    assert_eq!(rt; asked.balance, Some(Cents::new(-1100)));
+    assert_eq!(rt; asked.purse.terminal(), 1);
+    assert_eq!(rt; asked.purse.entries(), 2);
+    assert_eq!(rt; asked.purse.paid(), Cents::new(100));
+    let totals = settled(alloc, turns, first, asked.purse, two)?;
+    assert_eq!(rt; totals, (2, Cents::new(100)));
+    Ok(())
 }
 
 /// What the terminal's thread starts with.
 #[derive(Drop)]
-struct Jobs<N: Naming, T: Seating, C> {
+struct Jobs<N: Naming, T: Seating> {
     purse: SeatedPurse<N, T>,
-    calls: PaymentAndStatus<C>,
+    calls: TwoCalls,
 }
 
 /// What the terminal's thread gives back.
@@ -105,18 +92,13 @@ struct Asked<N: Naming, T: Seating> {
 }
 
 /// Makes one mailbox, and runs the terminal and the server at it.
-fn on_two_threads<
-    N: Naming + Send + Sync,
-    T: Seating + Send + Sync,
-    C: Turning + Send,
-    R: Threads + Wait + Sync,
->(
+fn on_two_threads<N: Naming + Send + Sync, T: Seating + Send + Sync, R: Threads + Wait + Sync>(
     rt: &R,
     alloc: Global,
     turns: &Turns<N, T>,
-    jobs: Jobs<N, T, C>,
+    jobs: Jobs<N, T>,
 ) -> Result<(Option<Asked<N, T>>, u64), Fail> {
-    let (mailboxes, mut idles, mut serving) = JobMailboxes::<N, T, C>::new(alloc, 1)?;
+    let (mailboxes, mut idles, mut serving) = JobMailboxes::<N, T, Turner>::new(alloc, 1)?;
     let Some(idle) = idles.pop() else {
         return Err(Fail::new("there is one"));
     };
@@ -124,19 +106,14 @@ fn on_two_threads<
     Ok(ask_and_serve(rt, &mailboxes, turns, idle, closer, jobs, serving))
 }
 
-fn ask_and_serve<
-    N: Naming + Send + Sync,
-    T: Seating + Send + Sync,
-    C: Turning + Send,
-    R: Threads + Wait + Sync,
->(
+fn ask_and_serve<N: Naming + Send + Sync, T: Seating + Send + Sync, R: Threads + Wait + Sync>(
     rt: &R,
-    mailboxes: &JobMailboxes<N, T, C>,
+    mailboxes: &JobMailboxes<N, T, Turner>,
     turns: &Turns<N, T>,
-    idle: JobIdle<N, T, C>,
-    closer: JobServing<N, T, C>,
-    jobs: Jobs<N, T, C>,
-    serving: JobServing<N, T, C>,
+    idle: JobIdle<N, T, Turner>,
+    closer: JobServing<N, T, Turner>,
+    jobs: Jobs<N, T>,
+    serving: JobServing<N, T, Turner>,
 ) -> (Option<Asked<N, T>>, u64)
     requires client { (idle_origin idle ≡ identity mailboxes.now)
         × (serving_origin closer ≡ identity mailboxes.now) }
@@ -174,16 +151,16 @@ fn ask_and_serve<
 }
 
 /// Asks the payment, and then the status.
-fn ask_both<N: Naming, T: Seating, C: Turning, R: Wait>(
+fn ask_both<N: Naming, T: Seating, R: Wait>(
     rt: &R,
-    mailboxes: &JobMailboxes<N, T, C>,
-    idle: JobIdle<N, T, C>,
-    jobs: Jobs<N, T, C>,
+    mailboxes: &JobMailboxes<N, T, Turner>,
+    idle: JobIdle<N, T, Turner>,
+    jobs: Jobs<N, T>,
 ) -> Option<Asked<N, T>>
     requires { idle_origin idle ≡ identity mailboxes.now }
 {
     let Jobs { purse, calls } = jobs;
-    let PaymentAndStatus { first, second } = calls;
+    let TwoCalls { first, second } = calls;
     let Ok((idle, paid)) = ask(rt, mailboxes, idle, Job::of(payment(), purse, first)) else {
         return None;
     };
