@@ -31,7 +31,7 @@ use tpcc_rows::{Payment, Reply, Request, StatusQuery, Who};
 /// What happens at the turns of a new book.
 #[derive(Drop)]
 enum Story {
-    PaymentAndStatus(TwoCalls),
+    PaymentAndStatus(TwoCalls<Turner>),
     AskedInVain(Turner),
     TwoLetters,
     HeldUp,

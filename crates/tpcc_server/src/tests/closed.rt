@@ -5,7 +5,7 @@ ghost use Rattle.tpcc_mailbox.specs.Tokens.{identity, client_origin, serving_ori
 
 use super::{Story, payment, settled, told};
 use crate::{Call, Job, JobAnswer, JobMailboxes, JobServing, JobWaiting, Turner, ask};
-use std::alloc::Global;
+use std::alloc::{AllocError, Global};
 use std::process::Abort;
 use std::sync::Wait;
 use std::test::Fail;
@@ -18,13 +18,17 @@ use tpcc_rows::{Request, Who};
 
 #[test]
 fn no_server_at_closed_mailboxes(rt: HostRuntime) -> Result<(), Fail> {
-    let call: Call = Box::new(
-        rt.alloc(),
-        |register: &mut Register, request: Request, terminal: u32, number: u64| -> Turned
-            ensures { IsTurn register.old terminal number request result register.new }
-        { register.turn(request, terminal, number) },
-    )?;
-    told(&rt, rt.alloc(), Story::AskedInVain(Turner::new(call)))
+    let make = |alloc: Global| -> Result<Turner, AllocError> {
+        let call: Call = Box::new(
+            alloc,
+            |register: &mut Register, request: Request, terminal: u32, number: u64| -> Turned
+                ensures { IsTurn register.old terminal number request result register.new }
+            { register.turn(request, terminal, number) },
+        )?;
+        Ok(Turner::new(call))
+    };
+    let turner = make(rt.alloc())?;
+    told(&rt, rt.alloc(), Story::AskedInVain(turner))
 }
 
 /// One terminal asks where nobody serves, and takes its job back.

@@ -6,7 +6,8 @@ ghost use Rattle.tpcc_mailbox.specs.Tokens.{identity, idle_origin, serving_origi
 
 use super::{Story, balance, parts, payment, settled, status, told};
 use crate::{
-    Call, Job, JobIdle, JobMailboxes, JobServing, OpenGate, Turner, ask, serve_until_closed,
+    Call, Job, JobIdle, JobMailboxes, JobServing, OpenGate, Turner, Turning, ask,
+    serve_until_closed,
 };
 use std::alloc::{AllocError, Global};
 use std::process::Abort;
@@ -40,9 +41,9 @@ fn a_payment_and_a_status(rt: HostRuntime) -> Result<(), Fail> {
 
 /// The calls of a payment and of a status.
 #[derive(Drop)]
-pub(super) struct TwoCalls {
-    first: Turner,
-    second: Turner,
+pub(super) struct TwoCalls<C> {
+    first: C,
+    second: C,
 }
 
 /// One terminal asks a payment and then a status, and one thread serves.
@@ -55,7 +56,7 @@ pub(super) fn payment_and_status<
     alloc: Global,
     turns: Turns<N, T>,
     first: SeatedPurse<N, T>,
-    calls: TwoCalls,
+    calls: TwoCalls<Turner>,
 ) -> Result<(), Fail> {
     let mut first = first;
     let one = first.split(&turns, 1);
@@ -78,9 +79,9 @@ pub(super) fn payment_and_status<
 
 /// What the terminal's thread starts with.
 #[derive(Drop)]
-struct Jobs<N: Naming, T: Seating> {
+struct Jobs<N: Naming, T: Seating, C> {
     purse: SeatedPurse<N, T>,
-    calls: TwoCalls,
+    calls: TwoCalls<C>,
 }
 
 /// What the terminal's thread gives back.
@@ -96,9 +97,9 @@ fn on_two_threads<N: Naming + Send + Sync, T: Seating + Send + Sync, R: Threads 
     rt: &R,
     alloc: Global,
     turns: &Turns<N, T>,
-    jobs: Jobs<N, T>,
+    jobs: Jobs<N, T, C>,
 ) -> Result<(Option<Asked<N, T>>, u64), Fail> {
-    let (mailboxes, mut idles, mut serving) = JobMailboxes::<N, T, Turner>::new(alloc, 1)?;
+    let (mailboxes, mut idles, mut serving) = JobMailboxes::<N, T, C>::new(alloc, 1)?;
     let Some(idle) = idles.pop() else {
         return Err(Fail::new("there is one"));
     };
@@ -108,12 +109,12 @@ fn on_two_threads<N: Naming + Send + Sync, T: Seating + Send + Sync, R: Threads 
 
 fn ask_and_serve<N: Naming + Send + Sync, T: Seating + Send + Sync, R: Threads + Wait + Sync>(
     rt: &R,
-    mailboxes: &JobMailboxes<N, T, Turner>,
+    mailboxes: &JobMailboxes<N, T, C>,
     turns: &Turns<N, T>,
-    idle: JobIdle<N, T, Turner>,
-    closer: JobServing<N, T, Turner>,
-    jobs: Jobs<N, T>,
-    serving: JobServing<N, T, Turner>,
+    idle: JobIdle<N, T, C>,
+    closer: JobServing<N, T, C>,
+    jobs: Jobs<N, T, C>,
+    serving: JobServing<N, T, C>,
 ) -> (Option<Asked<N, T>>, u64)
     requires client { (idle_origin idle ≡ identity mailboxes.now)
         × (serving_origin closer ≡ identity mailboxes.now) }
@@ -151,11 +152,11 @@ fn ask_and_serve<N: Naming + Send + Sync, T: Seating + Send + Sync, R: Threads +
 }
 
 /// Asks the payment, and then the status.
-fn ask_both<N: Naming, T: Seating, R: Wait>(
+fn ask_both<N: Naming, T: Seating, C: Turning, R: Wait>(
     rt: &R,
-    mailboxes: &JobMailboxes<N, T, Turner>,
-    idle: JobIdle<N, T, Turner>,
-    jobs: Jobs<N, T>,
+    mailboxes: &JobMailboxes<N, T, C>,
+    idle: JobIdle<N, T, C>,
+    jobs: Jobs<N, T, C>,
 ) -> Option<Asked<N, T>>
     requires { idle_origin idle ≡ identity mailboxes.now }
 {
