@@ -93,7 +93,12 @@ struct Asked<N: Naming, T: Seating> {
 }
 
 /// Makes one mailbox, and runs the terminal and the server at it.
-fn on_two_threads<N: Naming + Send + Sync, T: Seating + Send + Sync, R: Threads + Wait + Sync>(
+fn on_two_threads<
+    N: Naming + Send + Sync,
+    T: Seating + Send + Sync,
+    C: Turning + Send,
+    R: Threads + Wait + Sync,
+>(
     rt: &R,
     alloc: Global,
     turns: &Turns<N, T>,
@@ -107,7 +112,12 @@ fn on_two_threads<N: Naming + Send + Sync, T: Seating + Send + Sync, R: Threads 
     Ok(ask_and_serve(rt, &mailboxes, turns, idle, closer, jobs, serving))
 }
 
-fn ask_and_serve<N: Naming + Send + Sync, T: Seating + Send + Sync, R: Threads + Wait + Sync>(
+fn ask_and_serve<
+    N: Naming + Send + Sync,
+    T: Seating + Send + Sync,
+    C: Turning + Send,
+    R: Threads + Wait + Sync,
+>(
     rt: &R,
     mailboxes: &JobMailboxes<N, T, C>,
     turns: &Turns<N, T>,
