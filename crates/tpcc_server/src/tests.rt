@@ -66,13 +66,24 @@ fn at_its_turns<
 >(rt: &R, alloc: Global, turns: UnnamedTurns<N>, story: Story) -> Result<(), Fail>
     requires name { turns.table ≡ T.table }
 {
-    let (turns, first) = turns.named::<T>();
+    let (turns, mut first) = turns.named::<T>();
+    let one = first.split(&turns, 1);
+    let two = first.split(&turns, 2);
+    let purses = Purses { first, one, two };
     match story {
-        Story::PaymentAndStatus(calls) => payment_and_status(rt, alloc, turns, first, calls),
-        Story::AskedInVain(turner) => asked_in_vain(rt, alloc, turns, first, turner),
-        Story::TwoLetters => two_letters(rt, alloc, turns, first),
-        Story::HeldUp => held_up(rt, alloc, turns, first),
+        Story::PaymentAndStatus(calls) => payment_and_status(rt, alloc, turns, purses, calls),
+        Story::AskedInVain(turner) => asked_in_vain(rt, alloc, turns, purses, turner),
+        Story::TwoLetters => two_letters(rt, alloc, turns, purses),
+        Story::HeldUp => held_up(rt, alloc, turns, purses),
     }
+}
+
+/// All purses of a book: the first one, and those of the terminals 1 and 2.
+#[derive(Drop)]
+struct Purses<N: Naming, T: Seating> {
+    first: SeatedPurse<N, T>,
+    one: SeatedPurse<N, T>,
+    two: SeatedPurse<N, T>,
 }
 
 /// A turn without a box.
@@ -153,10 +164,9 @@ fn idle_pair<N: Naming, T: Seating, C>(
 fn settled<N: Naming, T: Seating>(
     alloc: Global,
     turns: Turns<N, T>,
-    first: SeatedPurse<N, T>,
-    one: SeatedPurse<N, T>,
-    two: SeatedPurse<N, T>,
+    purses: Purses<N, T>,
 ) -> Result<(u64, Cents), Fail> {
+    let Purses { first, one, two } = purses;
     let (book, first) = turns.close(first);
     let Some(mut book) = book else {
         return Err(Fail::new("a turn was not ended"));

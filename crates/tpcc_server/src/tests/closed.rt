@@ -3,7 +3,7 @@ ghost use Rattle.std.specs.Prelude.{◌≡◌, ◌∷◌, [], All, None};
 ghost use Rattle.tpcc_book.specs.Turn.{IsTurn};
 ghost use Rattle.tpcc_mailbox.specs.Tokens.{identity, client_origin, serving_origin};
 
-use super::{Story, payment, settled, told};
+use super::{Purses, Story, payment, settled, told};
 use crate::{Call, Job, JobAnswer, JobMailboxes, JobServing, JobWaiting, Turner, ask};
 use std::alloc::{AllocError, Global};
 use std::process::Abort;
@@ -40,19 +40,17 @@ pub(super) fn asked_in_vain<
     rt: &R,
     alloc: Global,
     turns: Turns<N, T>,
-    first: SeatedPurse<N, T>,
+    purses: Purses<N, T>,
     turner: Turner,
 ) -> Result<(), Fail> {
-    let mut first = first;
-    let one = first.split(&turns, 1);
-    let two = first.split(&turns, 2);
+    let Purses { first, one, two } = purses;
     let Turner { call } = turner;
     let job = Job::new(payment(), one, call);
     let (request, one) = no_answer(rt, alloc, job)?.give_back();
     assert!(rt; request == payment());
     assert_eq!(rt; one.terminal(), 1);
     assert_eq!(rt; one.entries(), 0);
-    let totals = settled(alloc, turns, first, one, two)?;
+    let totals = settled(alloc, turns, Purses { first, one, two })?;
     assert_eq!(rt; totals, (0, Cents::new(0)));
     Ok(())
 }

@@ -4,7 +4,7 @@ ghost use Rattle.std.specs.Thread.{IsSync};
 ghost use Rattle.tpcc_book.specs.Turn.{IsTurn};
 ghost use Rattle.tpcc_mailbox.specs.Tokens.{identity, idle_origin, serving_origin, serving_hand};
 
-use super::{Story, balance, parts, payment, settled, status, told};
+use super::{Purses, Story, balance, parts, payment, settled, status, told};
 use crate::{
     Call, Job, JobIdle, JobMailboxes, JobServing, OpenGate, Turner, Turning, ask,
     serve_until_closed,
@@ -55,12 +55,10 @@ pub(super) fn payment_and_status<
     rt: &R,
     alloc: Global,
     turns: Turns<N, T>,
-    first: SeatedPurse<N, T>,
+    purses: Purses<N, T>,
     calls: TwoCalls<Turner>,
 ) -> Result<(), Fail> {
-    let mut first = first;
-    let one = first.split(&turns, 1);
-    let two = first.split(&turns, 2);
+    let Purses { first, one, two } = purses;
     let jobs = Jobs { purse: one, calls };
     let (asked, served) = on_two_threads(rt, alloc, &turns, jobs)?;
     let Some(asked) = asked else {
@@ -72,7 +70,15 @@ pub(super) fn payment_and_status<
     assert_eq!(rt; asked.purse.terminal(), 1);
     assert_eq!(rt; asked.purse.entries(), 2);
     assert_eq!(rt; asked.purse.paid(), Cents::new(100));
-    let totals = settled(alloc, turns, first, asked.purse, two)?;
+    let totals = settled(
+        alloc,
+        turns,
+        Purses {
+            first,
+            one: asked.purse,
+            two,
+        },
+    )?;
     assert_eq!(rt; totals, (2, Cents::new(100)));
     Ok(())
 }
