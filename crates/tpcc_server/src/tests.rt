@@ -8,7 +8,11 @@ mod gates;
 mod limits;
 mod one_terminal;
 
-use crate::{JobIdle, JobMailboxes, Turning};
+use crate::{JobIdle, JobMailboxes, Turner, Turning};
+use closed::asked_in_vain;
+use gates::held_up;
+use limits::two_letters;
+use one_terminal::{TwoCalls, payment_and_status};
 use std::alloc::Global;
 use std::marker::Brand;
 use std::process::Abort;
@@ -24,53 +28,62 @@ use tpcc_money::{Cents, Moment};
 use tpcc_population::{Opening, Scale};
 use tpcc_rows::{Payment, Reply, Request, StatusQuery, Who};
 
-/// What a test does at the turns of a new book, with the book's first purse.
-trait Story {
-    fn tell<
-        N: Naming + Send + Sync,
-        T: Seating + Send + Sync,
-        R: Threads + Wait + Clock + Abort + Sync,
-    >(
-        self,
-        rt: &R,
-        alloc: Global,
-        turns: Turns<N, T>,
-        first: SeatedPurse<N, T>,
-    ) -> Result<(), Fail>;
+/// What happens at the turns of a new book.
+#[derive(Drop)]
+enum Story {
+    PaymentAndStatus(TwoCalls<Turner>),
+    AskedInVain(Turner),
+    TwoLetters,
+    HeldUp,
 }
 
-fn told<S: Story + Drop, R: Threads + Wait + Clock + Abort + Sync>(
+fn told<R: Threads + Wait + Clock + Abort + Sync>(
     rt: &R,
     alloc: Global,
-    story: S,
+    story: Story,
 ) -> Result<(), Fail> {
-    at_a_book::<Brand, S, R>(rt, alloc, Blanks::new(), story)
+    at_a_book::<Brand, R>(rt, alloc, Blanks::new(), story)
 }
 
-fn at_a_book<N: Naming + Send + Sync, S: Story + Drop, R: Threads + Wait + Clock + Abort + Sync>(
+fn at_a_book<N: Naming + Send + Sync, R: Threads + Wait + Clock + Abort + Sync>(
     rt: &R,
     alloc: Global,
     blanks: Blanks,
-    story: S,
+    story: Story,
 ) -> Result<(), Fail>
     requires entries { blanks.entries.name ≡ N.entries }
     requires cents { blanks.cents.name ≡ N.cents }
 {
     let scale = Scale::new(1, 10, 100)?;
     let turns = UnnamedTurns::<N>::start(alloc, &Opening::Plain { scale }, blanks)?;
-    at_its_turns::<N, Brand, S, R>(rt, alloc, turns, story)
+    at_its_turns::<N, Brand, R>(rt, alloc, turns, story)
 }
 
 fn at_its_turns<
     N: Naming + Send + Sync,
     T: Seating + Send + Sync,
-    S: Story,
     R: Threads + Wait + Clock + Abort + Sync,
->(rt: &R, alloc: Global, turns: UnnamedTurns<N>, story: S) -> Result<(), Fail>
+>(rt: &R, alloc: Global, turns: UnnamedTurns<N>, story: Story) -> Result<(), Fail>
     requires name { turns.table ≡ T.table }
 {
-    let (turns, first) = turns.named::<T>();
-    story.tell(rt, alloc, turns, first)
+    let (turns, mut first) = turns.named::<T>();
+    let one = first.split(&turns, 1);
+    let two = first.split(&turns, 2);
+    let purses = Purses { first, one, two };
+    match story {
+        Story::PaymentAndStatus(calls) => payment_and_status(rt, alloc, turns, purses, calls),
+        Story::AskedInVain(turner) => asked_in_vain(rt, alloc, turns, purses, turner),
+        Story::TwoLetters => two_letters(rt, alloc, turns, purses),
+        Story::HeldUp => held_up(rt, alloc, turns, purses),
+    }
+}
+
+/// All purses of a book: the first one, and those of the terminals 1 and 2.
+#[derive(Drop)]
+struct Purses<N: Naming, T: Seating> {
+    first: SeatedPurse<N, T>,
+    one: SeatedPurse<N, T>,
+    two: SeatedPurse<N, T>,
 }
 
 /// A turn without a box.
@@ -151,10 +164,9 @@ fn idle_pair<N: Naming, T: Seating, C>(
 fn settled<N: Naming, T: Seating>(
     alloc: Global,
     turns: Turns<N, T>,
-    first: SeatedPurse<N, T>,
-    one: SeatedPurse<N, T>,
-    two: SeatedPurse<N, T>,
+    purses: Purses<N, T>,
 ) -> Result<(u64, Cents), Fail> {
+    let Purses { first, one, two } = purses;
     let (book, first) = turns.close(first);
     let Some(mut book) = book else {
         return Err(Fail::new("a turn was not ended"));

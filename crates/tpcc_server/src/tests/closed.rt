@@ -3,9 +3,9 @@ ghost use Rattle.std.specs.Prelude.{◌≡◌, ◌∷◌, [], All, None};
 ghost use Rattle.tpcc_book.specs.Turn.{IsTurn};
 ghost use Rattle.tpcc_mailbox.specs.Tokens.{identity, client_origin, serving_origin};
 
-use super::{Story, payment, settled, told};
+use super::{Purses, Story, payment, settled, told};
 use crate::{Call, Job, JobAnswer, JobMailboxes, JobServing, JobWaiting, Turner, ask};
-use std::alloc::Global;
+use std::alloc::{AllocError, Global};
 use std::process::Abort;
 use std::sync::Wait;
 use std::test::Fail;
@@ -18,56 +18,45 @@ use tpcc_rows::{Request, Who};
 
 #[test]
 fn no_server_at_closed_mailboxes(rt: HostRuntime) -> Result<(), Fail> {
-    let call: Call = Box::new(
-        rt.alloc(),
-        |register: &mut Register, request: Request, terminal: u32, number: u64| -> Turned
-            ensures { IsTurn register.old terminal number request result register.new }
-        { register.turn(request, terminal, number) },
-    )?;
-    told(
-        &rt,
-        rt.alloc(),
-        ClosedFirst {
-            turner: Turner::new(call),
-        },
-    )
+    let make = |alloc: Global| -> Result<Turner, AllocError> {
+        let call: Call = Box::new(
+            alloc,
+            |register: &mut Register, request: Request, terminal: u32, number: u64| -> Turned
+                ensures { IsTurn register.old terminal number request result register.new }
+            { register.turn(request, terminal, number) },
+        )?;
+        Ok(Turner::new(call))
+    };
+    let turner = make(rt.alloc())?;
+    told(&rt, rt.alloc(), Story::AskedInVain(turner))
 }
 
-#[derive(Drop)]
-struct ClosedFirst {
+/// One terminal asks where nobody serves, and takes its job back.
+pub(super) fn asked_in_vain<
+    N: Naming + Send + Sync,
+    T: Seating + Send + Sync,
+    R: Threads + Wait + Clock + Abort + Sync,
+>(
+    rt: &R,
+    alloc: Global,
+    turns: Turns<N, T>,
+    purses: Purses<N, T>,
     turner: Turner,
-}
-
-impl Story for ClosedFirst {
-    fn tell<
-        N: Naming + Send + Sync,
-        T: Seating + Send + Sync,
-        R: Threads + Wait + Clock + Abort + Sync,
-    >(
-        self,
-        rt: &R,
-        alloc: Global,
-        turns: Turns<N, T>,
-        first: SeatedPurse<N, T>,
-    ) -> Result<(), Fail> {
-        let mut first = first;
-        let one = first.split(&turns, 1);
-        let two = first.split(&turns, 2);
-        let ClosedFirst { turner } = self;
-        let Turner { call } = turner;
-        let job = Job::new(payment(), one, call);
-        let (request, one) = asked_in_vain(rt, alloc, job)?.give_back();
-        assert!(rt; request == payment());
-        assert_eq!(rt; one.terminal(), 1);
-        assert_eq!(rt; one.entries(), 0);
-        let totals = settled(alloc, turns, first, one, two)?;
-        assert_eq!(rt; totals, (0, Cents::new(0)));
-        Ok(())
-    }
+) -> Result<(), Fail> {
+    let Purses { first, one, two } = purses;
+    let Turner { call } = turner;
+    let job = Job::new(payment(), one, call);
+    let (request, one) = no_answer(rt, alloc, job)?.give_back();
+    assert!(rt; request == payment());
+    assert_eq!(rt; one.terminal(), 1);
+    assert_eq!(rt; one.entries(), 0);
+    let totals = settled(alloc, turns, Purses { first, one, two })?;
+    assert_eq!(rt; totals, (0, Cents::new(0)));
+    Ok(())
 }
 
 /// Closes new mailboxes, asks the job there, and reclaims it.
-fn asked_in_vain<N: Naming, T: Seating, R: Wait>(
+fn no_answer<N: Naming, T: Seating, R: Wait>(
     rt: &R,
     alloc: Global,
     job: Job<N, T, Turner>,

@@ -3,7 +3,7 @@ ghost use Rattle.std.specs.Prelude.{◌≡◌, None};
 ghost use Rattle.std.specs.Thread.{IsSync};
 ghost use Rattle.tpcc_mailbox.specs.Tokens.{identity, idle_origin, serving_origin, serving_hand};
 
-use super::{PlainTurn, Story, idle_pair, parts, payment, settled, told};
+use super::{PlainTurn, Purses, Story, idle_pair, parts, payment, settled, told};
 use crate::{Gate, Job, JobIdle, JobMailboxes, JobServing, ask, serve_until_closed};
 use std::alloc::Global;
 use std::process::Abort;
@@ -45,47 +45,39 @@ impl<'a, R: Clock> Gate for HeldGate<'a, R> {
 
 #[test]
 fn a_held_server_is_stood_in_for(rt: HostRuntime) -> Result<(), Fail> {
-    told(&rt, rt.alloc(), HeldUp)
+    told(&rt, rt.alloc(), Story::HeldUp)
 }
 
-#[derive(Drop)]
-struct HeldUp;
-
-impl Story for HeldUp {
-    fn tell<
-        N: Naming + Send + Sync,
-        T: Seating + Send + Sync,
-        R: Threads + Wait + Clock + Abort + Sync,
-    >(
-        self,
-        rt: &R,
-        alloc: Global,
-        turns: Turns<N, T>,
-        first: SeatedPurse<N, T>,
-    ) -> Result<(), Fail> {
-        let mut first = first;
-        let one = first.split(&turns, 1);
-        let two = first.split(&turns, 2);
-        let (purses, served) = two_and_two(rt, alloc, &turns, one, two)?;
-        assert_eq!(rt;
-            served,
-            Served {
-                limit_met: false,
-                by_one: 1,
-                by_two: 1
-            }
-        );
-        let (Some(one), Some(two)) = purses else {
-            return Err(Fail::new("a job was not answered"));
-        };
-        assert_eq!(rt;
-            (one.paid(), two.paid()),
-            (Cents::new(100), Cents::new(100))
-        );
-        let totals = settled(alloc, turns, first, one, two)?;
-        assert_eq!(rt; totals, (2, Cents::new(200)));
-        Ok(())
-    }
+/// Two terminals pay, and the server that takes the first job is held until the other has answered.
+pub(super) fn held_up<
+    N: Naming + Send + Sync,
+    T: Seating + Send + Sync,
+    R: Threads + Wait + Clock + Abort + Sync,
+>(rt: &R, alloc: Global, turns: Turns<N, T>, purses: Purses<N, T>) -> Result<(), Fail> {
+    let Purses { first, one, two } = purses;
+    let (paid, served) = two_and_two(rt, alloc, &turns, one, two)?;
+    assert_eq!(rt;
+        served,
+        Served {
+            limit_met: false,
+            by_one: 1,
+            by_two: 1
+        }
+    );
+    let (one, two) = paid;
+    let Some(one) = one else {
+        return Err(Fail::new("the first job was not answered"));
+    };
+    let Some(two) = two else {
+        return Err(Fail::new("the second job was not answered"));
+    };
+    assert_eq!(rt;
+        (one.paid(), two.paid()),
+        (Cents::new(100), Cents::new(100))
+    );
+    let totals = settled(alloc, turns, Purses { first, one, two })?;
+    assert_eq!(rt; totals, (2, Cents::new(200)));
+    Ok(())
 }
 
 /// What the two servers give back.
@@ -96,7 +88,7 @@ struct Served {
     by_two: u64,
 }
 
-type Purses<N, T> = (Option<SeatedPurse<N, T>>, Option<SeatedPurse<N, T>>);
+type Paid<N, T> = (Option<SeatedPurse<N, T>>, Option<SeatedPurse<N, T>>);
 
 /// The two clients' threads: each pays once; then the mailboxes are closed.
 #[derive(Drop)]
@@ -115,7 +107,7 @@ fn two_and_two<N: Naming + Send + Sync, T: Seating + Send + Sync, R: Threads + W
     turns: &Turns<N, T>,
     one: SeatedPurse<N, T>,
     two: SeatedPurse<N, T>,
-) -> Result<(Purses<N, T>, Served), Fail> {
+) -> Result<(Paid<N, T>, Served), Fail> {
     let (mailboxes, mut idles, mut serving) = JobMailboxes::<N, T, PlainTurn>::new(alloc, 2)?;
     let other = serving.split(&mailboxes);
     let closer = serving.split(&mailboxes);
@@ -137,7 +129,7 @@ fn all_four<N: Naming + Send + Sync, T: Seating + Send + Sync, R: Threads + Wait
     clients: Clients<N, T>,
     serving: JobServing<N, T, PlainTurn>,
     other: JobServing<N, T, PlainTurn>,
-) -> (Purses<N, T>, Served)
+) -> (Paid<N, T>, Served)
     requires clients { (idle_origin clients.idle_one ≡ identity mailboxes.now)
         × (idle_origin clients.idle_two ≡ identity mailboxes.now)
         × (serving_origin clients.closer ≡ identity mailboxes.now) }
@@ -148,7 +140,7 @@ fn all_four<N: Naming + Send + Sync, T: Seating + Send + Sync, R: Threads + Wait
 {
     join(
         rt,
-        || -> Purses<N, T>
+        || -> Paid<N, T>
             requires { IsSync R.row
                 × (idle_origin clients.idle_one ≡ identity mailboxes.now)
                 × (idle_origin clients.idle_two ≡ identity mailboxes.now)
@@ -168,7 +160,7 @@ fn both_pay<N: Naming + Send + Sync, T: Seating + Send + Sync, R: Threads + Wait
     rt: &R,
     mailboxes: &JobMailboxes<N, T, PlainTurn>,
     clients: Clients<N, T>,
-) -> Purses<N, T>
+) -> Paid<N, T>
     requires { (idle_origin clients.idle_one ≡ identity mailboxes.now)
         × (idle_origin clients.idle_two ≡ identity mailboxes.now)
         × (serving_origin clients.closer ≡ identity mailboxes.now) }

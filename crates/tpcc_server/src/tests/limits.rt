@@ -2,7 +2,7 @@
 ghost use Rattle.std.specs.Prelude.{◌≡◌, IfOk, None};
 ghost use Rattle.tpcc_mailbox.specs.Tokens.{identity, idle_origin, serving_origin, serving_hand, waiting_origin};
 
-use super::{PlainTurn, Story, idle_pair, parts, payment, settled, told};
+use super::{PlainTurn, Purses, Story, idle_pair, parts, payment, settled, told};
 use crate::{
     Job, JobIdle, JobMailboxes, JobServing, JobWaiting, OpenGate, serve_round, serve_until_closed,
 };
@@ -17,33 +17,21 @@ use tpcc_money::Cents;
 
 #[test]
 fn one_job_each(rt: HostRuntime) -> Result<(), Fail> {
-    told(&rt, rt.alloc(), TwoLetters)
+    told(&rt, rt.alloc(), Story::TwoLetters)
 }
 
-#[derive(Drop)]
-struct TwoLetters;
-
-impl Story for TwoLetters {
-    fn tell<
-        N: Naming + Send + Sync,
-        T: Seating + Send + Sync,
-        R: Threads + Wait + Clock + Abort + Sync,
-    >(
-        self,
-        rt: &R,
-        alloc: Global,
-        turns: Turns<N, T>,
-        first: SeatedPurse<N, T>,
-    ) -> Result<(), Fail> {
-        let mut first = first;
-        let one = first.split(&turns, 1);
-        let two = first.split(&turns, 2);
-        let (one, two) = served_by_two(rt, alloc, &turns, one, two)?;
-        assert_eq!(rt; (one.entries(), two.entries()), (2, 1));
-        let totals = settled(alloc, turns, first, one, two)?;
-        assert_eq!(rt; totals, (3, Cents::new(300)));
-        Ok(())
-    }
+/// Two terminals post, and two servers serve in turn, on one thread.
+pub(super) fn two_letters<
+    N: Naming + Send + Sync,
+    T: Seating + Send + Sync,
+    R: Threads + Wait + Clock + Abort + Sync,
+>(rt: &R, alloc: Global, turns: Turns<N, T>, purses: Purses<N, T>) -> Result<(), Fail> {
+    let Purses { first, one, two } = purses;
+    let (one, two) = served_by_two(rt, alloc, &turns, one, two)?;
+    assert_eq!(rt; (one.entries(), two.entries()), (2, 1));
+    let totals = settled(alloc, turns, Purses { first, one, two })?;
+    assert_eq!(rt; totals, (3, Cents::new(300)));
+    Ok(())
 }
 
 /// Two clients post, and two servers answer one job each; then a job that was posted before the mailboxes

@@ -4,7 +4,7 @@ ghost use Rattle.std.specs.Thread.{IsSync};
 ghost use Rattle.tpcc_book.specs.Turn.{IsTurn};
 ghost use Rattle.tpcc_mailbox.specs.Tokens.{identity, idle_origin, serving_origin, serving_hand};
 
-use super::{Story, balance, parts, payment, settled, status, told};
+use super::{Purses, Story, balance, parts, payment, settled, status, told};
 use crate::{
     Call, Job, JobIdle, JobMailboxes, JobServing, OpenGate, Turner, Turning, ask,
     serve_until_closed,
@@ -21,79 +21,73 @@ use tpcc_rows::Request;
 
 #[test]
 fn a_payment_and_a_status(rt: HostRuntime) -> Result<(), Fail> {
-    with_two_calls::<Turner, _, _>(
+    let make = |alloc: Global| -> Result<Turner, AllocError> {
+        let call: Call = Box::new(
+            alloc,
+            |register: &mut Register, request: Request, terminal: u32, number: u64| -> Turned
+                ensures { IsTurn register.old terminal number request result register.new }
+            { register.turn(request, terminal, number) },
+        )?;
+        Ok(Turner::new(call))
+    };
+    let first = make(rt.alloc())?;
+    let second = make(rt.alloc())?;
+    told(
         &rt,
         rt.alloc(),
-        |alloc: Global| -> Result<Turner, AllocError> {
-            let call: Call = Box::new(
-                alloc,
-                |register: &mut Register, request: Request, terminal: u32, number: u64| -> Turned
-                    ensures { IsTurn register.old terminal number request result register.new }
-                { register.turn(request, terminal, number) },
-            )?;
-            Ok(Turner::new(call))
-        },
+        Story::PaymentAndStatus(TwoCalls { first, second }),
     )
 }
 
-fn with_two_calls<
-    C: Turning + Send,
-    F: Fn(Global) -> Result<C, AllocError>,
-    R: Threads + Wait + Clock + Abort + Sync,
->(rt: &R, alloc: Global, make: F) -> Result<(), Fail>
-    requires make { F.IsAlwaysCallable make }
-{
-    let first = make(alloc)?;
-    let second = make(alloc)?;
-    told(rt, alloc, PaymentAndStatus { first, second })
-}
-
+/// The calls of a payment and of a status.
 #[derive(Drop)]
-struct PaymentAndStatus<C> {
+pub(super) struct TwoCalls<C> {
     first: C,
     second: C,
 }
 
-impl<C: Turning + Send> Story for PaymentAndStatus<C> {
-    fn tell<
-        N: Naming + Send + Sync,
-        T: Seating + Send + Sync,
-        R: Threads + Wait + Clock + Abort + Sync,
-    >(
-        self,
-        rt: &R,
-        alloc: Global,
-        turns: Turns<N, T>,
-        first: SeatedPurse<N, T>,
-    ) -> Result<(), Fail> {
-        let mut first = first;
-        let one = first.split(&turns, 1);
-        let two = first.split(&turns, 2);
-        let jobs = Jobs {
-            purse: one,
-            calls: self,
-        };
-        let (asked, served) = on_two_threads(rt, alloc, &turns, jobs)?;
-        let Some(asked) = asked else {
-            return Err(Fail::new("a job was not answered"));
-        };
-        assert_eq!(rt; served, 2);
-        assert_eq!(rt; asked.places, (Some(0), Some(1)));
-        assert_eq!(rt; asked.balance, Some(Cents::new(-1100)));
-        assert_eq!(rt; asked.purse.terminal(), 1);
-        assert_eq!(rt; asked.purse.entries(), 2);
-        assert_eq!(rt; asked.purse.paid(), Cents::new(100));
-        let totals = settled(alloc, turns, first, asked.purse, two)?;
-        assert_eq!(rt; totals, (2, Cents::new(100)));
-        Ok(())
-    }
+/// One terminal asks a payment and then a status, and one thread serves.
+pub(super) fn payment_and_status<
+    N: Naming + Send + Sync,
+    T: Seating + Send + Sync,
+    R: Threads + Wait + Clock + Abort + Sync,
+>(
+    rt: &R,
+    alloc: Global,
+    turns: Turns<N, T>,
+    purses: Purses<N, T>,
+    calls: TwoCalls<Turner>,
+) -> Result<(), Fail> {
+    let Purses { first, one, two } = purses;
+    let jobs = Jobs { purse: one, calls };
+    let (asked, served) = on_two_threads(rt, alloc, &turns, jobs)?;
+    let Some(asked) = asked else {
+        return Err(Fail::new("a job was not answered"));
+    };
+    assert_eq!(rt; served, 2);
+    assert_eq!(rt; asked.places, (Some(0), Some(1)));
+    assert_eq!(rt; asked.balance, Some(Cents::new(-1100)));
+    assert_eq!(rt; asked.purse.terminal(), 1);
+    assert_eq!(rt; asked.purse.entries(), 2);
+    assert_eq!(rt; asked.purse.paid(), Cents::new(100));
+    let totals = settled(
+        alloc,
+        turns,
+        Purses {
+            first,
+            one: asked.purse,
+            two,
+        },
+    )?;
+    assert_eq!(rt; totals, (2, Cents::new(100)));
+    Ok(())
 }
 
 /// What the terminal's thread starts with.
 #[derive(Drop)]
 struct Jobs<N: Naming, T: Seating, C> {
     purse: SeatedPurse<N, T>,
-    calls: PaymentAndStatus<C>,
+    calls: TwoCalls<C>,
 }
 
 /// What the terminal's thread gives back.
@@ -183,7 +177,7 @@ fn ask_both<N: Naming, T: Seating, C: Turning, R: Wait>(
     requires { idle_origin idle ≡ identity mailboxes.now }
 {
     let Jobs { purse, calls } = jobs;
-    let PaymentAndStatus { first, second } = calls;
+    let TwoCalls { first, second } = calls;
     let Ok((idle, paid)) = ask(rt, mailboxes, idle, Job::of(payment(), purse, first)) else {
         return None;
     };
