@@ -21,8 +21,7 @@ use std::test::Fail;
 use std::thread::Threads;
 use std::time::Clock;
 use tpcc_book::{
-    Answer, Blanks, Book, Naming, Purse, Register, SeatedPurse, Seating, Turned, Turns,
-    UnnamedTurns,
+    Answer, Blanks, Naming, Register, SeatedPurse, Seating, Turned, Turns, UnnamedTurns,
 };
 use tpcc_money::{Cents, Moment};
 use tpcc_population::{Opening, Scale};
@@ -34,7 +33,7 @@ enum Story {
     PaymentAndStatus(TwoCalls<Turner>),
     AskedInVain(Turner),
     TwoLetters,
-    HeldUp,
+    HeldUp { withheld: bool },
 }
 
 fn told<R: Threads + Wait + Clock + Abort + Sync>(
@@ -74,7 +73,7 @@ fn at_its_turns<
         Story::PaymentAndStatus(calls) => payment_and_status(rt, alloc, turns, purses, calls),
         Story::AskedInVain(turner) => asked_in_vain(rt, alloc, turns, purses, turner),
         Story::TwoLetters => two_letters(rt, alloc, turns, purses),
-        Story::HeldUp => held_up(rt, alloc, turns, purses),
+        Story::HeldUp { withheld } => held_up(rt, alloc, turns, purses, withheld),
     }
 }
 
@@ -160,6 +159,23 @@ fn idle_pair<N: Naming, T: Seating, C>(
     Ok((first, second))
 }
 
+/// Ends the turns without the second terminal's purse, and gives the number of entries of the book that is left.
+fn unsettled<N: Naming, T: Seating>(
+    alloc: Global,
+    turns: Turns<N, T>,
+    first: SeatedPurse<N, T>,
+    one: SeatedPurse<N, T>,
+) -> Result<usize, Fail> {
+    let mut some = Vec::with_capacity(alloc, 2)?;
+    some.push_reserved(first);
+    some.push_reserved(one);
+    match turns.gather(some) {
+        Err(Some(book)) => Ok(book.journal().len()),
+        Err(None) => Err(Fail::new("a turn was not ended")),
+        Ok(_) => Err(Fail::new("no purse is missing")),
+    }
+}
+
 /// Closes the turns and puts the three purses together: the entries and the payments of the whole book.
 fn settled<N: Naming, T: Seating>(
     alloc: Global,
@@ -167,26 +183,12 @@ fn settled<N: Naming, T: Seating>(
     purses: Purses<N, T>,
 ) -> Result<(u64, Cents), Fail> {
     let Purses { first, one, two } = purses;
-    let (book, first) = turns.close(first);
-    let Some(mut book) = book else {
-        return Err(Fail::new("a turn was not ended"));
-    };
-    gathered(alloc, &mut book, first, one.into_purse(), two.into_purse())
-}
-
-fn gathered<N: Naming>(
-    alloc: Global,
-    book: &mut Book<N>,
-    first: Purse<N>,
-    one: Purse<N>,
-    two: Purse<N>,
-) -> Result<(u64, Cents), Fail> {
-    let mut purses = Vec::with_capacity(alloc, 3)?;
-    if first.room() != 9998 || one.room() != 0 || two.room() != 0 {
-        return Err(Fail::new("a purse is missing"));
+    let mut all = Vec::with_capacity(alloc, 3)?;
+    all.push_reserved(first);
+    all.push_reserved(one);
+    all.push_reserved(two);
+    match turns.gather(all) {
+        Ok((_book, entries, paid)) => Ok((entries, paid)),
+        Err(_) => Err(Fail::new("a purse is missing")),
     }
-    purses.push_reserved(first);
-    purses.push_reserved(one);
-    purses.push_reserved(two);
-    Ok(book.gather(purses))
 }

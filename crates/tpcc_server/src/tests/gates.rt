@@ -3,7 +3,7 @@ ghost use Rattle.std.specs.Prelude.{◌≡◌, None};
 ghost use Rattle.std.specs.Thread.{IsSync};
 ghost use Rattle.tpcc_mailbox.specs.Tokens.{identity, idle_origin, serving_origin, serving_hand};
 
-use super::{PlainTurn, Purses, Story, idle_pair, parts, payment, settled, told};
+use super::{PlainTurn, Purses, Story, idle_pair, parts, payment, settled, told, unsettled};
 use crate::{Gate, Job, JobIdle, JobMailboxes, JobServing, ask, serve_until_closed};
 use std::alloc::Global;
 use std::process::Abort;
@@ -45,7 +45,12 @@ impl<'a, R: Clock> Gate for HeldGate<'a, R> {
 
 #[test]
 fn a_held_server_is_stood_in_for(rt: HostRuntime) -> Result<(), Fail> {
-    told(&rt, rt.alloc(), Story::HeldUp)
+    told(&rt, rt.alloc(), Story::HeldUp { withheld: false })
+}
+
+#[test]
+fn a_purse_is_withheld(rt: HostRuntime) -> Result<(), Fail> {
+    told(&rt, rt.alloc(), Story::HeldUp { withheld: true })
 }
 
 /// Two terminals pay, and the server that takes the first job is held until the other has answered.
@@ -53,7 +58,13 @@ pub(super) fn held_up<
     N: Naming + Send + Sync,
     T: Seating + Send + Sync,
     R: Threads + Wait + Clock + Abort + Sync,
->(rt: &R, alloc: Global, turns: Turns<N, T>, purses: Purses<N, T>) -> Result<(), Fail> {
+>(
+    rt: &R,
+    alloc: Global,
+    turns: Turns<N, T>,
+    purses: Purses<N, T>,
+    withheld: bool,
+) -> Result<(), Fail> {
     let Purses { first, one, two } = purses;
     let (paid, served) = two_and_two(rt, alloc, &turns, one, two)?;
     assert_eq!(rt;
@@ -75,6 +86,11 @@ pub(super) fn held_up<
         (one.paid(), two.paid()),
         (Cents::new(100), Cents::new(100))
     );
+    if withheld {
+        let entries = unsettled(alloc, turns, first, one)?;
+        assert_eq!(rt; entries, 2);
+        return Ok(());
+    }
     let totals = settled(alloc, turns, Purses { first, one, two })?;
     assert_eq!(rt; totals, (2, Cents::new(200)));
     Ok(())
