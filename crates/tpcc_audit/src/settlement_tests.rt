@@ -107,15 +107,16 @@ fn one_is_missing<N: Naming, T: Seating, R: Abort>(
     turns: Turns<N, T>,
     purses: Vec<SeatedPurse<N, T>>,
 ) -> Result<(), Fail> {
-    match settle(turns, purses, &[]) {
-        Err((Some(book), fault)) => {
-            assert_eq!(rt; fault, Unsettled::Missing);
-            assert_eq!(rt; book.journal().len(), 2);
-            Ok(())
-        }
-        Err((None, _)) => Err(Fail::new("no book")),
-        Ok(_) => Err(Fail::new("no purse is missing")),
-    }
+    let (left, fault) = match settle(turns, purses, &[]) {
+        Ok(_) => return Err(Fail::new("no purse is missing")),
+        Err(unsettled) => unsettled,
+    };
+    let Some(book) = left else {
+        return Err(Fail::new("no book"));
+    };
+    assert_eq!(rt; fault, Unsettled::Missing);
+    assert_eq!(rt; book.journal().len(), 2);
+    Ok(())
 }
 
 /// A writer that takes nothing.
