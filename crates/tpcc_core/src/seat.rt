@@ -95,7 +95,7 @@ impl<P: Drop> Seat<P> {
             return Err(refused(request, CoreFault::NoMemory));
         }
         let old = mem::replace(&mut self.mailbox, Mailbox::Taken(0));
-        self.mailbox = sent(old, request);
+        let_go(mem::replace(&mut self.mailbox, sent(old, request)));
         Ok(())
     }
 
@@ -108,7 +108,7 @@ impl<P: Drop> Seat<P> {
         match mem::replace(&mut self.mailbox, Mailbox::Taken(server)) {
             Mailbox::Posted(letter) => Some(letter),
             other => {
-                self.mailbox = other;
+                let_go(mem::replace(&mut self.mailbox, other));
                 None
             }
         }
@@ -119,7 +119,7 @@ impl<P: Drop> Seat<P> {
         requires taken { is_taken self.old.mailbox ≡ true }
         ensures answered { self.new ≡ record self.old { mailbox = Mailbox.Answered answer } }
     {
-        self.mailbox = Mailbox::Answered(answer);
+        let_go(mem::replace(&mut self.mailbox, Mailbox::Answered(answer)));
     }
 
     /// The terminal takes its purse and its answer out.
@@ -140,15 +140,20 @@ impl<P: Drop> Seat<P> {
                         place,
                     },
                 );
-                self.mailbox = Mailbox::Free(purse);
+                let_go(mem::replace(&mut self.mailbox, Mailbox::Free(purse)));
                 Ok(())
             }
             other => {
-                self.mailbox = other;
+                let_go(mem::replace(&mut self.mailbox, other));
                 Err(CoreFault::NotReady)
             }
         }
     }
+}
+
+// What a mailbox held before. A function of its own, since letting go of each form by value is dear to prove.
+fn let_go<P: Drop>(mailbox: Mailbox<P>) {
+    let _mailbox = mailbox;
 }
 
 // One more answer, for which there is room.

@@ -54,7 +54,7 @@ impl<P: Drop> Server<P> {
         requires empty { is_empty self.old ≡ true }
         ensures held { self.new ≡ Hand.Holds terminal letter }
     {
-        self.hand = Hand::Holds(terminal, letter);
+        let_go(mem::replace(&mut self.hand, Hand::Holds(terminal, letter)));
     }
 
     /// The letter that is to be served, with its terminal.
@@ -66,7 +66,7 @@ impl<P: Drop> Server<P> {
         match mem::replace(&mut self.hand, Hand::Empty) {
             Hand::Holds(terminal, letter) => Some((terminal, letter)),
             other => {
-                self.hand = other;
+                let_go(mem::replace(&mut self.hand, other));
                 None
             }
         }
@@ -76,7 +76,7 @@ impl<P: Drop> Server<P> {
     pub(crate) fn show(&mut self, terminal: u32, answer: Answer<P>)
         ensures { self.new ≡ Hand.Served terminal answer }
     {
-        self.hand = Hand::Served(terminal, answer);
+        let_go(mem::replace(&mut self.hand, Hand::Served(terminal, answer)));
     }
 
     /// Gives the answer away.
@@ -88,11 +88,16 @@ impl<P: Drop> Server<P> {
         match mem::replace(&mut self.hand, Hand::Empty) {
             Hand::Served(_, answer) => Some(answer),
             other => {
-                self.hand = other;
+                let_go(mem::replace(&mut self.hand, other));
                 None
             }
         }
     }
+}
+
+// What a hand held before. A function of its own, since letting go of each form by value is dear to prove.
+fn let_go<P: Drop>(hand: Hand<P>) {
+    let _hand = hand;
 }
 
 // The book serves the letter in a hand; without one nothing happens.
