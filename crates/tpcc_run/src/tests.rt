@@ -1,6 +1,7 @@
 //! Runs, with ample memory.
-ghost use Rattle.std.specs.Prelude.{◌≡◌};
+ghost use Rattle.std.specs.Prelude.{◌≡◌, ◌≤◌};
 ghost use Rattle.tpcc_book.specs.Turn.{IsTurn};
+ghost use Rattle.tpcc_run.specs.Outcome.{IsPlan};
 
 use crate::{Plan, run};
 use std::alloc::{AllocError, Global};
@@ -31,7 +32,12 @@ impl Turning for OneTurn {
     }
 }
 
-fn plan(servers: u32, cards: u32, retire: u32) -> Plan {
+fn plan(servers: u32, cards: u32, retire: u32) -> Plan
+    requires servers { (1 ≤ servers) × (servers ≤ 16) }
+    requires cards { cards ≤ 100000 }
+    requires retire { retire ≤ 100000 }
+    ensures plan { IsPlan result }
+{
     Plan {
         terminals: 2,
         servers,
@@ -48,7 +54,9 @@ fn reported<R: Threads + Wait + Sync>(
     alloc: Global,
     opening: &Opening,
     plan: Plan,
-) -> Result<Vec<u8>, Fail> {
+) -> Result<Vec<u8>, Fail>
+    requires plan { IsPlan plan }
+{
     let made = |_alloc: Global| -> Result<OneTurn, AllocError> { Ok(OneTurn) };
     match run(rt, alloc, opening, &plan, Vec::new(alloc), made) {
         Ok(text) => Ok(text),
@@ -80,7 +88,9 @@ fn a_deck_each<R: Threads + Wait + Sync + Abort>(
     rt: &R,
     alloc: Global,
     plan: Plan,
-) -> Result<(), Fail> {
+) -> Result<(), Fail>
+    requires plan { IsPlan plan }
+{
     let scale = Scale::new(1, 10, 100)?;
     let opening = Opening::Seeded {
         scale,
