@@ -100,7 +100,7 @@ fn a_deck_each<R: Threads + Wait + Sync + Abort>(
     let text = reported(rt, alloc, &opening, plan)?;
     let first = drawn_payments(alloc, 1, scale)?;
     let second = drawn_payments(alloc, 2, scale)?;
-    let sum = Cents::new(first + second);
+    let sum = Cents::new(first.saturating_add(second));
     let (entries, rest) = split_line(text.as_slice())?;
     assert!(rt; is_between_70_and_90(entries));
     let expected = format!(in alloc; "paid {sum}\nrise {sum}\n")?;
