@@ -71,13 +71,7 @@ fn run_plan<
     C: Turning + Send,
     F: Fn(Global) -> Result<C, AllocError> + Sync,
     R: Print + Threads + Wait + Sync,
->(
-    rt: &R,
-    alloc: Global,
-    opening: &Opening,
-    plan: Plan,
-    make: F,
-) -> Result<(), ProgramFault>
+>(rt: &R, alloc: Global, opening: &Opening, plan: Plan, make: F) -> Result<(), ProgramFault>
     requires plan { IsPlan plan }
     requires make { F.IsAlwaysCallable make }
 {
@@ -91,11 +85,7 @@ fn run<
     C: Turning + Send,
     F: Fn(Global) -> Result<C, AllocError> + Sync,
     R: Print + Input + Env + AllocGlobal + Threads + Wait + Sync,
->(
-    rt: &R,
-    alloc: Global,
-    make: F,
-) -> Result<(), ProgramFault>
+>(rt: &R, alloc: Global, make: F) -> Result<(), ProgramFault>
     requires make { F.IsAlwaysCallable make }
 {
     let asked = asked(rt, alloc)?;

@@ -105,7 +105,8 @@ fn options_and_their_defaults(rt: HostRuntime) -> Result<(), Fail> {
 
 #[test]
 fn plans_and_their_defaults(rt: HostRuntime) -> Result<(), Fail> {
-    let mut plan = Plan {
+    let asked = read_words(rt.alloc(), RUN.as_slice())?;
+    let plan = Plan {
         terminals: 2,
         servers: 1,
         cards: 23,
@@ -113,15 +114,17 @@ fn plans_and_their_defaults(rt: HostRuntime) -> Result<(), Fail> {
         seed: 1,
         moment: Moment::new(0),
     };
-    let asked = read_words(rt.alloc(), RUN.as_slice())?;
     assert_eq!(rt; asked.task, Task::Run(plan));
-    plan.terminals = 999;
-    plan.servers = 16;
-    plan.cards = 100_000;
-    plan.retire = 100_000;
-    plan.seed = 7;
     let asked = read_words(rt.alloc(), LONG_RUN.as_slice())?;
-    assert_eq!(rt; asked.task, Task::Run(plan));
+    let longest = Plan {
+        terminals: 999,
+        servers: 16,
+        cards: 100_000,
+        retire: 100_000,
+        seed: 7,
+        moment: Moment::new(0),
+    };
+    assert_eq!(rt; asked.task, Task::Run(longest));
     Ok(())
 }
 

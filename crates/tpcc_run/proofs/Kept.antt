@@ -56,7 +56,7 @@ stand_after law request purse held after answer before now turned same is stand 
     let all = law request purse answer before (subst (λ (p : Seated). IsTurned request p answer) same turned) stand in
     let more = receipts_of (λ (p : Seated). p.purse) answer in
     let here : AllStand answer.purse.front now = ⊎_elim
-        (λ (e : now ≡ before ++ more). subst (AllStand answer.purse.front) (sym e) all)
-        (λ (e : now ≡ before). subst (AllStand answer.purse.front) (sym e) (stand_without answer.purse.front before more all))
-        kept in
+    (λ (e : now ≡ before ++ more). subst (AllStand answer.purse.front) (sym e) all)
+    (λ (e : now ≡ before). subst (AllStand answer.purse.front) (sym e) (stand_without answer.purse.front before more all))
+    kept in
     subst (λ (p : Seated). AllStand p.front now) (sym is) here

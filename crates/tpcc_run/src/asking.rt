@@ -82,10 +82,7 @@ fn note<N: Naming, T: Seating>(
 
 // Whether it is the reply of a district's delivery.
 fn is_delivered<N: Naming, T: Seating>(answer: &JobAnswer<N, T>) -> bool {
-    matches!(
-        answer.outcome(),
-        Ok(Reply::Delivery(Delivery::District(_)))
-    )
+    matches!(answer.outcome(), Ok(Reply::Delivery(Delivery::District(_))))
 }
 
 fn purse_of<N: Naming, T: Seating>(answer: JobAnswer<N, T>) -> SeatedPurse<N, T>

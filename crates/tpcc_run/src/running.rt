@@ -31,14 +31,7 @@ pub fn run<
     C: Turning + Send,
     F: Fn(Global) -> Result<C, AllocError> + Sync,
     R: Threads + Wait + Sync,
->(
-    rt: &R,
-    alloc: Global,
-    opening: &Opening,
-    plan: &Plan,
-    out: W,
-    make: F,
-) -> Result<W, RunFault>
+>(rt: &R, alloc: Global, opening: &Opening, plan: &Plan, out: W, make: F) -> Result<W, RunFault>
     requires plan { IsPlan plan.now }
     requires make { F.IsAlwaysCallable make }
     ensures reported { IfOk result (λ w. HasReported opening.now (W.contents out) (W.contents w)) }
@@ -106,9 +99,9 @@ fn by_seats<
 {
     let (turns, first) = turns.named::<T>();
     let count = plan.terminals as usize + 1;
-    let Ok((mailboxes, idles, serving)) =
-        Mailboxes::<Job<N, T, C>, JobAnswer<N, T>>::new(alloc, count)
-    else {
+    let Ok((mailboxes, idles, serving)) = Mailboxes::<Job<N, T, C>, JobAnswer<N, T>>::new(
+        alloc, count,
+    ) else {
         return Err(RunFault::NoMemory);
     };
     let Gathered {

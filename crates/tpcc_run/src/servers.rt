@@ -61,8 +61,6 @@ fn start_server<
     requires free { serving_hand serving ≡ None }
 {
     scope
-        .spawn(move || {
-            serve_until_closed(rt, mailboxes, serving, turns, OpenGate, limit).2
-        })
+        .spawn(move || { serve_until_closed(rt, mailboxes, serving, turns, OpenGate, limit).2 })
         .is_ok()
 }

@@ -5,9 +5,9 @@ ghost use Rattle.tpcc_terminal.specs.Receipts.{AllStand};
 
 use crate::asking::{Asked, ask_once};
 use crate::fault::RunFault;
+use crate::operator::Operator;
 use crate::plan::Plan;
 use crate::promises::Back;
-use crate::operator::Operator;
 use std::alloc::{AllocError, Global};
 use std::sync::Wait;
 use tpcc_book::{Naming, Seating};
@@ -37,7 +37,13 @@ fn next_request(role: Role, terminal: &mut Terminal, moment: Moment) -> Result<R
 
 /// Asks the plan's number of requests, each by a call of its own. It stops where memory is refused, and
 /// where its job is still out when the mailboxes are seen closed.
-pub(crate) fn ask_all<N: Naming, T: Seating, C: Turning, F: Fn(Global) -> Result<C, AllocError>, R: Wait>(
+pub(crate) fn ask_all<
+    N: Naming,
+    T: Seating,
+    C: Turning,
+    F: Fn(Global) -> Result<C, AllocError>,
+    R: Wait,
+>(
     rt: &R,
     alloc: Global,
     mailboxes: &JobMailboxes<N, T, C>,

@@ -69,7 +69,10 @@ fn no_cards(rt: HostRuntime) -> Result<(), Fail> {
     let alloc = rt.alloc();
     let scale = Scale::new(1, 10, 100)?;
     let text = reported(&rt, alloc, &Opening::Plain { scale }, plan(2, 0, 0))?;
-    assert_eq!(&rt; text.as_slice(), b"entries 1\npaid 0.00\nrise 0.00\n".as_slice());
+    assert_eq!(&rt;
+        text.as_slice(),
+        b"entries 1\npaid 0.00\nrise 0.00\n".as_slice()
+    );
     Ok(())
 }
 
@@ -139,6 +142,19 @@ fn split_line(text: &[u8]) -> Result<(&[u8], &[u8]), Fail> {
 
 /// 46 cards, 23 deliveries, one more that finds nothing, and up to two tickets of ten districts each.
 fn is_between_70_and_90(line: &[u8]) -> bool {
-    matches!(line, [b'e', b'n', b't', b'r', b'i', b'e', b's', b' ', b'7' | b'8', b'0'..=b'9'])
-        || line == b"entries 90".as_slice()
+    matches!(
+        line,
+        [
+            b'e',
+            b'n',
+            b't',
+            b'r',
+            b'i',
+            b'e',
+            b's',
+            b' ',
+            b'7' | b'8',
+            b'0'..=b'9'
+        ]
+    ) || line == b"entries 90".as_slice()
 }

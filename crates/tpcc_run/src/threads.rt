@@ -95,13 +95,7 @@ fn end_runner<
 }
 
 // What a runner that nothing stopped still asks.
-fn drain_back<
-    N: Naming,
-    T: Seating,
-    C: Turning,
-    F: Fn(Global) -> Result<C, AllocError>,
-    R: Wait,
->(
+fn drain_back<N: Naming, T: Seating, C: Turning, F: Fn(Global) -> Result<C, AllocError>, R: Wait>(
     rt: &R,
     alloc: Global,
     mailboxes: &JobMailboxes<N, T, C>,
