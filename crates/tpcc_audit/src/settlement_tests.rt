@@ -144,7 +144,10 @@ fn a_report_is_three_lines(rt: HostRuntime) -> Result<(), Fail> {
     let Ok(text) = report(&totals, Vec::new(alloc)) else {
         return Err(Fail::new("not written"));
     };
-    assert_eq!(&rt; text.as_slice(), b"entries 70\npaid 1234.56\nrise 1234.56\n".as_slice());
+    assert_eq!(&rt;
+        text.as_slice(),
+        b"entries 70\npaid 1234.56\nrise 1234.56\n".as_slice()
+    );
     assert!(&rt; matches!(report(&totals, Full), Err(ReportFault::Write)));
     Ok(())
 }
