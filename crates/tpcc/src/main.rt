@@ -8,17 +8,22 @@ ghost use Rattle.tpcc.specs.Tasks.{HasPlan};
 
 mod fault;
 mod options;
+mod progress;
+#[cfg(test)]
+mod progress_tests;
 #[cfg(test)]
 mod tests;
 
 use fault::ProgramFault;
 use options::{Asked, Task, read_words};
+use progress::{Counting, Progress};
 use std::alloc::{AllocError, Global};
 use std::env::Env;
-use std::io;
+use std::io::{self, Eprint, IsTerminal};
 use std::process::ExitCode;
 use std::sync::Wait;
 use std::thread::Threads;
+use std::time::Clock;
 use tpcc_audit::{DumpFault, dump};
 use tpcc_book::{Register, Turned};
 use tpcc_population::{Opening, fill};
@@ -71,21 +76,45 @@ fn run_plan<
     C: Turning + Send,
     F: Fn(Global) -> Result<C, AllocError> + Sync,
     R: Print + Threads + Wait + Sync,
->(rt: &R, alloc: Global, opening: &Opening, plan: Plan, make: F) -> Result<(), ProgramFault>
-    requires plan { IsPlan plan }
+>(rt: &R, alloc: Global, opening: &Opening, plan: &Plan, make: F) -> Result<(), ProgramFault>
+    requires plan { IsPlan plan.now }
     requires make { F.IsAlwaysCallable make }
 {
-    match tpcc_run::run(rt, alloc, opening, &plan, io::writer(rt), make) {
+    match tpcc_run::run(rt, alloc, opening, plan, io::writer(rt), make) {
         Ok(_) => Ok(()),
         Err(fault) => Err(ProgramFault::Run(fault)),
     }
 }
 
+/// The same, and tells how far the run has come whenever a terminal asks its next request.
+fn run_watched<
+    C: Turning + Send,
+    F: Fn(Global) -> Result<C, AllocError> + Sync,
+    R: Print + Eprint + Clock + Threads + Wait + Sync,
+>(rt: &R, alloc: Global, opening: &Opening, plan: &Plan, make: F) -> Result<(), ProgramFault>
+    requires plan { IsPlan plan.now }
+    requires make { F.IsAlwaysCallable make }
+{
+    let begun = Progress::begin(rt, plan);
+    let progress = &begun;
+    run_plan(
+        rt,
+        alloc,
+        opening,
+        plan,
+        |alloc: Global| -> Result<Counting<'_, C>, AllocError> {
+            progress.tell(rt);
+            Ok(progress.counting(make(alloc)?))
+        },
+    )
+}
+
+/// Does what the words ask; `watched` is whether somebody sees standard error.
 fn run<
     C: Turning + Send,
     F: Fn(Global) -> Result<C, AllocError> + Sync,
-    R: Print + Input + Env + AllocGlobal + Threads + Wait + Sync,
->(rt: &R, alloc: Global, make: F) -> Result<(), ProgramFault>
+    R: Print + Eprint + Clock + Input + Env + AllocGlobal + Threads + Wait + Sync,
+>(rt: &R, alloc: Global, watched: bool, make: F) -> Result<(), ProgramFault>
     requires make { F.IsAlwaysCallable make }
 {
     let asked = asked(rt, alloc)?;
@@ -93,7 +122,8 @@ fn run<
     match asked.task {
         Task::Script => script(rt, alloc, &opening),
         Task::Dump(table) => dump_table(rt, alloc, &opening, table),
-        Task::Run(plan) => run_plan(rt, alloc, &opening, plan, make),
+        Task::Run(plan) if watched => run_watched(rt, alloc, &opening, &plan, make),
+        Task::Run(plan) => run_plan(rt, alloc, &opening, &plan, make),
     }
 }
 
@@ -101,6 +131,7 @@ fn main(rt: HostRuntime) -> ExitCode {
     let ended = run(
         &rt,
         rt.alloc(),
+        rt.stderr().is_terminal(),
         |alloc: Global| -> Result<Turner, AllocError> {
             let call: Call = Box::new(
                 alloc,

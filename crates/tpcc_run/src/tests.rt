@@ -3,9 +3,11 @@ ghost use Rattle.std.specs.Prelude.{◌≡◌, ◌≤◌};
 ghost use Rattle.tpcc_book.specs.Turn.{IsTurn};
 ghost use Rattle.tpcc_run.specs.Outcome.{IsPlan};
 
-use crate::{Plan, run};
+use crate::{Plan, RunFault, run};
 use std::alloc::{AllocError, Global};
+use std::io::{self, ErrorKind, Write};
 use std::process::Abort;
+use std::sync::atomic::{AtomicU64, Ordering};
 use std::sync::Wait;
 use std::test::Fail;
 use std::thread::Threads;
@@ -108,6 +110,61 @@ fn a_deck_each<R: Threads + Wait + Sync + Abort>(
     assert!(rt; is_between_70_and_90(entries));
     let expected = format!(in alloc; "paid {sum}\nrise {sum}\n")?;
     assert_eq!(rt; rest, expected.as_bytes());
+    Ok(())
+}
+
+/// What a run of a deck each ends with, where the calls behind the first ones are refused memory.
+fn refused_after<R: Threads + Wait + Sync>(
+    rt: &R,
+    alloc: Global,
+    granted: u64,
+) -> Result<Result<Vec<u8>, RunFault>, Fail> {
+    let scale = Scale::new(1, 10, 100)?;
+    let asked = AtomicU64::new(0);
+    let count = &asked;
+    let make = |_alloc: Global| -> Result<OneTurn, AllocError> {
+        if count.fetch_add(1, Ordering::SeqCst) < granted {
+            Ok(OneTurn)
+        } else {
+            Err(AllocError)
+        }
+    };
+    let opening = Opening::Plain { scale };
+    Ok(run(rt, alloc, &opening, &plan(2, 23, 0), Vec::new(alloc), make))
+}
+
+/// At the first call of all, at that of a terminal or the delivery runner, and at the first one behind
+/// the 69 of their cards, which is the runner's when all others are joined.
+#[test]
+fn calls_that_are_refused_memory(rt: HostRuntime) -> Result<(), Fail> {
+    for granted in [0, 1, 40, 69] {
+        let ended = refused_after(&rt, rt.alloc(), granted)?;
+        assert!(&rt; matches!(ended, Err(RunFault::NoMemory)));
+    }
+    Ok(())
+}
+
+/// A writer that takes nothing.
+#[derive(Drop)]
+struct Full;
+
+impl Write for Full {
+    fn write(&mut self, _buf: &[u8]) -> io::Result<usize> {
+        Err(io::Error::from(ErrorKind::BrokenPipe))
+    }
+
+    fn flush(&mut self) -> io::Result<()> {
+        Ok(())
+    }
+}
+
+#[test]
+fn a_report_that_is_not_taken(rt: HostRuntime) -> Result<(), Fail> {
+    let scale = Scale::new(1, 10, 100)?;
+    let made = |_alloc: Global| -> Result<OneTurn, AllocError> { Ok(OneTurn) };
+    let opening = Opening::Plain { scale };
+    let ended = run(&rt, rt.alloc(), &opening, &plan(1, 1, 0), Full, made);
+    assert!(&rt; matches!(ended, Err(RunFault::Write)));
     Ok(())
 }
 

@@ -1,0 +1,117 @@
+//! How far a run has come, for whoever watches it at a terminal.
+ghost use Rattle.std.specs.Prelude.{◌≡◌, ◌+◌, ◌≤◌, ◌↔◌};
+
+use std::fmt::{self, Display, Formatter};
+use std::io::Eprint;
+use std::sync::atomic::{AtomicU64, Ordering};
+use std::time::Clock;
+use tpcc_book::{Register, Turned};
+use tpcc_rows::Request;
+use tpcc_run::Plan;
+use tpcc_server::Turning;
+
+/// How many requests of a run are done, told on standard error once a second at most.
+#[derive(Drop)]
+pub struct Progress {
+    /// How many requests the terminals and the delivery runner ask.
+    asked: u64,
+    done: AtomicU64,
+    /// When the last line was written, in milliseconds of the monotonic clock.
+    told: AtomicU64,
+}
+
+impl Progress {
+    /// The progress of a run that begins now, with nothing done.
+    pub fn begin<R: Clock>(rt: &R, plan: &Plan) -> Progress {
+        let threads = u64::from(plan.terminals) + 1;
+        Progress {
+            asked: threads * u64::from(plan.cards),
+            done: AtomicU64::new(0),
+            told: AtomicU64::new(milliseconds(rt).unwrap_or(u64::MAX)),
+        }
+    }
+
+    /// Writes a line where the last one is a second old. Of threads that come at once one writes it.
+    /// A clock that can't be read and a line that can't be written are passed over.
+    pub fn tell<R: Clock + Eprint>(&self, rt: &R) {
+        let Some(now) = milliseconds(rt) else {
+            return;
+        };
+        let told = self.told.load(Ordering::SeqCst);
+        let first = is_second_later(told, now)
+            && self
+                .told
+                .compare_exchange(told, now, Ordering::SeqCst, Ordering::SeqCst)
+                .is_ok();
+        if first {
+            let _ = rt.eprintln(self.line());
+        }
+    }
+
+    /// How far the run has come. What empties the queue of deliveries at the end is asked beyond the plan.
+    pub fn line(&self) -> Line {
+        let done = self.done.load(Ordering::SeqCst);
+        Line {
+            done,
+            asked: self.asked.max(done),
+        }
+    }
+
+    /// A call that counts its turn as done.
+    pub fn counting<C: Turning>(&self, call: C) -> Counting<'_, C> {
+        Counting {
+            call,
+            done: &self.done,
+        }
+    }
+}
+
+/// A line of progress, such as `120 of 4600 requests`.
+#[derive(Clone, Copy, Debug, PartialEq, Eq)]
+pub struct Line {
+    /// How many requests were served, refused ones among them.
+    pub done: u64,
+    /// How many are asked in all.
+    pub asked: u64,
+}
+
+impl Display for Line {
+    fn fmt<W: fmt::Write>(&self, f: &mut Formatter<W>) -> fmt::Result {
+        write!(f, "{} of {} requests", self.done, self.asked)
+    }
+}
+
+/// A call that makes one turn, and counts it.
+#[derive(Drop)]
+pub struct Counting<'a, C> {
+    call: C,
+    done: &'a AtomicU64,
+}
+
+impl<C: Turning> Turning for Counting<'_, C> {
+    fn turn_once(
+        self,
+        register: &mut Register,
+        request: Request,
+        terminal: u32,
+        number: u64,
+    ) -> Turned {
+        let Counting { call, done } = self;
+        let turned = call.turn_once(register, request, terminal, number);
+        done.fetch_add(1, Ordering::SeqCst);
+        turned
+    }
+}
+
+// Whether a line told at one millisecond leaves room for another at the other.
+fn is_second_later(told: u64, now: u64) -> bool
+    ensures later { result ↔ (told + 1000 ≤ now) }
+{
+    now.checked_sub(told).is_some_and(|since| since >= 1000)
+}
+
+// What the monotonic clock shows, in milliseconds.
+fn milliseconds<R: Clock>(rt: &R) -> Option<u64> {
+    let since_start = rt.monotonic().ok()?;
+    u64::try_from(since_start.as_millis()).ok()
+}

@@ -1,0 +1,84 @@
+//! When progress is told, and what its lines say.
+use crate::progress::{Line, Progress};
+use std::io;
+use std::io::Eprint;
+use std::fmt::Display;
+use std::sync::atomic::{AtomicU64, Ordering};
+use std::test::Fail;
+use std::time::{Clock, Duration};
+use tpcc_money::Moment;
+use tpcc_run::Plan;
+
+/// A clock that stands at a millisecond, and a count of the lines that were written.
+#[derive(Drop)]
+struct Desk {
+    now: AtomicU64,
+    lines: AtomicU64,
+}
+
+impl Desk {
+    fn lines_at(&self, progress: &Progress, millisecond: u64) -> u64 {
+        self.now.store(millisecond, Ordering::SeqCst);
+        progress.tell(self);
+        self.lines.load(Ordering::SeqCst)
+    }
+}
+
+impl Clock for Desk {
+    fn monotonic(&self) -> io::Result<Duration> {
+        Ok(Duration::from_millis(self.now.load(Ordering::SeqCst)))
+    }
+
+    fn since_1970(&self) -> io::Result<Duration> {
+        self.monotonic()
+    }
+}
+
+impl Eprint for Desk {
+    fn eprint<D: Display + Drop>(&self, _value: D) -> io::Result<()> {
+        Ok(())
+    }
+
+    fn eprintln<D: Display + Drop>(&self, _value: D) -> io::Result<()> {
+        self.lines.fetch_add(1, Ordering::SeqCst);
+        Ok(())
+    }
+}
+
+fn plan() -> Plan {
+    Plan {
+        terminals: 45,
+        servers: 1,
+        cards: 100,
+        retire: 0,
+        seed: 1,
+        moment: Moment::new(0),
+    }
+}
+
+#[test]
+fn a_line_a_second(rt: HostRuntime) -> Result<(), Fail> {
+    let desk = Desk {
+        now: AtomicU64::new(5_000),
+        lines: AtomicU64::new(0),
+    };
+    let progress = Progress::begin(&desk, &plan());
+    assert_eq!(rt; desk.lines_at(&progress, 5_000), 0);
+    assert_eq!(rt; desk.lines_at(&progress, 5_999), 0);
+    assert_eq!(rt; desk.lines_at(&progress, 6_000), 1);
+    assert_eq!(rt; desk.lines_at(&progress, 6_500), 1);
+    assert_eq!(rt; desk.lines_at(&progress, 6_999), 1);
+    assert_eq!(rt; desk.lines_at(&progress, 9_000), 2);
+    assert_eq!(rt; desk.lines_at(&progress, 8_000), 2);
+    assert_eq!(rt; desk.lines_at(&progress, 10_000), 3);
+    Ok(())
+}
+
+#[test]
+fn a_line_says_how_many_are_done(rt: HostRuntime) -> Result<(), Fail> {
+    let progress = Progress::begin(&rt, &plan());
+    assert_eq!(rt; progress.line(), Line { done: 0, asked: 4_600 });
+    let text = format!(in rt.alloc(); "{}", Line { done: 120, asked: 4_600 })?;
+    assert_eq!(rt; text.as_str(), "120 of 4600 requests");
+    Ok(())
+}
