@@ -5,6 +5,7 @@ ghost use Rattle.tpcc_book.specs.Seats.{IsTurned};
 
 use crate::errand::Errand;
 use crate::turning::{Call, Turner, Turning};
+use std::marker::Model;
 use std::sync::Wait;
 use tpcc_book::{Answer, Naming, Register, SeatedPurse, Seating, Turned, Turns};
 use tpcc_mailbox::{Answers, Idle, Mailboxes, Serving, Waiting};
@@ -17,6 +18,14 @@ pub struct Job<N: Naming, T: Seating, C> {
     request: Request,
     purse: SeatedPurse<N, T>,
     call: C,
+}
+
+impl<N: Naming, T: Seating, C> Model for Job<N, T, C> {
+    ghost use Rattle.tpcc_server.specs.Jobs.{Posted};
+
+    ghost Value = { Posted C };
+
+    ghost view = { λ job. record { request = job.request; purse = job.purse; call = job.call } };
 }
 
 /// What clauses see of a job. No value of it is made.
