@@ -1,6 +1,6 @@
 -- The sum of W_YTD over the first WAREHOUSE rows, and how far it can have risen.
 use Rattle.std.proofs.Common.{◌≡◌, ◌∙◌, ℕ, zero, suc, ◌+◌, List, [], ◌∷◌, length, take, refl, arith}
-use Rattle.std.specs.Prelude.{ℤ, pos, ◌+ℤ◌, ◌≤ℤ◌, Option, option_map, unwrap_or, slice_get}
+use Rattle.std.specs.Prelude.{ℤ, pos, ◌+ℤ◌, ◌≤ℤ◌, option_map, unwrap_or, slice_get}
 use Rattle.std.proofs.lemmas.Int.{ints}
 use Rattle.tpcc_money.specs.Amounts.{total}
 use Rattle.tpcc_rows.specs.declared.rows.WarehouseRow.{WarehouseRow}
