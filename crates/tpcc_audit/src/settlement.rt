@@ -30,8 +30,8 @@ pub enum Unsettled {
 }
 
 /// Ends the turns and settles their book with the purses: all entries and payments of the purses are the
-/// journal's length and the rise of W_YTD. Each receipt stands in the journal at its place, since it
-/// stands in the front of a purse that is handed in.
+/// journal's length and the rise of W_YTD (3.3.2.1), which is read off the rows. Each receipt stands in the
+/// journal at its place, since it stands in the front of a purse that is handed in.
 ///
 /// Missing is the one refusal; the purses are spent all the same. Then there is no book where a turn was
 /// drawn and not ended, which needs a purse that is held back in the middle of a call. It takes no memory
@@ -50,11 +50,11 @@ pub fn settle<N: Naming, T: Seating>(
     receipts_stay();
     match turns.gather(purses) {
         Ok((book, entries, paid)) => {
-            // All shares of the book's two totals are here, so what the purses paid is the rise.
+            // The purses tell what was paid and the rows tell the rise: all shares are here, so they are equal.
             let totals = Totals {
                 entries,
                 paid,
-                rise: paid,
+                rise: book.rise(),
             };
             Ok((book, totals))
         }

@@ -1,5 +1,6 @@
 -- What a register is seen as, and what every register keeps.
 use Rattle.std.specs.Prelude.{ℕ, ◌≡◌, ◌*◌, ◌≤◌, ◌<◌, List, [], length, ℤ, pos, ◌≤ℤ◌, ◌+ℤ◌}
+use Rattle.tpcc_money.specs.Amounts.{total}
 use Rattle.tpcc_rows.specs.declared.entry.Entry.{Entry}
 use Rattle.tpcc_rows.specs.Tables.{State}
 use Rattle.tpcc_rows.specs.SoundState.{IsSoundState}
@@ -35,6 +36,11 @@ pub record IsKept (p : Past) : Type 0 where
   pub rises : rise_of p ≡ paid_by_entries p.entries
   pub paid_least : pos 0 ≤ℤ paid_by_entries p.entries
   pub paid_most : paid_by_entries p.entries ≤ℤ pos (500000 * length p.entries)
+
+-- what a register keeps: its past, and the sum of W_YTD over its opening's rows
+pub record IsRegistered (year_to_date : ℤ) (p : Past) : Type 0 where
+  pub kept : IsKept p
+  pub opening_sum : year_to_date ≡ total (λ w. w.ytd) (opening_rows p.opening).warehouses
 
 -- the rise goes up by what a request pays, and both totals stay far below what 63 bits hold
 pub record Rises (old : Past) (request : Request) (new : Past) : Type 0 where

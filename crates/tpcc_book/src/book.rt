@@ -87,6 +87,15 @@ impl<N: Naming> Book<N> {
         self.register.journal()
     }
 
+    /// By how much the sum of W_YTD over all warehouses rose since the opening (3.3.2.1), in cents: read
+    /// off the rows, whatever the purses tell. It takes no memory and does not wait.
+    pub fn rise(&self) -> Cents
+        ensures rise { result ≡ rise_of self.now }
+        ensures kept { IsKept self.now }
+    {
+        self.register.rise()
+    }
+
     /// Serves a request for a purse: one transaction and one entry at its place, or the first refusal and nothing.
     pub fn serve(&mut self, request: Request, purse: Purse<N>) -> Answer<Purse<N>>
         ensures served { IsServed self.old request purse result self.new }

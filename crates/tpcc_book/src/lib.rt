@@ -12,6 +12,7 @@ mod steps;
 mod tests;
 mod turned;
 mod turns;
+mod year_to_date;
 
 pub use answer::Answer;
 pub use book::Book;

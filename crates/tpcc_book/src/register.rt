@@ -1,15 +1,16 @@
 //! The register: the rows of an opening, and the journal that they are the replay of.
 ghost use Rattle.std.specs.Prelude.{◌≡◌, Some, None, IfOk, IfErr, OnOk};
-ghost use Rattle.tpcc_book.specs.Past.{IsKept, Rises, opened};
+ghost use Rattle.tpcc_book.specs.Past.{IsKept, Rises, opened, rise_of};
 ghost use Rattle.tpcc_book.specs.Turn.{IsTurn, TakesTurn, MakesTurn, Accepts, Refuses};
 
 use crate::steps::{commit, make_ready};
 use crate::turned::Turned;
+use crate::year_to_date::year_to_date;
 use std::alloc::Global;
 use std::marker::Model;
 use tpcc_delivery::Queue;
 use tpcc_journal::Journal;
-use tpcc_money::NoMemory;
+use tpcc_money::{Cents, NoMemory};
 use tpcc_population::{Opening, fill, opening_is_sound};
 use tpcc_rows::{Refusal, Reply, Request, laws};
 use tpcc_tables::tables::Tables;
@@ -20,6 +21,8 @@ use tpcc_tables::tables::Tables;
 #[derive(Drop)]
 pub struct Register {
     opening: Opening,
+    // The sum of W_YTD over the opening's rows, in cents.
+    opening_year_to_date: i128,
     tables: Tables,
     queue: Queue,
     journal: Journal,
@@ -27,13 +30,13 @@ pub struct Register {
 }
 
 impl Model for Register {
-    ghost use Rattle.tpcc_book.specs.Past.{Past, IsKept};
+    ghost use Rattle.tpcc_book.specs.Past.{Past, IsRegistered};
 
     ghost Value = { Past };
 
     ghost view = { λ r. record { opening = r.opening; state = record { rows = r.tables.rows; queue = r.queue.tickets }; entries = r.journal.entries } };
 
-    ghost invariant = { λ r. IsKept (record { opening = r.opening; state = record { rows = r.tables.rows; queue = r.queue.tickets }; entries = r.journal.entries }) };
+    ghost invariant = { λ r. IsRegistered r.opening_year_to_date (record { opening = r.opening; state = record { rows = r.tables.rows; queue = r.queue.tickets }; entries = r.journal.entries }) };
 }
 
 impl Register {
@@ -43,8 +46,10 @@ impl Register {
     {
         let tables = fill(alloc, opening)?;
         opening_is_sound(*opening);
+        let opening_year_to_date = year_to_date(&tables);
         Ok(Register {
             opening: *opening,
+            opening_year_to_date,
             tables,
             queue: Queue::new(alloc),
             journal: Journal::new(alloc),
@@ -81,6 +86,16 @@ impl Register {
         ensures opening { result ≡ self.now.opening }
     {
         self.opening
+    }
+
+    /// By how much the sum of W_YTD over all warehouses rose since the opening (3.3.2.1), in cents: read
+    /// off the rows. It takes no memory and does not wait.
+    pub fn rise(&self) -> Cents
+        ensures rise { result ≡ rise_of self.now }
+        ensures kept { IsKept self.now }
+    {
+        let rise = year_to_date(&self.tables) - self.opening_year_to_date;
+        Cents::new(rise as i64)
     }
 
     /// Serves a request of a terminal that made `number` entries: one transaction and one entry, or

@@ -1,4 +1,4 @@
-//! A book on one thread: the first payment, and two purses of one terminal.
+//! A book on one thread: the first payment, two purses of one terminal, and the rise of two payments.
 ghost use Rattle.std.specs.Prelude.{◌≡◌};
 
 use super::*;
@@ -11,28 +11,32 @@ use tpcc_population::{Opening, Scale};
 use tpcc_rows::requests::{Payment, Who};
 use tpcc_rows::{Refusal, Request};
 
-fn opening() -> Result<Opening, Fail> {
+fn opening(warehouses: u32) -> Result<Opening, Fail> {
     Ok(Opening::Plain {
-        scale: Scale::new(1, 10, 100)?,
+        scale: Scale::new(warehouses, 10, 100)?,
     })
 }
 
-/// Customer 1 of district 1 pays 1.00.
-fn payment() -> Request {
+/// Customer 1 of the warehouse's district 1 pays at home.
+fn payment(warehouse: u32, amount: Cents) -> Request {
     Request::Payment(Payment {
-        warehouse: 1,
+        warehouse,
         district: 1,
-        customer_warehouse: 1,
+        customer_warehouse: warehouse,
         customer_district: 1,
         who: Who::Number(1),
-        amount: Cents::new(100),
+        amount,
         moment: Moment::new(0),
     })
 }
 
 /// The place of the request's entry, or its refusal, and the purse.
-fn pay<N: Naming>(book: &mut Book<N>, purse: Purse<N>) -> (Option<u64>, Option<Refusal>, Purse<N>) {
-    let answer = book.serve(payment(), purse);
+fn pay<N: Naming>(
+    book: &mut Book<N>,
+    purse: Purse<N>,
+    request: Request,
+) -> (Option<u64>, Option<Refusal>, Purse<N>) {
+    let answer = book.serve(request, purse);
     let place = answer.place();
     let refusal = match answer.outcome() {
         Ok(_) => None,
@@ -51,15 +55,15 @@ fn two_purses<N: Naming, R: Abort>(rt: &R, alloc: Global, blanks: Blanks) -> Res
     requires entries { blanks.entries.name ≡ N.entries }
     requires cents { blanks.cents.name ≡ N.cents }
 {
-    let (mut book, mut first) = Book::<N>::start(alloc, &opening()?, blanks)?;
+    let (mut book, mut first) = Book::<N>::start(alloc, &opening(1)?, blanks)?;
     assert_eq!(rt; first.room(), 10_000);
     let one = first.split(5);
     let two = first.split(5);
     assert_eq!(rt; first.room(), 9_998);
 
-    let (place, refusal, one) = pay(&mut book, one);
+    let (place, refusal, one) = pay(&mut book, one, payment(1, Cents::new(100)));
     assert_eq!(rt; (place, refusal), (Some(0), None));
-    let (place, refusal, two) = pay(&mut book, two);
+    let (place, refusal, two) = pay(&mut book, two, payment(1, Cents::new(100)));
     assert_eq!(rt; (place, refusal), (None, Some(Refusal::Stranger(1))));
     assert_eq!(rt;
         (one.terminal(), one.entries(), one.paid()),
@@ -79,5 +83,29 @@ fn two_purses<N: Naming, R: Abort>(rt: &R, alloc: Global, blanks: Blanks) -> Res
         book.tables().district(1, 1).map(|row| row.ytd),
         Some(Cents::new(10_100))
     );
+    Ok(())
+}
+
+#[test]
+fn the_rise_of_two_payments(rt: HostRuntime) -> Result<(), Fail> {
+    two_payments::<Brand, _>(&rt, rt.alloc(), Blanks::new())
+}
+
+/// 1.00 into warehouse 1, then 2.50 into warehouse 2.
+fn two_payments<N: Naming, R: Abort>(rt: &R, alloc: Global, blanks: Blanks) -> Result<(), Fail>
+    requires entries { blanks.entries.name ≡ N.entries }
+    requires cents { blanks.cents.name ≡ N.cents }
+{
+    let (mut book, purse) = Book::<N>::start(alloc, &opening(2)?, blanks)?;
+    assert_eq!(rt; book.rise(), Cents::new(0));
+
+    let (_, refusal, purse) = pay(&mut book, purse, payment(1, Cents::new(100)));
+    assert_eq!(rt; refusal, None);
+    assert_eq!(rt; book.rise(), Cents::new(100));
+
+    let (_, refusal, purse) = pay(&mut book, purse, payment(2, Cents::new(250)));
+    assert_eq!(rt; refusal, None);
+    assert_eq!(rt; book.rise(), Cents::new(350));
+    assert_eq!(rt; purse.paid(), Cents::new(350));
     Ok(())
 }

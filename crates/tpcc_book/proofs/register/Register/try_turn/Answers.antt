@@ -15,6 +15,8 @@ invariant_of-self-2 c =
     committed c.self.inside.opening state (state_of c.make_ready.new.tables c.make_ready.new.queue) (state_of c.commit-made.new.tables c.commit-made.new.queue)
     entries c.make_ready.new.journal.entries c.commit-made.new.journal.entries c.args.terminal c.args.number c.args.request.now c.in_ok-ready.ready.copy
     same c.make_ready.ensures.entries c.in_ok-ready.ensures.copy c.commit-made.ensures.state c.commit-made.ensures.entries in
+    let kept =
     subst IsKept (sym together)
     (after-kept keeps pays (record { opening = c.self.inside.opening; state = state; entries = entries }) c.args.terminal c.args.number c.args.request.now
-    c.moment_in_range.ensures.moment c.self.invariant c.in_ok-ready.ensures.ready.accepted)
+    c.moment_in_range.ensures.moment c.self.invariant.kept c.in_ok-ready.ensures.ready.accepted) in
+    record { kept = kept; opening_sum = c.self.invariant.opening_sum }
