@@ -2,24 +2,33 @@
 # Requests a second of `tpcc run` for 1 to 16 terminals and 1 and 2 servers, beside the same requests served one after
 # another on one thread (bench/serial), as a table for docs/BENCH.md. Each time is that of the whole process less that
 # of the same process with no card, so the opening is left out; a request is an entry of the journal.
-# Works in a scratch copy and leaves the repository as it is. CARDS and RUNS say how many cards a terminal asks and of
-# how many runs the quickest counts.
+#
+# CARDS is how many cards a terminal asks (1000), RUNS of how many runs the quickest counts (3). Both programs are built
+# in a scratch copy, which leaves the repository as it is; BUILT names a crates/ folder where they are built already.
 set -eu -o pipefail
 top=$(cd "$(dirname "$0")/.." && pwd)
 export PATH="/opt/rattle/bin:$PATH"
 cards=${CARDS:-1000}
 runs=${RUNS:-3}
-scratch=$(mktemp -d)
-trap 'rm -rf "$scratch"' EXIT
 
-mkdir "$scratch/crates"
-cp "$top/crates.txt" "$top/HANDLES" "$scratch/"
-cp -r "$top"/crates/* "$scratch/crates/"
-git -C "$scratch" init -q
-echo "tpcc_serial: tpcc_terminal tpcc_book tpcc_population tpcc_rows tpcc_money" >> "$scratch/crates.txt"
-cp -r "$top/bench/serial" "$scratch/crates/tpcc_serial"
-(cd "$scratch/crates/tpcc" && rt run -- run --cards 0) > "$scratch/log" 2>&1 || { cat "$scratch/log"; exit 1; }
-(cd "$scratch/crates/tpcc_serial" && rt run -- 1 0) > "$scratch/log" 2>&1 || { cat "$scratch/log"; exit 1; }
+# Builds a program by running it with these words.
+build() {
+    (cd "$1" && shift && rt run -- "$@") > "$scratch/log" 2>&1 || { cat "$scratch/log"; exit 1; }
+}
+
+if [ -z "${BUILT:-}" ]; then
+    scratch=$(mktemp -d)
+    trap 'rm -rf "$scratch"' EXIT
+    BUILT="$scratch/crates"
+    mkdir "$BUILT"
+    cp "$top/crates.txt" "$top/HANDLES" "$scratch/"
+    cp -r "$top"/crates/* "$BUILT/"
+    git -C "$scratch" init -q
+    echo "tpcc_serial: tpcc_terminal tpcc_book tpcc_population tpcc_rows tpcc_money" >> "$scratch/crates.txt"
+    cp -r "$top/bench/serial" "$BUILT/tpcc_serial"
+    build "$BUILT/tpcc" run --cards 0
+    build "$BUILT/tpcc_serial" 1 0
+fi
 
 # Runs the program with these words; sets the seconds of the quickest run and the entries of its journal.
 measure() {
@@ -44,8 +53,8 @@ ratio() {
     echo "$1 $2" | awk '{ printf "%.2f", $1 / $2 }'
 }
 
-run="$scratch/crates/tpcc/out/tpcc run --seeded --warehouses 4 --customers 300 --items 10000"
-serial="$scratch/crates/tpcc_serial/out/tpcc_serial"
+run="$BUILT/tpcc/out/tpcc run --seeded --warehouses 4 --customers 300 --items 10000"
+serial="$BUILT/tpcc_serial/out/tpcc_serial"
 echo "| Terminals | Serial, requests/s | 1 server | ratio | 2 servers | ratio |"
 echo "|---|---|---|---|---|---|"
 for terminals in 1 2 4 8 16; do

@@ -36,10 +36,7 @@ impl<N: Naming> Seat<N> {
         let mut terminal = terminal;
         let answer = book.serve(request, purse);
         terminal.note(&answer)?;
-        let delivered = matches!(
-            answer.outcome(),
-            Ok(Reply::Delivery(Delivery::District(_)))
-        );
+        let delivered = matches!(answer.outcome(), Ok(Reply::Delivery(Delivery::District(_))));
         let purse = purse_of(answer);
         Ok((Seat { terminal, purse }, delivered))
     }

@@ -1,8 +1,8 @@
 //! When progress is told, and what its lines say.
 use crate::progress::{Line, Progress};
+use std::fmt::Display;
 use std::io;
 use std::io::Eprint;
-use std::fmt::Display;
 use std::sync::atomic::{AtomicU64, Ordering};
 use std::test::Fail;
 use std::time::{Clock, Duration};
@@ -77,8 +77,20 @@ fn a_line_a_second(rt: HostRuntime) -> Result<(), Fail> {
 #[test]
 fn a_line_says_how_many_are_done(rt: HostRuntime) -> Result<(), Fail> {
     let progress = Progress::begin(&rt, &plan());
-    assert_eq!(rt; progress.line(), Line { done: 0, asked: 4_600 });
-    let text = format!(in rt.alloc(); "{}", Line { done: 120, asked: 4_600 })?;
+    assert_eq!(rt;
+        progress.line(),
+        Line {
+            done: 0,
+            asked: 4_600
+        }
+    );
+    let text = format!(in rt.alloc();
+        "{}",
+        Line {
+            done: 120,
+            asked: 4_600
+        }
+    )?;
     assert_eq!(rt; text.as_str(), "120 of 4600 requests");
     Ok(())
 }
