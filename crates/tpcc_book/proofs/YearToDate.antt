@@ -1,13 +1,12 @@
--- The sum of W_YTD over the first WAREHOUSE rows, and how far it can have risen.
+-- The sum of W_YTD over the first WAREHOUSE rows.
 use Rattle.std.proofs.Common.{◌≡◌, ◌∙◌, ℕ, zero, suc, ◌+◌, List, [], ◌∷◌, length, take, refl, arith}
-use Rattle.std.specs.Prelude.{ℤ, pos, ◌+ℤ◌, ◌≤ℤ◌, option_map, unwrap_or, slice_get}
+use Rattle.std.specs.Prelude.{ℤ, pos, ◌+ℤ◌, option_map, unwrap_or, slice_get}
 use Rattle.std.proofs.lemmas.Int.{ints}
 use Rattle.tpcc_money.specs.Amounts.{total}
 use Rattle.tpcc_rows.specs.declared.rows.WarehouseRow.{WarehouseRow}
 use Rattle.tpcc_rows.specs.Tables.{Rows}
 use Rattle.tpcc_tables.specs.Positions.{count_of}
 use Rattle.tpcc_rows.specs.declared.row.Table.TheVariants as table
-use Rattle.tpcc_book.specs.Past.{Past, IsKept, rise_of}
 
 abbrev amount_at : List WarehouseRow → ℕ → ℤ
 amount_at rows i = unwrap_or (option_map (λ w. w.ytd) (slice_get rows i)) (pos 0)
@@ -30,7 +29,3 @@ all (w ∷ rows) = omega (arith, ints, all rows)
 pub all_rows : (rows : Rows) → total (λ w. w.ytd) (take (count_of rows table.Warehouse) rows.warehouses) ≡ total (λ w. w.ytd) rows.warehouses
 unfolding count_of
 all_rows rows = all rows.warehouses
-
--- a kept past's rise is what at most 1,000,000,000 entries paid, each at most 5,000.00
-pub small_rise : (p : Past) → IsKept p → (pos 0 ≤ℤ rise_of p) × (rise_of p ≤ℤ pos 500000000000000)
-small_rise p kept = (omega (arith, ints, kept.rises, kept.paid_least), omega (arith, ints, kept.rises, kept.paid_most, kept.few))

@@ -1,4 +1,4 @@
-use Rattle.std.proofs.Common.{refl}
+use Rattle.std.proofs.Common.{◌∙◌, sym}
 use Rattle.tpcc_audit.proofs.Seen.{seen_stand, left_stand}
 use Rattle.tpcc_audit.proofs.settlement.settle.Goals as goal
 
@@ -7,8 +7,8 @@ returns-in-Ok-clause-settled g c =
     let gathered = c.in-Ok.ensures.gathered in
     record {
       gathered = gathered;
-      rise_is = gathered.paid_rose;
-      equal = refl;
+      rise_is = c.rise.ensures.rise;
+      equal = gathered.paid_rose ∙ sym c.rise.ensures.rise;
       stand = seen_stand c.receipts_stay.ensures c.args.purses.items c.in-Ok.book.entries c.args.receipts.now c.requires.receipts gathered.left.begins;
     }
 
