@@ -3,7 +3,7 @@
 //! The words are how many terminals and how many cards each. It writes how many entries the journal has.
 #![tactic(auto)]
 
-ghost use Rattle.std.specs.Prelude.{◌≡◌};
+ghost use Rattle.std.specs.Prelude.{◌≡◌, ◌≤◌};
 
 use std::alloc::Global;
 use std::env::Env;
@@ -17,89 +17,68 @@ use tpcc_terminal::Terminal;
 
 const SEED: u64 = 1;
 
-/// A terminal with its purse.
+/// A terminal with its purse, which is away while a request is served.
 #[derive(Drop)]
 struct Seat<N: Naming> {
     terminal: Terminal,
-    purse: Purse<N>,
+    purse: Option<Purse<N>>,
 }
 
-fn purse_of<N: Naming>(answer: Answer<Purse<N>>) -> Purse<N> {
+/// Whether a district was delivered or passed over, and the purse.
+fn parts<N: Naming>(answer: Answer<Purse<N>>) -> (bool, Purse<N>) {
+    let delivered = matches!(answer.outcome(), Ok(Reply::Delivery(Delivery::District(_))));
     let (_, _, _, purse) = answer.into_parts();
-    purse
+    (delivered, purse)
 }
 
 impl<N: Naming> Seat<N> {
     /// Serves a request and keeps its receipt; whether a district was delivered or passed over.
-    fn ask(self, book: &mut Book<N>, request: Request) -> Result<(Seat<N>, bool), NoMemory> {
-        let Seat { terminal, purse } = self;
-        let mut terminal = terminal;
+    fn ask(&mut self, book: &mut Book<N>, request: Request) -> bool {
+        let Some(purse) = self.purse.take() else {
+            return false;
+        };
         let answer = book.serve(request, purse);
-        terminal.note(&answer)?;
-        let delivered = matches!(answer.outcome(), Ok(Reply::Delivery(Delivery::District(_))));
-        let purse = purse_of(answer);
-        Ok((Seat { terminal, purse }, delivered))
+        // A receipt that there is no memory for is missed by nobody here.
+        let _ = self.terminal.note(&answer);
+        let (delivered, purse) = parts(answer);
+        self.purse = Some(purse);
+        delivered
     }
 
-    fn ask_next(self, book: &mut Book<N>) -> Result<Seat<N>, NoMemory> {
-        let mut seat = self;
-        let request = seat.terminal.next(Moment::new(0))?;
-        let (seat, _) = seat.ask(book, request)?;
-        Ok(seat)
+    fn ask_next(&mut self, book: &mut Book<N>) {
+        if let Ok(request) = self.terminal.next(Moment::new(0)) {
+            self.ask(book, request);
+        }
     }
 
-    fn deliver(self, book: &mut Book<N>) -> Result<(Seat<N>, bool), NoMemory> {
+    fn deliver(&mut self, book: &mut Book<N>) -> bool {
         self.ask(book, Request::Deliver(Moment::new(0)))
     }
 }
 
-fn put<N: Naming>(seats: &mut Vec<Seat<N>>, seat: Seat<N>) -> Result<(), NoMemory> {
-    match seats.push(seat) {
-        Ok(()) => Ok(()),
-        Err(_) => Err(NoMemory),
-    }
-}
-
-/// One card of each terminal.
-fn round<N: Naming>(
-    book: &mut Book<N>,
-    seats: Vec<Seat<N>>,
-    asked: Vec<Seat<N>>,
-) -> Result<(Vec<Seat<N>>, Vec<Seat<N>>), NoMemory> {
+/// Serves the cards of all terminals and as many deliveries, and then what is still queued.
+fn serve_all<N: Naming>(book: &mut Book<N>, all: Everyone<N>, cards: u32) {
+    let Everyone { seats, runner } = all;
     let mut seats = seats;
-    let mut asked = asked;
-    while let Some(seat) = seats.pop() {
-        let seat = seat.ask_next(book)?;
-        put(&mut asked, seat)?;
-    }
-    Ok((asked, seats))
-}
-
-fn serve_all<N: Naming>(
-    book: &mut Book<N>,
-    seats: Vec<Seat<N>>,
-    spare: Vec<Seat<N>>,
-    runner: Seat<N>,
-    cards: u32,
-) -> Result<(), NoMemory> {
-    let mut seats = seats;
-    let mut spare = spare;
     let mut runner = runner;
     for _ in 0..cards {
-        let (now, then) = round(book, seats, spare)?;
-        seats = now;
-        spare = then;
-        let (back, _) = runner.deliver(book)?;
-        runner = back;
+        for seat in seats.iter_mut() {
+            seat.ask_next(book);
+        }
+        runner.deliver(book);
     }
     for _ in 0..100_000 {
-        let (back, delivered) = runner.deliver(book)?;
-        runner = back;
-        if !delivered {
+        if !runner.deliver(book) {
             break;
         }
     }
-    Ok(())
+}
+
+/// The terminals, and the delivery runner behind them.
+#[derive(Drop)]
+struct Everyone<N: Naming> {
+    seats: Vec<Seat<N>>,
+    runner: Seat<N>,
 }
 
 fn seated<N: Naming>(
@@ -107,15 +86,67 @@ fn seated<N: Naming>(
     first: &mut Purse<N>,
     number: u32,
     scale: Scale,
-) -> Result<Seat<N>, NoMemory>
+) -> Option<Seat<N>>
     requires number { 1 ≤ number }
 {
     if first.room() == 0 {
-        return Err(NoMemory);
+        return None;
     }
-    let terminal = Terminal::new(alloc, number, scale, SEED)?;
+    let terminal = Terminal::new(alloc, number, scale, SEED).ok()?;
     let purse = first.split(number);
-    Ok(Seat { terminal, purse })
+    Some(Seat {
+        terminal,
+        purse: Some(purse),
+    })
+}
+
+// None where there was no memory for all of them.
+fn seats_of<N: Naming>(
+    alloc: Global,
+    first: &mut Purse<N>,
+    terminals: u32,
+    scale: Scale,
+) -> Option<Vec<Seat<N>>>
+    requires terminals { terminals ≤ 999 }
+{
+    let mut seats = Vec::new(alloc);
+    for number in 0..terminals {
+        let seat = seated(alloc, first, number + 1, scale)?;
+        seats.push(seat).ok()?;
+    }
+    Some(seats)
+}
+
+fn all_of<N: Naming>(
+    alloc: Global,
+    first: &mut Purse<N>,
+    terminals: u32,
+    scale: Scale,
+) -> Option<Everyone<N>>
+    requires terminals { terminals ≤ 999 }
+{
+    let runner = seated(alloc, first, terminals + 1, scale)?;
+    let seats = seats_of(alloc, first, terminals, scale)?;
+    Some(Everyone { seats, runner })
+}
+
+/// How many entries the journal has in the end.
+fn serve_with<N: Naming>(
+    alloc: Global,
+    book: Book<N>,
+    first: Purse<N>,
+    scale: Scale,
+    terminals: u32,
+    cards: u32,
+) -> usize
+    requires terminals { terminals ≤ 999 }
+{
+    let mut book = book;
+    let mut first = first;
+    if let Some(all) = all_of(alloc, &mut first, terminals, scale) {
+        serve_all(&mut book, all, cards);
+    }
+    book.journal().len()
 }
 
 fn serve_named<N: Naming>(
@@ -135,16 +166,7 @@ fn serve_named<N: Naming>(
         moment: Moment::new(0),
     };
     let (book, first) = Book::<N>::start(alloc, &opening, blanks)?;
-    let mut book = book;
-    let mut first = first;
-    let mut seats = Vec::new(alloc);
-    for number in 0..terminals {
-        let next = seated(alloc, &mut first, number + 1, scale)?;
-        put(&mut seats, next)?;
-    }
-    let runner = seated(alloc, &mut first, terminals + 1, scale)?;
-    serve_all(&mut book, seats, Vec::new(alloc), runner, cards)?;
-    Ok(book.journal().len())
+    Ok(serve_with(alloc, book, first, scale, terminals, cards))
 }
 
 fn number(words: &[String], place: usize) -> u32 {
