@@ -1,5 +1,5 @@
 //! How far a run has come, for whoever watches it at a terminal.
-ghost use Rattle.std.specs.Prelude.{◌≡◌, ◌+◌, ◌≤◌, ◌↔◌};
+ghost use Rattle.std.specs.Prelude.{◌≡◌, ◌+◌, ◌≤◌, ◌↔◌, true};
 
 use std::fmt::{self, Display, Formatter};
 use std::io::Eprint;
@@ -25,7 +25,7 @@ impl Progress {
     pub fn begin<R: Clock>(rt: &R, plan: &Plan) -> Progress {
         let threads = u64::from(plan.terminals) + 1;
         Progress {
-            asked: threads * u64::from(plan.cards),
+            asked: threads.saturating_mul(u64::from(plan.cards)),
             done: AtomicU64::new(0),
             told: AtomicU64::new(milliseconds(rt).unwrap_or(u64::MAX)),
         }
@@ -105,7 +105,7 @@ impl<C: Turning> Turning for Counting<'_, C> {
 
 // Whether a line told at one millisecond leaves room for another at the other.
 fn is_second_later(told: u64, now: u64) -> bool
-    ensures later { result ↔ (told + 1000 ≤ now) }
+    ensures later { (result ≡ true) ↔ (told + 1000 ≤ now) }
 {
     now.checked_sub(told).is_some_and(|since| since >= 1000)
 }
