@@ -3,8 +3,9 @@
 # another on one thread (bench/serial), as a table for docs/BENCH.md. Each time is that of the whole process less that
 # of the same process with no card, so the opening is left out; a request is an entry of the journal.
 #
-# CARDS is how many cards a terminal asks (1000), RUNS of how many runs the quickest counts (3). Both programs are built
-# in a scratch copy, which leaves the repository as it is; BUILT names a crates/ folder where they are built already.
+# TERMINALS are the rows (1 2 4 8 16), CARDS is how many cards a terminal asks (1000), RUNS of how many runs the quickest
+# counts (3). Both programs are built in a scratch copy, which leaves the repository as it is; BUILT names a crates/
+# folder where they are built already.
 set -eu -o pipefail
 top=$(cd "$(dirname "$0")/.." && pwd)
 export PATH="/opt/rattle/bin:$PATH"
@@ -57,7 +58,7 @@ run="$BUILT/tpcc/out/tpcc run --seeded --warehouses 4 --customers 300 --items 10
 serial="$BUILT/tpcc_serial/out/tpcc_serial"
 echo "| Terminals | Serial, requests/s | 1 server | ratio | 2 servers | ratio |"
 echo "|---|---|---|---|---|---|"
-for terminals in 1 2 4 8 16; do
+for terminals in ${TERMINALS:-1 2 4 8 16}; do
     alone=$(rate "$serial $terminals")
     one=$(rate "$run --terminals $terminals --servers 1 --cards")
     two=$(rate "$run --terminals $terminals --servers 2 --cards")
