@@ -10,7 +10,7 @@ use Rattle.tpcc_rows.specs.declared.rows.StockRow.{StockRow}
 use Rattle.tpcc_rows.specs.declared.requests.Line.{Line}
 use Rattle.tpcc_rows.specs.declared.requests.Order.{Order}
 use Rattle.tpcc_rows.specs.Ranges.{is_within, is_district_row, is_order_id}
-use Rattle.tpcc_rows.specs.Lists.{updated, inserted, inserted_all, by_key}
+use Rattle.tpcc_rows.specs.Lists.{updated, inserted, inserted_all, by_key, is_ascending}
 use Rattle.tpcc_rows.specs.Tables.{Rows, is_district, find_district, order_key, order_line_key, new_order_key}
 use Rattle.tpcc_rows.specs.WellKeyed.{IsWellKeyed, IsInRange}
 use Rattle.tpcc_rows.specs.NewOrder.{after_order, order_refusal, order_refusal_by_input, order_input_tests, order_row, order_line_row, order_line_rows, stock_after, with_next_order}
@@ -41,6 +41,10 @@ entered_is_well_keyed rows o lines k well =
     let after : IsWellKeyed (after_order rows order) =
     record { keyed = sound.keyed; parents = sound.parents; ranges = order_in_range rows order k.1.moment k.1.entered k.1.accepted well.keyed k.1.stocked well.ranges } in
     subst IsWellKeyed (sym (order_is rows o lines order k.1)) after
+
+pub lines_in_order : (rows : Rows) (o : OrderRow) (lines : List OrderLineRow) → IsOrder rows o lines → IsWellKeyed rows → is_ascending order_line_key (inserted_all (by_key order_line_key) lines rows.order_lines) ≡ true
+unfolding with_entered_order
+lines_in_order rows o lines k well = (entered_is_well_keyed rows o lines k well).keyed.order_lines
 
 -- ---- what the writes need
 

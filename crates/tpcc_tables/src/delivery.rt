@@ -7,13 +7,15 @@ ghost use Rattle.tpcc_rows.specs.Lists.{updated, is_ascending};
 ghost use Rattle.tpcc_rows.specs.Tables.{is_customer, is_line_of, is_new_order, is_order, no_order, customer_key, new_order_key, order_key};
 ghost use Rattle.tpcc_rows.specs.Delivery.{delivered_customer};
 
-use crate::find;
+use crate::keys::*;
 use crate::place::place_of_customer;
+use crate::{find, search};
 use tpcc_money::{Cents, Moment};
 use tpcc_rows::rows::*;
 
 /// The customer of an order, or 0, which no customer has, where there is no such order.
 pub fn customer_of(rows: &[OrderRow], warehouse: u32, district: u32, order: u32) -> u32
+    requires keyed { is_ascending order_key rows.now ≡ true }
     ensures { result ≡ (unwrap_or (find (is_order warehouse district order) rows.now) no_order).customer }
 {
     match find::order(rows, warehouse, district, order) {
@@ -58,11 +60,17 @@ fn place_of_new_order(
     district: u32,
     order: u32,
 ) -> Option<usize>
+    requires keyed { is_ascending new_order_key rows.now ≡ true }
     ensures { result ≡ position (is_new_order warehouse district order) rows.now }
 {
-    rows.iter().position(|row| {
-        row.warehouse == warehouse && row.district == district && row.order == order
-    })
+    search::place_of(
+        rows,
+        &OrderKey {
+            warehouse,
+            district,
+            order,
+        },
+    )
 }
 
 /// The NEW-ORDER row of an order, removed.
@@ -78,11 +86,17 @@ pub fn remove_new_order(rows: &mut Vec<NewOrderRow>, warehouse: u32, district: u
 }
 
 fn place_of_order(rows: &[OrderRow], warehouse: u32, district: u32, order: u32) -> Option<usize>
+    requires keyed { is_ascending order_key rows.now ≡ true }
     ensures { result ≡ position (is_order warehouse district order) rows.now }
 {
-    rows.iter().position(|row| {
-        row.warehouse == warehouse && row.district == district && row.id == order
-    })
+    search::place_of(
+        rows,
+        &OrderKey {
+            warehouse,
+            district,
+            order,
+        },
+    )
 }
 
 /// The carrier of an order, set.

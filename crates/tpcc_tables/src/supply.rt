@@ -9,6 +9,8 @@ ghost use Rattle.tpcc_rows.specs.NewOrder.{quantity_after, stock_after_line, sto
 ghost use Rattle.tpcc_tables.specs.Writes.{line_of};
 ghost use Rattle.tpcc_tables.specs.Supplies.{is_supplied_by, HasRoomFor, is_near};
 
+use crate::keys::StockKey;
+use crate::search;
 use tpcc_rows::rows::{OrderLineRow, StockRow};
 
 /// S_QUANTITY after a line: 91 more where fewer than 10 would be left.
@@ -39,9 +41,14 @@ fn take_line(row: &mut StockRow, home: u32, line: &OrderLineRow)
 }
 
 fn place_of_supply(rows: &[StockRow], line: &OrderLineRow) -> Option<usize>
+    requires keyed { is_ascending stock_key rows.now ≡ true }
     ensures { result ≡ position (is_supplied_by (line_of line.now)) rows.now }
 {
-    rows.iter().position(|row| line.supply == row.warehouse && line.item == row.item)
+    let key = StockKey {
+        warehouse: line.supply,
+        item: line.item,
+    };
+    search::place_of(rows, &key)
 }
 
 /// One line, taken from its STOCK row.

@@ -5,7 +5,7 @@ ghost use Rattle.tpcc_tables.specs.Loads as loads;
 
 use super::Tables;
 use crate::faults::{self, LoadFault};
-use crate::keyed;
+use crate::insertion;
 use tpcc_rows::row::Row;
 use tpcc_rows::rows::*;
 
@@ -61,7 +61,7 @@ impl Tables {
         if let Some(fault) = faults::of_warehouse(self, &row) {
             return Err((row, fault));
         }
-        if let Err(row) = keyed::insert(&mut self.warehouses, row) {
+        if let Err(row) = insertion::insert(&mut self.warehouses, row) {
             return Err((row, LoadFault::NoMemory));
         }
         Ok(())
@@ -77,7 +77,7 @@ impl Tables {
         if let Some(fault) = faults::of_district(self, &row) {
             return Err((row, fault));
         }
-        if let Err(row) = keyed::insert(&mut self.districts, row) {
+        if let Err(row) = insertion::insert(&mut self.districts, row) {
             return Err((row, LoadFault::NoMemory));
         }
         Ok(())
@@ -93,7 +93,7 @@ impl Tables {
         if let Some(fault) = faults::of_customer(self, &row) {
             return Err((row, fault));
         }
-        if let Err(row) = keyed::insert(&mut self.customers, row) {
+        if let Err(row) = insertion::insert(&mut self.customers, row) {
             return Err((row, LoadFault::NoMemory));
         }
         Ok(())
@@ -109,7 +109,7 @@ impl Tables {
         if let Some(fault) = faults::of_history(self, &row) {
             return Err((row, fault));
         }
-        if let Err(row) = keyed::push(&mut self.histories, row) {
+        if let Err(row) = insertion::push(&mut self.histories, row) {
             return Err((row, LoadFault::NoMemory));
         }
         self.payment_room = 0;
@@ -126,7 +126,7 @@ impl Tables {
         if let Some(fault) = faults::of_order(self, &row) {
             return Err((row, fault));
         }
-        if let Err(row) = keyed::insert(&mut self.orders, row) {
+        if let Err(row) = insertion::insert(&mut self.orders, row) {
             return Err((row, LoadFault::NoMemory));
         }
         self.order_room = 0;
@@ -143,7 +143,7 @@ impl Tables {
         if let Some(fault) = faults::of_order_line(self, &row) {
             return Err((row, fault));
         }
-        if let Err(row) = keyed::insert(&mut self.order_lines, row) {
+        if let Err(row) = insertion::insert(&mut self.order_lines, row) {
             return Err((row, LoadFault::NoMemory));
         }
         self.order_room = 0;
@@ -160,7 +160,7 @@ impl Tables {
         if let Some(fault) = faults::of_new_order(self, &row) {
             return Err((row, fault));
         }
-        if let Err(row) = keyed::insert(&mut self.new_orders, row) {
+        if let Err(row) = insertion::insert(&mut self.new_orders, row) {
             return Err((row, LoadFault::NoMemory));
         }
         self.order_room = 0;
@@ -177,7 +177,7 @@ impl Tables {
         if let Some(fault) = faults::of_item(self, &row) {
             return Err((row, fault));
         }
-        if let Err(row) = keyed::insert(&mut self.items, row) {
+        if let Err(row) = insertion::insert(&mut self.items, row) {
             return Err((row, LoadFault::NoMemory));
         }
         Ok(())
@@ -193,7 +193,7 @@ impl Tables {
         if let Some(fault) = faults::of_stock(self, &row) {
             return Err((row, fault));
         }
-        if let Err(row) = keyed::insert(&mut self.stocks, row) {
+        if let Err(row) = insertion::insert(&mut self.stocks, row) {
             return Err((row, LoadFault::NoMemory));
         }
         Ok(())

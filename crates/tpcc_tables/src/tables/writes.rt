@@ -5,7 +5,7 @@ ghost use Rattle.tpcc_rows.specs.Ranges.{is_carrier};
 ghost use Rattle.tpcc_tables.specs.Writes.{with_payment, IsPayment, with_entered_order, IsOrder};
 
 use super::Tables;
-use crate::{delivery, keyed, place, supply};
+use crate::{delivery, insertion, place, supply};
 use tpcc_money::{Moment, NoMemory};
 use tpcc_rows::rows::*;
 use tpcc_rows::text::Text;
@@ -76,14 +76,14 @@ impl Tables {
     {
         place::raise_next_order(&mut self.districts, order.warehouse, order.district);
         supply::supply(&mut self.stocks, order.warehouse, lines.as_slice());
-        keyed::insert_all(&mut self.order_lines, lines);
+        insertion::insert_all(&mut self.order_lines, lines);
         let waiting = NewOrderRow {
             order: order.id,
             district: order.district,
             warehouse: order.warehouse,
         };
-        keyed::insert_one(&mut self.new_orders, waiting);
-        keyed::insert_one(&mut self.orders, order);
+        insertion::insert_one(&mut self.new_orders, waiting);
+        insertion::insert_one(&mut self.orders, order);
         self.order_room = 0;
     }
 

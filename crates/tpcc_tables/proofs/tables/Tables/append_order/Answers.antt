@@ -7,7 +7,7 @@ use Rattle.tpcc_tables.specs.Held.{Held}
 use Rattle.tpcc_tables.specs.View.{rows_of}
 use Rattle.tpcc_tables.specs.Writes.{IsOrder, with_entered_order}
 use Rattle.tpcc_tables.proofs.SupplyLemmas.{near_starts}
-use Rattle.tpcc_tables.proofs.EnterLemmas.{district_fits, enterable, entered_is_well_keyed, written_rows}
+use Rattle.tpcc_tables.proofs.EnterLemmas.{district_fits, enterable, entered_is_well_keyed, lines_in_order, written_rows}
 use Rattle.tpcc_tables.proofs.tables.Tables.append_order.Goals as goal
 
 pub raise_next_order-requires-clause-fits : goal.raise_next_order-requires-clause-fits
@@ -25,6 +25,10 @@ pub supply-requires-clause-quantities : goal.supply-requires-clause-quantities
 supply-requires-clause-quantities c =
     let known = enterable (rows_of c.self.inside) c.args.order c.args.lines.items (subst (λ (t : Held). IsOrder t.rows c.args.order c.args.lines.items) (sym c.self.view_is) c.requires.order) in
     subst (λ (ls : List OrderLineRow). list_all (λ l. is_within 1 10 l.quantity) ls ≡ true) (sym c.as_slice.ensures.value) known.quantities
+
+pub insert_all-requires-clause-keyed : goal.insert_all-requires-clause-keyed
+insert_all-requires-clause-keyed c =
+    lines_in_order (rows_of c.self.inside) c.args.order c.args.lines.items (subst (λ (t : Held). IsOrder t.rows c.args.order c.args.lines.items) (sym c.self.view_is) c.requires.order) c.self.invariant.well_keyed
 
 pub invariant_of-self : goal.invariant_of-self
 invariant_of-self c =

@@ -1,6 +1,6 @@
 use Rattle.std.proofs.Common.{◌≡◌, ◌+◌, ◌≤◌, length, vec_len, vec_capacity}
 use Rattle.tpcc_rows.specs.Lists.{by_key, inserted_all}
-use Rattle.tpcc_tables.proofs.keyed.insert_all.Given as goal
+use Rattle.tpcc_tables.proofs.insertion.insert_all.Given as goal
 
 abbrev pub invariant-loop-row : goal.invariant-loop-row
 invariant-loop-row g l = record {

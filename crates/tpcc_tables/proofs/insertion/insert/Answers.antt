@@ -3,7 +3,7 @@ use Rattle.std.specs.List.{prefix_len}
 use Rattle.std.proofs.lemmas.List.Sums.{prefix_len-le-length}
 use Rattle.tpcc_rows.specs.Lists.{by_key}
 use Rattle.tpcc_rows.proofs.BodyLemmas.{insert_is_inserted}
-use Rattle.tpcc_tables.proofs.keyed.insert.Goals as goal
+use Rattle.tpcc_tables.proofs.insertion.insert.Goals as goal
 
 pub insert-requires : goal.insert-requires
 insert-requires g c =

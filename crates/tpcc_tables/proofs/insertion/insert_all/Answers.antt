@@ -1,11 +1,18 @@
-use Rattle.std.proofs.Common.{◌∙◌, ap, arith}
+use Rattle.std.proofs.Common.{◌∙◌, ap, sym, arith, length}
 use Rattle.std.specs.Prelude.{IsOk}
-use Rattle.std.proofs.lemmas.List.{length_push}
+use Rattle.std.proofs.lemmas.List.{length_push, map-id}
 use Rattle.std.proofs.lemmas.Iterator.Adapters.{YieldsList-from_vec}
-use Rattle.std.proofs.lemmas.Iterator.Consumers.{YieldsList-turn}
-use Rattle.tpcc_rows.specs.Lists.{by_key, inserted}
+use Rattle.std.proofs.lemmas.Iterator.Consumers.{YieldsList-turn, YieldsList-so_far}
+use Rattle.tpcc_rows.specs.Lists.{by_key, inserted, inserted_all, is_ascending}
+use Rattle.tpcc_tables.proofs.SearchLemmas.{ascending-so_far}
 use Rattle.tpcc_tables.proofs.DeliverLemmas.{on_ok, one_more_inserted}
-use Rattle.tpcc_tables.proofs.keyed.insert_all.Goals as goal
+use Rattle.tpcc_tables.proofs.insertion.insert_all.Goals as goal
+
+pub insert-requires : goal.insert-requires
+insert-requires g c =
+    let so_far = YieldsList-so_far (YieldsList-from_vec {s = c.into_iter-row-iterator.result} c.args.added.items (cc) (cc)) c.loop-row.yielded c.loop-row.row-iterator c.loop-row.yielded_by in
+    let rows = c.loop-row.invariant.rows ∙ ap (λ news. inserted_all (by_key g.T.Keyed.key) news c.args.rows.now.items) (sym (map-id c.loop-row.yielded) ∙ so_far) in
+    record { keyed = ap (is_ascending g.T.Keyed.key) rows ∙ ascending-so_far g.T.Keyed.key (length c.loop-row.yielded) c.args.added.items c.args.rows.now.items c.requires.keyed }
 
 pub loop-row-preserved : goal.loop-row-preserved
 loop-row-preserved g c =

@@ -1,0 +1,8 @@
+use Rattle.std.proofs.Common.{◌∙◌, [], ◌∷◌}
+use Rattle.tpcc_rows.specs.Tables.{is_district, district_key}
+use Rattle.tpcc_tables.specs.Searches.{is_same_key}
+use Rattle.tpcc_tables.proofs.SearchLemmas.{same_find, district_test}
+use Rattle.tpcc_tables.proofs.find.district.Goals as goal
+
+pub returns : goal.returns
+returns c = c.find.ensures ∙ same_find (λ row. is_same_key (district_key row) (c.args.warehouse ∷ c.args.district ∷ [])) (is_district c.args.warehouse c.args.district) (district_test c.args.warehouse c.args.district) c.args.rows.now

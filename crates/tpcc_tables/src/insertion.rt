@@ -1,0 +1,69 @@
+//! New rows put into a table in ascending order of its keys.
+ghost use Rattle.std.specs.Prelude.{[], ◌∷◌, ◌++◌, ◌≡◌, ◌<◌, ◌≤◌, not, true, OnOk, OnErr, IfErr, IsOk, ◌+◌, length, vec_len, vec_capacity};
+ghost use Rattle.std.specs.List.{prefix_len};
+ghost use Rattle.tpcc_rows.specs.Lists.{by_key, is_ascending, inserted, inserted_all};
+
+use crate::keyed::Keyed;
+
+/// How many rows stand before the first one that comes after a new row, searched by halves.
+fn place_for<T: Keyed>(rows: &[T], added: &T) -> usize
+    requires keyed { is_ascending T.key rows.now ≡ true }
+    ensures { result ≡ prefix_len (λ row. not (by_key T.key added.now row)) rows.now }
+{
+    rows.partition_point(
+        |row: &T| -> bool
+            ensures { result ≡ not (by_key T.key added.entry.now row.now) }
+        { !added.comes_before(row) },
+    )
+}
+
+/// Puts a new row at its place, or gives it back where there is no memory for it.
+pub fn insert<T: Keyed>(rows: &mut Vec<T>, added: T) -> Result<(), T>
+    requires keyed { is_ascending T.key rows.old.items ≡ true }
+    ensures inserted { OnOk result (rows.new.items ≡ inserted (by_key T.key) added rows.old.items) }
+    ensures same { OnErr result (rows.new.items ≡ rows.old.items) }
+    ensures given_back { IfErr result (λ row. row ≡ added) }
+    ensures len { vec_len rows.new ≤ vec_len rows.old + 1 }
+    ensures capacity { vec_capacity rows.old ≤ vec_capacity rows.new }
+    ensures succeeds { vec_len rows.old < vec_capacity rows.old → IsOk result }
+{
+    let place = place_for(rows.as_slice(), &added);
+    match rows.insert(place, added) {
+        Ok(()) => Ok(()),
+        Err(failed) => Err(failed.value),
+    }
+}
+
+/// Appends a row, or gives it back where there is no memory for it.
+pub fn push<T>(rows: &mut Vec<T>, added: T) -> Result<(), T>
+    ensures appended { OnOk result (rows.new.items ≡ rows.old.items ++ added ∷ []) }
+    ensures same { OnErr result (rows.new.items ≡ rows.old.items) }
+    ensures given_back { IfErr result (λ row. row ≡ added) }
+    ensures capacity { vec_capacity rows.old ≤ vec_capacity rows.new }
+    ensures succeeds { vec_len rows.old < vec_capacity rows.old → IsOk result }
+{
+    match rows.push(added) {
+        Ok(()) => Ok(()),
+        Err(failed) => Err(failed.value),
+    }
+}
+
+/// Puts a new row at its place, for which there is room.
+pub fn insert_one<T: Keyed>(rows: &mut Vec<T>, added: T)
+    requires keyed { is_ascending T.key rows.old.items ≡ true }
+    requires room { vec_len rows.old < vec_capacity rows.old }
+    ensures { rows.new.items ≡ inserted (by_key T.key) added rows.old.items }
+{
+    insert(rows, added).unwrap();
+}
+
+/// Puts new rows at their places, one after another; there is room for them.
+pub fn insert_all<T: Keyed>(rows: &mut Vec<T>, added: Vec<T>)
+    requires keyed { is_ascending T.key (inserted_all (by_key T.key) added.items rows.old.items) ≡ true }
+    requires room { vec_len rows.old + length added.items ≤ vec_capacity rows.old }
+    ensures { rows.new.items ≡ inserted_all (by_key T.key) added.items rows.old.items }
+{
+    for row in added {
+        insert(rows, row).unwrap();
+    }
+}
