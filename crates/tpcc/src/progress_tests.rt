@@ -6,17 +6,21 @@ use std::io::Eprint;
 use std::sync::atomic::{AtomicU64, Ordering};
 use std::test::Fail;
 use std::time::{Clock, Duration};
+use tpcc_book::{Register, Turned};
 use tpcc_money::Moment;
+use tpcc_population::{Opening, Scale};
+use tpcc_rows::{Request, StockQuery};
 use tpcc_run::Plan;
+use tpcc_server::Turning;
 
 /// A clock that stands at a millisecond, and a count of the lines that were written.
 #[derive(Drop)]
-struct Desk {
+struct Watch {
     now: AtomicU64,
     lines: AtomicU64,
 }
 
-impl Desk {
+impl Watch {
     fn lines_at(&self, progress: &Progress, millisecond: u64) -> u64 {
         self.now.store(millisecond, Ordering::SeqCst);
         progress.tell(self);
@@ -24,7 +28,7 @@ impl Desk {
     }
 }
 
-impl Clock for Desk {
+impl Clock for Watch {
     fn monotonic(&self) -> io::Result<Duration> {
         Ok(Duration::from_millis(self.now.load(Ordering::SeqCst)))
     }
@@ -34,7 +38,7 @@ impl Clock for Desk {
     }
 }
 
-impl Eprint for Desk {
+impl Eprint for Watch {
     fn eprint<D: Display + Drop>(&self, _value: D) -> io::Result<()> {
         Ok(())
     }
@@ -58,19 +62,19 @@ fn plan() -> Plan {
 
 #[test]
 fn a_line_a_second(rt: HostRuntime) -> Result<(), Fail> {
-    let desk = Desk {
+    let watch = Watch {
         now: AtomicU64::new(5_000),
         lines: AtomicU64::new(0),
     };
-    let progress = Progress::begin(&desk, &plan());
-    assert_eq!(rt; desk.lines_at(&progress, 5_000), 0);
-    assert_eq!(rt; desk.lines_at(&progress, 5_999), 0);
-    assert_eq!(rt; desk.lines_at(&progress, 6_000), 1);
-    assert_eq!(rt; desk.lines_at(&progress, 6_500), 1);
-    assert_eq!(rt; desk.lines_at(&progress, 6_999), 1);
-    assert_eq!(rt; desk.lines_at(&progress, 9_000), 2);
-    assert_eq!(rt; desk.lines_at(&progress, 8_000), 2);
-    assert_eq!(rt; desk.lines_at(&progress, 10_000), 3);
+    let progress = Progress::begin(&watch, &plan());
+    assert_eq!(rt; watch.lines_at(&progress, 5_000), 0);
+    assert_eq!(rt; watch.lines_at(&progress, 5_999), 0);
+    assert_eq!(rt; watch.lines_at(&progress, 6_000), 1);
+    assert_eq!(rt; watch.lines_at(&progress, 6_500), 1);
+    assert_eq!(rt; watch.lines_at(&progress, 6_999), 1);
+    assert_eq!(rt; watch.lines_at(&progress, 9_000), 2);
+    assert_eq!(rt; watch.lines_at(&progress, 8_000), 2);
+    assert_eq!(rt; watch.lines_at(&progress, 10_000), 3);
     Ok(())
 }
 
@@ -92,5 +96,45 @@ fn a_line_says_how_many_are_done(rt: HostRuntime) -> Result<(), Fail> {
         }
     )?;
     assert_eq!(rt; text.as_str(), "120 of 4600 requests");
+    Ok(())
+}
+
+/// A call that makes one turn.
+#[derive(Drop)]
+struct OneTurn;
+
+impl Turning for OneTurn {
+    fn turn_once(
+        self,
+        register: &mut Register,
+        request: Request,
+        terminal: u32,
+        number: u64,
+    ) -> Turned {
+        register.turn(request, terminal, number)
+    }
+}
+
+#[test]
+fn a_turn_is_counted_as_done(rt: HostRuntime) -> Result<(), Fail> {
+    let scale = Scale::new(1, 10, 100)?;
+    let mut register = Register::start(rt.alloc(), &Opening::Plain { scale })?;
+    let request = Request::Stock(StockQuery {
+        warehouse: 1,
+        district: 1,
+        threshold: 10,
+    });
+    let progress = Progress::begin(&rt, &plan());
+    let turned = progress
+        .counting(OneTurn)
+        .turn_once(&mut register, request, 1, 0);
+    assert!(rt; turned.place == Some(0));
+    assert_eq!(rt;
+        progress.line(),
+        Line {
+            done: 1,
+            asked: 4_600
+        }
+    );
     Ok(())
 }
