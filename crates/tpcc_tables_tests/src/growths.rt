@@ -2,45 +2,36 @@
 //! answers as ever. Run with `rt try --test --fail-alloc N`: the first growths are those of the rows to load, whose
 //! refusal ends the test, the next ones those of the payment.
 use crate::opening::{customer, district, put, text, warehouse};
-use std::alloc::Global;
-use std::test::Fail;
-use tpcc_money::{Cents, Moment};
-use tpcc_payment::{Payment, pay};
+use crate::payments::payment;
+use std::alloc::AllocGlobal;
+use std::process::Abort;
+use tpcc_money::Cents;
+use tpcc_payment::pay;
 use tpcc_rows::{Refusal, Table, Who};
 use tpcc_tables::Tables;
 
-fn small_opening(alloc: Global) -> Result<(Tables, Payment), Fail> {
-    let mut tables = Tables::empty(alloc);
-    put(&mut tables, warehouse(alloc, 1)?)?;
-    put(&mut tables, district(alloc, 1, 1, 0)?)?;
-    put(&mut tables, customer(alloc, 1, 10)?)?;
-    let payment = Payment {
-        warehouse: 1,
-        district: 1,
-        customer_warehouse: 1,
-        customer_district: 1,
-        who: Who::Name(text(alloc, b"BARBARBAR")?),
-        amount: Cents::new(100),
-        moment: Moment::new(0),
-    };
-    Ok((tables, payment))
+fn small_opening(rt: &(impl Abort + AllocGlobal)) -> Tables {
+    let mut tables = Tables::empty(rt.alloc());
+    put(rt, &mut tables, warehouse(rt, 1));
+    put(rt, &mut tables, district(rt, 1, 1, 0));
+    put(rt, &mut tables, customer(rt, 1, 10));
+    tables
 }
 
 #[test]
-fn of_a_payment(rt: HostRuntime) -> Result<(), Fail> {
-    let alloc = rt.alloc();
-    let (mut tables, payment) = small_opening(alloc)?;
-    let reply = match pay(alloc, &mut tables, &payment) {
+fn of_a_payment(rt: HostRuntime) {
+    let mut tables = small_opening(&rt);
+    let payment = payment(Who::Name(text(&rt, b"BARBARBAR")), 100);
+    let reply = match pay(rt.alloc(), &mut tables, &payment) {
         Ok(reply) => reply,
         Err(refusal) => {
             assert_eq!(rt; refusal, Refusal::NoMemory);
             assert_eq!(rt; tables.count(Table::History), 0);
-            let customer = tables.customer(1, 1, 10).ok_or("customer")?;
+            let customer = tables.customer(1, 1, 10).expect(&rt, "customer");
             assert_eq!(rt; customer.balance, Cents::new(-1000));
-            pay(alloc, &mut tables, &payment)?
+            pay(rt.alloc(), &mut tables, &payment).expect(&rt, "the payment again")
         }
     };
     assert_eq!(rt; reply.balance, Cents::new(-1100));
     assert_eq!(rt; tables.count(Table::History), 1);
-    Ok(())
 }

@@ -2,9 +2,8 @@
 use crate::opening::{
     customer, district, history, item, line, new_order, opened, order, put, stock, warehouse,
 };
-use std::alloc::Global;
+use std::alloc::AllocGlobal;
 use std::process::Abort;
-use std::test::Fail;
 use tpcc_money::Cents;
 use tpcc_rows::{Row, RowRef, Table};
 use tpcc_tables::{LoadFault, Tables};
@@ -16,8 +15,8 @@ fn has_rows(rt: &impl Abort, tables: &Tables, table: Table, count: usize) {
 }
 
 #[test]
-fn counts_rows(rt: HostRuntime) -> Result<(), Fail> {
-    let tables = opened(rt.alloc(), 10_000)?;
+fn counts_rows(rt: HostRuntime) {
+    let tables = opened(&rt, 10_000);
     has_rows(&rt, &tables, Table::Warehouse, 1);
     has_rows(&rt, &tables, Table::District, 1);
     has_rows(&rt, &tables, Table::Customer, 10);
@@ -27,115 +26,110 @@ fn counts_rows(rt: HostRuntime) -> Result<(), Fail> {
     has_rows(&rt, &tables, Table::NewOrder, 3);
     has_rows(&rt, &tables, Table::Item, 50);
     has_rows(&rt, &tables, Table::Stock, 50);
-    Ok(())
 }
 
-fn finds_customers(rt: &impl Abort, tables: &Tables) -> Result<(), Fail> {
-    let customer = tables.customer(1, 1, 10).ok_or("customer")?;
+fn finds_customers(rt: &impl Abort, tables: &Tables) {
+    let customer = tables.customer(1, 1, 10).expect(rt, "customer");
     assert_eq!(rt; customer.credit.bytes(), b"BC".as_slice());
-    let seventh = tables.customer_by_name(1, 1, b"BARBARBAR").ok_or("name")?;
+    let seventh = tables
+        .customer_by_name(1, 1, b"BARBARBAR")
+        .expect(rt, "name");
     assert_eq!(rt; seventh.id, 7);
-    let fifth = tables.customer_by_name(1, 1, b"BARBAROUGHT").ok_or("name")?;
+    let fifth = tables
+        .customer_by_name(1, 1, b"BARBAROUGHT")
+        .expect(rt, "name");
     assert_eq!(rt; fifth.id, 5);
     assert!(rt; tables.customer_by_name(1, 1, b"EINGEINGEING").is_none());
-    Ok(())
 }
 
-fn finds_orders(rt: &impl Abort, tables: &Tables) -> Result<(), Fail> {
-    assert_eq!(rt; tables.order(1, 1, 8).ok_or("order")?.carrier, None);
-    assert_eq!(rt; tables.order(1, 1, 7).ok_or("order")?.carrier, Some(7));
-    let line = tables.line(1, 1, 8, 5).ok_or("line")?;
+fn finds_orders(rt: &impl Abort, tables: &Tables) {
+    assert_eq!(rt; tables.order(1, 1, 8).expect(rt, "order").carrier, None);
+    assert_eq!(rt; tables.order(1, 1, 7).expect(rt, "order").carrier, Some(7));
+    let line = tables.line(1, 1, 8, 5).expect(rt, "line");
     assert_eq!(rt; line.item, 40);
     assert_eq!(rt; line.amount, Cents::new(500));
-    assert_eq!(rt; tables.new_order(1, 1, 9).ok_or("new order")?.order, 9);
+    assert_eq!(rt; tables.new_order(1, 1, 9).expect(rt, "new order").order, 9);
     assert!(rt; tables.new_order(1, 1, 7).is_none());
     assert_eq!(rt; tables.last_order(1, 1, 8), Some(8));
     assert_eq!(rt; tables.last_order(1, 1, 11), None);
     assert_eq!(rt; tables.oldest_new(1, 1), Some(8));
     assert_eq!(rt; tables.oldest_new(1, 2), None);
-    Ok(())
 }
 
-fn finds_other_rows(rt: &impl Abort, tables: &Tables) -> Result<(), Fail> {
+fn finds_other_rows(rt: &impl Abort, tables: &Tables) {
     assert!(rt; tables.warehouse(2).is_none());
-    assert_eq!(rt; tables.district(1, 1).ok_or("district")?.next_order, 11);
+    assert_eq!(rt; tables.district(1, 1).expect(rt, "district").next_order, 11);
     assert!(rt; tables.district(1, 2).is_none());
-    assert_eq!(rt; tables.item(20).ok_or("item")?.price, Cents::new(119));
-    assert_eq!(rt; tables.stock(1, 20).ok_or("stock")?.quantity, 30);
-    Ok(())
+    assert_eq!(rt; tables.item(20).expect(rt, "item").price, Cents::new(119));
+    assert_eq!(rt; tables.stock(1, 20).expect(rt, "stock").quantity, 30);
 }
 
 #[test]
-fn looks_rows_up(rt: HostRuntime) -> Result<(), Fail> {
-    let tables = opened(rt.alloc(), 10_000)?;
-    finds_customers(&rt, &tables)?;
-    finds_orders(&rt, &tables)?;
-    finds_other_rows(&rt, &tables)?;
+fn looks_rows_up(rt: HostRuntime) {
+    let tables = opened(&rt, 10_000);
+    finds_customers(&rt, &tables);
+    finds_orders(&rt, &tables);
+    finds_other_rows(&rt, &tables);
     tables.well_keyed();
-    Ok(())
+}
+
+/// Generic, so that its proof lets each value go in one step.
+fn are_equal<T: PartialEq + Drop>(one: T, other: T) -> bool {
+    one == other
 }
 
 /// Whether a row is refused by that fault and comes back as it was.
-fn is_refused(tables: &mut Tables, row: Result<Row, Fail>, fault: LoadFault) -> Result<bool, Fail> {
-    let row = row?;
-    let copy = row.duplicate()?;
-    match tables.load(row) {
-        Ok(()) => Ok(false),
-        Err((back, found)) => Ok(back == copy && found == fault),
-    }
+fn is_refused(rt: &impl Abort, tables: &mut Tables, row: Row, fault: LoadFault) -> bool {
+    let copy = row.duplicate().expect(rt, "a copy");
+    let refusal = tables.load(row).expect_err(rt, "a refusal");
+    are_equal(refusal, (copy, fault))
 }
 
-fn refuses_homes(rt: &impl Abort, alloc: Global, tables: &mut Tables) -> Result<(), Fail> {
-    assert!(rt; is_refused(tables, warehouse(alloc, 1), LoadFault::Duplicate)?);
-    assert!(rt; is_refused(tables, warehouse(alloc, 101), LoadFault::Field)?);
-    assert!(rt; is_refused(tables, district(alloc, 1, 1, 0), LoadFault::Duplicate)?);
-    assert!(rt; is_refused(tables, district(alloc, 2, 1, 0), LoadFault::NoParent)?);
-    let past_total = district(alloc, 1, 2, 1_000_000_000_000);
-    assert!(rt; is_refused(tables, past_total, LoadFault::Field)?);
-    Ok(())
+fn refuses_homes(rt: &(impl Abort + AllocGlobal), tables: &mut Tables) {
+    assert!(rt; is_refused(rt, tables, warehouse(rt, 1), LoadFault::Duplicate));
+    assert!(rt; is_refused(rt, tables, warehouse(rt, 101), LoadFault::Field));
+    assert!(rt; is_refused(rt, tables, district(rt, 1, 1, 0), LoadFault::Duplicate));
+    assert!(rt; is_refused(rt, tables, district(rt, 2, 1, 0), LoadFault::NoParent));
+    let past_total = district(rt, 1, 2, 1_000_000_000_000);
+    assert!(rt; is_refused(rt, tables, past_total, LoadFault::Field));
 }
 
-fn refuses_customers(rt: &impl Abort, alloc: Global, tables: &mut Tables) -> Result<(), Fail> {
-    assert!(rt; is_refused(tables, customer(alloc, 1, 10), LoadFault::Duplicate)?);
-    assert!(rt; is_refused(tables, customer(alloc, 2, 1), LoadFault::NoParent)?);
-    assert!(rt; is_refused(tables, customer(alloc, 1, 3001), LoadFault::Field)?);
-    assert!(rt; is_refused(tables, history(alloc, 11), LoadFault::NoParent)?);
-    assert!(rt; is_refused(tables, history(alloc, 0), LoadFault::Field)?);
-    Ok(())
+fn refuses_customers(rt: &(impl Abort + AllocGlobal), tables: &mut Tables) {
+    assert!(rt; is_refused(rt, tables, customer(rt, 1, 10), LoadFault::Duplicate));
+    assert!(rt; is_refused(rt, tables, customer(rt, 2, 1), LoadFault::NoParent));
+    assert!(rt; is_refused(rt, tables, customer(rt, 1, 3001), LoadFault::Field));
+    assert!(rt; is_refused(rt, tables, history(rt, 11), LoadFault::NoParent));
+    assert!(rt; is_refused(rt, tables, history(rt, 0), LoadFault::Field));
 }
 
-fn refuses_orders(rt: &impl Abort, alloc: Global, tables: &mut Tables) -> Result<(), Fail> {
-    assert!(rt; is_refused(tables, Ok(order(10)), LoadFault::Duplicate)?);
-    assert!(rt; is_refused(tables, Ok(order(11)), LoadFault::Field)?);
-    assert!(rt; is_refused(tables, line(alloc, 10, 5), LoadFault::Duplicate)?);
-    assert!(rt; is_refused(tables, line(alloc, 11, 5), LoadFault::NoParent)?);
-    assert!(rt; is_refused(tables, line(alloc, 10, 16), LoadFault::Field)?);
-    assert!(rt; is_refused(tables, Ok(new_order(8)), LoadFault::Duplicate)?);
-    assert!(rt; is_refused(tables, Ok(new_order(11)), LoadFault::NoParent)?);
-    assert!(rt; is_refused(tables, Ok(new_order(0)), LoadFault::Field)?);
-    Ok(())
+fn refuses_orders(rt: &(impl Abort + AllocGlobal), tables: &mut Tables) {
+    assert!(rt; is_refused(rt, tables, order(10), LoadFault::Duplicate));
+    assert!(rt; is_refused(rt, tables, order(11), LoadFault::Field));
+    assert!(rt; is_refused(rt, tables, line(rt, 10, 5), LoadFault::Duplicate));
+    assert!(rt; is_refused(rt, tables, line(rt, 11, 5), LoadFault::NoParent));
+    assert!(rt; is_refused(rt, tables, line(rt, 10, 16), LoadFault::Field));
+    assert!(rt; is_refused(rt, tables, new_order(8), LoadFault::Duplicate));
+    assert!(rt; is_refused(rt, tables, new_order(11), LoadFault::NoParent));
+    assert!(rt; is_refused(rt, tables, new_order(0), LoadFault::Field));
 }
 
-fn refuses_items(rt: &impl Abort, alloc: Global, tables: &mut Tables) -> Result<(), Fail> {
-    assert!(rt; is_refused(tables, item(alloc, 1), LoadFault::Duplicate)?);
-    assert!(rt; is_refused(tables, item(alloc, 0), LoadFault::Field)?);
-    assert!(rt; is_refused(tables, stock(alloc, 1), LoadFault::Duplicate)?);
-    assert!(rt; is_refused(tables, stock(alloc, 51), LoadFault::NoParent)?);
-    assert!(rt; is_refused(tables, stock(alloc, 0), LoadFault::Field)?);
-    Ok(())
+fn refuses_items(rt: &(impl Abort + AllocGlobal), tables: &mut Tables) {
+    assert!(rt; is_refused(rt, tables, item(rt, 1), LoadFault::Duplicate));
+    assert!(rt; is_refused(rt, tables, item(rt, 0), LoadFault::Field));
+    assert!(rt; is_refused(rt, tables, stock(rt, 1), LoadFault::Duplicate));
+    assert!(rt; is_refused(rt, tables, stock(rt, 51), LoadFault::NoParent));
+    assert!(rt; is_refused(rt, tables, stock(rt, 0), LoadFault::Field));
 }
 
 #[test]
-fn refuses_rows(rt: HostRuntime) -> Result<(), Fail> {
-    let alloc = rt.alloc();
-    let mut tables = opened(alloc, 10_000)?;
-    refuses_homes(&rt, alloc, &mut tables)?;
-    refuses_customers(&rt, alloc, &mut tables)?;
-    refuses_orders(&rt, alloc, &mut tables)?;
-    refuses_items(&rt, alloc, &mut tables)?;
+fn refuses_rows(rt: HostRuntime) {
+    let mut tables = opened(&rt, 10_000);
+    refuses_homes(&rt, &mut tables);
+    refuses_customers(&rt, &mut tables);
+    refuses_orders(&rt, &mut tables);
+    refuses_items(&rt, &mut tables);
     assert_eq!(rt; tables.count(Table::Warehouse), 1);
     assert_eq!(rt; tables.count(Table::History), 10);
-    Ok(())
 }
 
 /// I_ID of the ITEM row there.
@@ -147,30 +141,27 @@ fn item_at(tables: &Tables, position: usize) -> Option<u32> {
 }
 
 #[test]
-fn keeps_keys_in_order(rt: HostRuntime) -> Result<(), Fail> {
-    let alloc = rt.alloc();
-    let mut tables = Tables::empty(alloc);
+fn keeps_keys_in_order(rt: HostRuntime) {
+    let mut tables = Tables::empty(rt.alloc());
     for id in [3u32, 1, 2] {
-        put(&mut tables, item(alloc, id)?)?;
+        put(&rt, &mut tables, item(&rt, id));
     }
     assert_eq!(rt; item_at(&tables, 0), Some(1));
     assert_eq!(rt; item_at(&tables, 1), Some(2));
     assert_eq!(rt; item_at(&tables, 2), Some(3));
-    Ok(())
 }
 
 #[test]
-fn makes_room(rt: HostRuntime) -> Result<(), Fail> {
-    let mut tables = opened(rt.alloc(), 10_000)?;
+fn makes_room(rt: HostRuntime) {
+    let mut tables = opened(&rt, 10_000);
     // A growth that is refused once leaves all rows, and the next one is made.
     if tables.reserve_order(15).is_err() {
-        tables.reserve_order(15)?;
+        tables.reserve_order(15).expect(&rt, "room for an order");
     }
     if tables.reserve_payment().is_err() {
-        tables.reserve_payment()?;
+        tables.reserve_payment().expect(&rt, "room for a payment");
     }
     assert_eq!(rt; tables.count(Table::Order), 10);
     assert_eq!(rt; tables.count(Table::OrderLine), 50);
     assert_eq!(rt; tables.count(Table::History), 10);
-    Ok(())
 }

@@ -1,6 +1,7 @@
-//! Rows of the plain opening for one warehouse, one district, ten customers and fifty items.
-use std::alloc::Global;
-use std::test::Fail;
+//! Rows of the plain opening for one warehouse, one district, ten customers and fifty items. Want of memory ends the
+//! test at once: an `Err` in its place would let go of half a row on a path of its own, and each such path is proved.
+use std::alloc::AllocGlobal;
+use std::process::Abort;
 use tpcc_money::{Cents, Moment, Rate};
 use tpcc_rows::{
     Address, CustomerRow, DistrictRow, HistoryRow, ItemRow, NewOrderRow, OrderLineRow, OrderRow,
@@ -8,55 +9,55 @@ use tpcc_rows::{
 };
 use tpcc_tables::{LoadFault, Tables};
 
-pub fn text(alloc: Global, bytes: &[u8]) -> Result<Text, Fail> {
-    Ok(Text::new(alloc, bytes, bytes.len())?)
+pub fn text(rt: &(impl Abort + AllocGlobal), bytes: &[u8]) -> Text {
+    Text::new(rt.alloc(), bytes, bytes.len()).expect(rt, "a text")
 }
 
 /// A prefix and a number in decimal with leading zeros in so many places.
-fn numbered(alloc: Global, prefix: &str, places: usize, number: u32) -> Result<Text, Fail> {
-    let padded = format!(in alloc; "{prefix}{number:0places$}")?;
-    Ok(Text::new(alloc, padded.as_bytes(), 500)?)
+fn numbered(rt: &(impl Abort + AllocGlobal), prefix: &str, places: usize, number: u32) -> Text {
+    let padded = format!(in rt.alloc(); "{prefix}{number:0places$}");
+    text(rt, padded.expect(rt, "a number").as_bytes())
 }
 
 /// So many times one letter, behind a text.
-fn repeated(alloc: Global, text: &[u8], letter: u8, times: u32) -> Result<Text, Fail> {
-    let mut bytes = Vec::from_slice(alloc, text)?;
+fn repeated(rt: &(impl Abort + AllocGlobal), front: &[u8], letter: u8, times: u32) -> Text {
+    let mut bytes = Vec::from_slice(rt.alloc(), front).expect(rt, "the front");
     for _ in 0..times {
-        bytes.push(letter)?;
+        bytes.push(letter).expect(rt, "a letter");
     }
-    Ok(Text::new(alloc, bytes.as_slice(), 500)?)
+    text(rt, bytes.as_slice())
 }
 
-fn address(alloc: Global) -> Result<Address, Fail> {
-    Ok(Address {
-        street_1: text(alloc, b"MAINSTREET")?,
-        street_2: text(alloc, b"SIDESTREET")?,
-        city: text(alloc, b"CITYCENTRE")?,
-        state: text(alloc, b"AB")?,
-        zip: text(alloc, b"000111111")?,
+fn address(rt: &(impl Abort + AllocGlobal)) -> Address {
+    Address {
+        street_1: text(rt, b"MAINSTREET"),
+        street_2: text(rt, b"SIDESTREET"),
+        city: text(rt, b"CITYCENTRE"),
+        state: text(rt, b"AB"),
+        zip: text(rt, b"000111111"),
+    }
+}
+
+pub fn warehouse(rt: &(impl Abort + AllocGlobal), id: u32) -> Row {
+    Row::Warehouse(WarehouseRow {
+        id,
+        name: numbered(rt, "WARE", 3, id),
+        address: address(rt),
+        tax: Rate::new(1000),
+        ytd: Cents::new(100_000),
     })
 }
 
-pub fn warehouse(alloc: Global, id: u32) -> Result<Row, Fail> {
-    Ok(Row::Warehouse(WarehouseRow {
-        id,
-        name: numbered(alloc, "WARE", 3, id)?,
-        address: address(alloc)?,
-        tax: Rate::new(1000),
-        ytd: Cents::new(100_000),
-    }))
-}
-
-pub fn district(alloc: Global, warehouse: u32, id: u32, ytd: i64) -> Result<Row, Fail> {
-    Ok(Row::District(DistrictRow {
+pub fn district(rt: &(impl Abort + AllocGlobal), warehouse: u32, id: u32, ytd: i64) -> Row {
+    Row::District(DistrictRow {
         id,
         warehouse,
-        name: numbered(alloc, "DIST", 2, id)?,
-        address: address(alloc)?,
+        name: numbered(rt, "DIST", 2, id),
+        address: address(rt),
         tax: Rate::new(100),
         ytd: Cents::new(ytd),
         next_order: 11,
-    }))
+    })
 }
 
 fn last_name(id: u32) -> &'static [u8] {
@@ -75,58 +76,34 @@ fn credit(id: u32) -> &'static [u8] {
     }
 }
 
-/// C_FIRST, C_MIDDLE and C_LAST.
-fn full_name(alloc: Global, id: u32) -> Result<(Text, Text, Text), Fail> {
-    let first = numbered(alloc, "FIRST", 4, 9999u32.saturating_sub(id))?;
-    let middle = text(alloc, b"OE")?;
-    let last = text(alloc, last_name(id))?;
-    Ok((first, middle, last))
-}
-
-/// C_PHONE, C_CREDIT and C_DATA.
-fn particulars(alloc: Global, id: u32) -> Result<(Text, Text, Text), Fail> {
-    let phone = numbered(alloc, "", 16, id)?;
-    let credit = text(alloc, credit(id))?;
-    let information = repeated(alloc, b"", b'x', 300)?;
-    Ok((phone, credit, information))
-}
-
 fn discount(id: u32) -> Rate {
     Rate::new((id % 51 * 100) as u16)
 }
 
-fn customer_row(alloc: Global, district: u32, id: u32) -> Result<CustomerRow, Fail> {
-    let (first, middle, last) = full_name(alloc, id)?;
-    let address = address(alloc)?;
-    let (phone, credit, information) = particulars(alloc, id)?;
-    Ok(CustomerRow {
+pub fn customer(rt: &(impl Abort + AllocGlobal), district: u32, id: u32) -> Row {
+    Row::Customer(CustomerRow {
         id,
         district,
         warehouse: 1,
-        first,
-        middle,
-        last,
-        address,
-        phone,
+        first: numbered(rt, "FIRST", 4, 9999u32.saturating_sub(id)),
+        middle: text(rt, b"OE"),
+        last: text(rt, last_name(id)),
+        address: address(rt),
+        phone: numbered(rt, "", 16, id),
         since: Moment::new(0),
-        credit,
+        credit: text(rt, credit(id)),
         credit_limit: Cents::new(5_000_000),
         discount: discount(id),
         balance: Cents::new(-1000),
         ytd_payment: Cents::new(1000),
         payment_count: 1,
         delivery_count: 0,
-        information,
+        information: repeated(rt, b"", b'x', 300),
     })
 }
 
-pub fn customer(alloc: Global, district: u32, id: u32) -> Result<Row, Fail> {
-    let row = customer_row(alloc, district, id)?;
-    Ok(Row::Customer(row))
-}
-
-pub fn history(alloc: Global, customer: u32) -> Result<Row, Fail> {
-    Ok(Row::History(HistoryRow {
+pub fn history(rt: &(impl Abort + AllocGlobal), customer: u32) -> Row {
+    Row::History(HistoryRow {
         customer,
         customer_district: 1,
         customer_warehouse: 1,
@@ -134,8 +111,8 @@ pub fn history(alloc: Global, customer: u32) -> Result<Row, Fail> {
         warehouse: 1,
         date: Moment::new(0),
         amount: Cents::new(1000),
-        information: text(alloc, b"OPENINGPAYMENT")?,
-    }))
+        information: text(rt, b"OPENINGPAYMENT"),
+    })
 }
 
 pub fn order(id: u32) -> Row {
@@ -151,9 +128,9 @@ pub fn order(id: u32) -> Row {
     })
 }
 
-pub fn line(alloc: Global, order: u32, number: u32) -> Result<Row, Fail> {
+pub fn line(rt: &(impl Abort + AllocGlobal), order: u32, number: u32) -> Row {
     let waits = order > 7;
-    Ok(Row::OrderLine(OrderLineRow {
+    Row::OrderLine(OrderLineRow {
         order,
         district: 1,
         warehouse: 1,
@@ -166,8 +143,8 @@ pub fn line(alloc: Global, order: u32, number: u32) -> Result<Row, Fail> {
         delivered: if waits { None } else { Some(Moment::new(0)) },
         quantity: 5,
         amount: Cents::new(if waits { i64::from(number) * 100 } else { 0 }),
-        district_information: repeated(alloc, b"01", b'd', 22)?,
-    }))
+        district_information: repeated(rt, b"01", b'd', 22),
+    })
 }
 
 pub fn new_order(order: u32) -> Row {
@@ -178,131 +155,94 @@ pub fn new_order(order: u32) -> Row {
     })
 }
 
-pub fn item(alloc: Global, id: u32) -> Result<Row, Fail> {
-    Ok(Row::Item(ItemRow {
+pub fn item(rt: &(impl Abort + AllocGlobal), id: u32) -> Row {
+    Row::Item(ItemRow {
         id,
         image: id,
-        name: numbered(alloc, "ITEMNAME", 6, id)?,
+        name: numbered(rt, "ITEMNAME", 6, id),
         price: Cents::new(99 + i64::from(id)),
-        information: repeated(alloc, b"", b'i', 26)?,
-    }))
-}
-
-type FiveTexts = (Text, Text, Text, Text, Text);
-
-/// S_DIST_01 to S_DIST_05.
-fn first_five_texts(alloc: Global) -> Result<FiveTexts, Fail> {
-    let first = repeated(alloc, b"01", b'd', 22)?;
-    let second = repeated(alloc, b"02", b'd', 22)?;
-    let third = repeated(alloc, b"03", b'd', 22)?;
-    let fourth = repeated(alloc, b"04", b'd', 22)?;
-    let fifth = repeated(alloc, b"05", b'd', 22)?;
-    Ok((first, second, third, fourth, fifth))
-}
-
-/// S_DIST_06 to S_DIST_10.
-fn last_five_texts(alloc: Global) -> Result<FiveTexts, Fail> {
-    let sixth = repeated(alloc, b"06", b'd', 22)?;
-    let seventh = repeated(alloc, b"07", b'd', 22)?;
-    let eighth = repeated(alloc, b"08", b'd', 22)?;
-    let ninth = repeated(alloc, b"09", b'd', 22)?;
-    let tenth = repeated(alloc, b"10", b'd', 22)?;
-    Ok((sixth, seventh, eighth, ninth, tenth))
-}
-
-fn stock_texts(alloc: Global) -> Result<[Text; 10], Fail> {
-    let (first, second, third, fourth, fifth) = first_five_texts(alloc)?;
-    let (sixth, seventh, eighth, ninth, tenth) = last_five_texts(alloc)?;
-    Ok([
-        first, second, third, fourth, fifth, sixth, seventh, eighth, ninth, tenth,
-    ])
-}
-
-fn stock_row(alloc: Global, item: u32) -> Result<StockRow, Fail> {
-    let district_information = stock_texts(alloc)?;
-    let information = repeated(alloc, b"", b's', 26)?;
-    Ok(StockRow {
-        item,
-        warehouse: 1,
-        quantity: 10u32.saturating_add(item % 91),
-        district_information,
-        ytd: 0,
-        order_count: 0,
-        remote_count: 0,
-        information,
+        information: repeated(rt, b"", b'i', 26),
     })
 }
 
-pub fn stock(alloc: Global, item: u32) -> Result<Row, Fail> {
-    let row = stock_row(alloc, item)?;
-    Ok(Row::Stock(row))
+/// S_DIST_01 to S_DIST_10.
+fn district_texts(rt: &(impl Abort + AllocGlobal)) -> [Text; 10] {
+    [
+        repeated(rt, b"01", b'd', 22),
+        repeated(rt, b"02", b'd', 22),
+        repeated(rt, b"03", b'd', 22),
+        repeated(rt, b"04", b'd', 22),
+        repeated(rt, b"05", b'd', 22),
+        repeated(rt, b"06", b'd', 22),
+        repeated(rt, b"07", b'd', 22),
+        repeated(rt, b"08", b'd', 22),
+        repeated(rt, b"09", b'd', 22),
+        repeated(rt, b"10", b'd', 22),
+    ]
 }
 
-/// Loads the row that a load gave back, where want of memory was why.
-fn put_again(tables: &mut Tables, row: Row, fault: LoadFault) -> Result<(), LoadFault> {
-    if fault != LoadFault::NoMemory {
-        return Err(fault);
+pub fn stock(rt: &(impl Abort + AllocGlobal), item: u32) -> Row {
+    Row::Stock(StockRow {
+        item,
+        warehouse: 1,
+        quantity: 10u32.saturating_add(item % 91),
+        district_information: district_texts(rt),
+        ytd: 0,
+        order_count: 0,
+        remote_count: 0,
+        information: repeated(rt, b"", b's', 26),
+    })
+}
+
+/// Loads a row; where a growth is refused once, the row that came back is loaded.
+pub fn put(rt: &impl Abort, tables: &mut Tables, row: Row) {
+    if let Err((row, fault)) = tables.load(row) {
+        assert_eq!(rt; fault, LoadFault::NoMemory);
+        tables.load(row).expect(rt, "the row again");
     }
-    match tables.load(row) {
-        Ok(()) => Ok(()),
-        Err((_, fault)) => Err(fault),
-    }
 }
 
-/// Loads a row; a growth that is refused once is tried again with the row that came back.
-pub fn put(tables: &mut Tables, row: Row) -> Result<(), LoadFault> {
-    match tables.load(row) {
-        Ok(()) => Ok(()),
-        Err((row, fault)) => put_again(tables, row, fault),
-    }
+fn put_homes(rt: &(impl Abort + AllocGlobal), tables: &mut Tables, district_ytd: i64) {
+    put(rt, tables, warehouse(rt, 1));
+    put(rt, tables, district(rt, 1, 1, district_ytd));
 }
 
-fn put_homes(alloc: Global, tables: &mut Tables, district_ytd: i64) -> Result<(), Fail> {
-    put(tables, warehouse(alloc, 1)?)?;
-    put(tables, district(alloc, 1, 1, district_ytd)?)?;
-    Ok(())
-}
-
-fn put_customers(alloc: Global, tables: &mut Tables) -> Result<(), Fail> {
+fn put_customers(rt: &(impl Abort + AllocGlobal), tables: &mut Tables) {
     for id in 1..11u32 {
-        put(tables, customer(alloc, 1, id)?)?;
-        put(tables, history(alloc, id)?)?;
+        put(rt, tables, customer(rt, 1, id));
+        put(rt, tables, history(rt, id));
     }
-    Ok(())
 }
 
-fn put_items(alloc: Global, tables: &mut Tables) -> Result<(), Fail> {
+fn put_items(rt: &(impl Abort + AllocGlobal), tables: &mut Tables) {
     for id in 1..51u32 {
-        put(tables, item(alloc, id)?)?;
-        put(tables, stock(alloc, id)?)?;
+        put(rt, tables, item(rt, id));
+        put(rt, tables, stock(rt, id));
     }
-    Ok(())
 }
 
-fn put_order(alloc: Global, tables: &mut Tables, id: u32) -> Result<(), Fail> {
-    put(tables, order(id))?;
+fn put_order(rt: &(impl Abort + AllocGlobal), tables: &mut Tables, id: u32) {
+    put(rt, tables, order(id));
     for number in 1..6u32 {
-        put(tables, line(alloc, id, number)?)?;
+        put(rt, tables, line(rt, id, number));
     }
-    Ok(())
 }
 
-fn put_orders(alloc: Global, tables: &mut Tables) -> Result<(), Fail> {
+fn put_orders(rt: &(impl Abort + AllocGlobal), tables: &mut Tables) {
     for id in 1..11u32 {
-        put_order(alloc, tables, id)?;
+        put_order(rt, tables, id);
     }
     for id in 8..11u32 {
-        put(tables, new_order(id))?;
+        put(rt, tables, new_order(id));
     }
-    Ok(())
 }
 
 /// The opening, save what has been paid into the district.
-pub fn opened(alloc: Global, district_ytd: i64) -> Result<Tables, Fail> {
-    let mut tables = Tables::empty(alloc);
-    put_homes(alloc, &mut tables, district_ytd)?;
-    put_customers(alloc, &mut tables)?;
-    put_items(alloc, &mut tables)?;
-    put_orders(alloc, &mut tables)?;
-    Ok(tables)
+pub fn opened(rt: &(impl Abort + AllocGlobal), district_ytd: i64) -> Tables {
+    let mut tables = Tables::empty(rt.alloc());
+    put_homes(rt, &mut tables, district_ytd);
+    put_customers(rt, &mut tables);
+    put_items(rt, &mut tables);
+    put_orders(rt, &mut tables);
+    tables
 }

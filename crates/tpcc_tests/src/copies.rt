@@ -1,4 +1,6 @@
 //! Copies of every row, request and reply, with ample memory: each equals its source.
+ghost use Rattle.std.specs.Prelude.{◌≡◌};
+
 use crate::replies::{accepted, paid, rolled_back, status};
 use crate::requests::{new_order_request, payment, status_query, stock_query, ticket};
 use crate::rows::{
@@ -8,63 +10,68 @@ use std::test::Fail;
 use tpcc_money::{Moment, NoMemory};
 use tpcc_rows::{Delivery, DistrictDelivery, Entered, Entry, Level, Reply, Request, Row, Who};
 
-fn row_is_copied(row: Row) -> Result<bool, NoMemory> {
-    let copy = row.duplicate()?;
-    Ok(copy == row)
-}
-
-fn request_is_copied(request: Request) -> Result<bool, NoMemory> {
-    let copy = request.duplicate()?;
-    Ok(copy == request)
-}
-
-fn reply_is_copied(reply: Reply) -> Result<bool, NoMemory> {
-    let copy = reply.duplicate()?;
-    Ok(copy == reply)
+/// Whether a copy equals its source. It is generic so that its proof lets a value go in one step, whatever the
+/// value owns.
+fn is_copied<T, F>(source: T, duplicate: F) -> Result<bool, NoMemory>
+where
+    T: PartialEq + Drop,
+    F: Fn(&T) -> Result<T, NoMemory> + Drop,
+    requires { F.IsAlwaysCallable duplicate }
+{
+    let copy = duplicate(&source)?;
+    Ok(copy == source)
 }
 
 #[test]
 fn of_the_rows_of_a_district(rt: HostRuntime) -> Result<(), Fail> {
-    let alloc = rt.alloc();
-    assert!(rt; row_is_copied(Row::Warehouse(warehouse(alloc)?))?);
-    assert!(rt; row_is_copied(Row::District(district(alloc)?))?);
-    assert!(rt; row_is_copied(Row::Customer(customer(alloc)?))?);
-    assert!(rt; row_is_copied(Row::History(history(alloc)?))?);
+    assert!(rt; is_copied(Row::Warehouse(warehouse(&rt)), Row::duplicate)?);
+    assert!(rt; is_copied(Row::District(district(&rt)), Row::duplicate)?);
+    assert!(rt; is_copied(Row::Customer(customer(&rt)), Row::duplicate)?);
+    assert!(rt; is_copied(Row::History(history(&rt)), Row::duplicate)?);
     Ok(())
 }
 
 #[test]
 fn of_the_rows_of_orders_and_items(rt: HostRuntime) -> Result<(), Fail> {
-    let alloc = rt.alloc();
-    assert!(rt; row_is_copied(Row::Order(order()))?);
-    assert!(rt; row_is_copied(Row::OrderLine(order_line(alloc)?))?);
-    assert!(rt; row_is_copied(Row::NewOrder(new_order()))?);
-    assert!(rt; row_is_copied(Row::Item(item(alloc)?))?);
-    assert!(rt; row_is_copied(Row::Stock(stock(alloc)?))?);
+    assert!(rt; is_copied(Row::Order(order()), Row::duplicate)?);
+    assert!(rt; is_copied(Row::OrderLine(order_line(&rt)), Row::duplicate)?);
+    assert!(rt; is_copied(Row::NewOrder(new_order()), Row::duplicate)?);
+    assert!(rt; is_copied(Row::Item(item(&rt)), Row::duplicate)?);
+    assert!(rt; is_copied(Row::Stock(stock(&rt)), Row::duplicate)?);
     Ok(())
 }
 
 #[test]
 fn of_requests(rt: HostRuntime) -> Result<(), Fail> {
-    let alloc = rt.alloc();
-    let name = Who::Name(text(alloc, b"BARBARBAR")?);
-    assert!(rt; request_is_copied(Request::Payment(payment(name)))?);
-    assert!(rt; request_is_copied(Request::Payment(payment(Who::Number(1))))?);
-    assert!(rt; request_is_copied(Request::NewOrder(new_order_request(alloc)?))?);
-    assert!(rt; request_is_copied(Request::Status(status_query()))?);
-    assert!(rt; request_is_copied(Request::Stock(stock_query()))?);
-    assert!(rt; request_is_copied(Request::Delivery(ticket()))?);
-    assert!(rt; request_is_copied(Request::Deliver(Moment::new(120)))?);
+    let name = Who::Name(text(&rt, b"BARBARBAR"));
+    assert!(rt; is_copied(Request::Payment(payment(name)), Request::duplicate)?);
+    assert!(rt;
+        is_copied(
+            Request::Payment(payment(Who::Number(1))),
+            Request::duplicate
+        )?
+    );
+    assert!(rt;
+        is_copied(
+            Request::NewOrder(new_order_request(&rt)),
+            Request::duplicate
+        )?
+    );
+    assert!(rt; is_copied(Request::Status(status_query()), Request::duplicate)?);
+    assert!(rt; is_copied(Request::Stock(stock_query()), Request::duplicate)?);
+    assert!(rt; is_copied(Request::Delivery(ticket()), Request::duplicate)?);
+    assert!(rt; is_copied(Request::Deliver(Moment::new(120)), Request::duplicate)?);
     Ok(())
 }
 
 #[test]
 fn of_replies_with_texts(rt: HostRuntime) -> Result<(), Fail> {
-    let alloc = rt.alloc();
-    assert!(rt; reply_is_copied(Reply::Entered(Entered::Accepted(accepted(alloc)?)))?);
-    assert!(rt; reply_is_copied(Reply::Entered(Entered::RolledBack(rolled_back(alloc)?)))?);
-    assert!(rt; reply_is_copied(Reply::Paid(paid(alloc)?))?);
-    assert!(rt; reply_is_copied(Reply::Status(status(alloc)?))?);
+    let accepted = Entered::Accepted(accepted(&rt));
+    let rolled_back = Entered::RolledBack(rolled_back(&rt));
+    assert!(rt; is_copied(Reply::Entered(accepted), Reply::duplicate)?);
+    assert!(rt; is_copied(Reply::Entered(rolled_back), Reply::duplicate)?);
+    assert!(rt; is_copied(Reply::Paid(paid(&rt)), Reply::duplicate)?);
+    assert!(rt; is_copied(Reply::Status(status(&rt)), Reply::duplicate)?);
     Ok(())
 }
 
@@ -89,10 +96,10 @@ fn district_delivery() -> DistrictDelivery {
 #[test]
 fn of_replies_of_numbers(rt: HostRuntime) -> Result<(), Fail> {
     let run = Delivery::District(district_delivery());
-    assert!(rt; reply_is_copied(Reply::Level(level()))?);
-    assert!(rt; reply_is_copied(Reply::Queued(ticket()))?);
-    assert!(rt; reply_is_copied(Reply::Delivery(run))?);
-    assert!(rt; reply_is_copied(Reply::Delivery(Delivery::NoneQueued))?);
+    assert!(rt; is_copied(Reply::Level(level()), Reply::duplicate)?);
+    assert!(rt; is_copied(Reply::Queued(ticket()), Reply::duplicate)?);
+    assert!(rt; is_copied(Reply::Delivery(run), Reply::duplicate)?);
+    assert!(rt; is_copied(Reply::Delivery(Delivery::NoneQueued), Reply::duplicate)?);
     Ok(())
 }
 
@@ -102,9 +109,8 @@ fn of_an_entry(rt: HostRuntime) -> Result<(), Fail> {
         terminal: 1,
         number: 0,
         request: Request::Payment(payment(Who::Number(10))),
-        reply: Reply::Paid(paid(rt.alloc())?),
+        reply: Reply::Paid(paid(&rt)),
     };
-    let copy = entry.duplicate()?;
-    assert!(rt; copy == entry);
+    assert!(rt; is_copied(entry, Entry::duplicate)?);
     Ok(())
 }

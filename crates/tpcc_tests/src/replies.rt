@@ -1,45 +1,40 @@
 //! Replies built by hand, and the lists of their lines.
 use crate::rows::{address, full_name, text};
-use std::alloc::Global;
+use std::alloc::AllocGlobal;
+use std::process::Abort;
 use std::test::Fail;
 use tpcc_money::{Cents, Moment, Rate};
 use tpcc_rows::{
-    AcceptedOrder, Address, Brand, EnteredLine, EnteredLines, LastOrder, Paid, RolledBackOrder,
-    Status, StatusLine, StatusLines, Text,
+    AcceptedOrder, Brand, EnteredLine, EnteredLines, LastOrder, Paid, RolledBackOrder, Status,
+    StatusLine, StatusLines,
 };
 
-fn entered_line(alloc: Global, number: u32) -> Result<EnteredLine, Fail> {
-    Ok(EnteredLine {
+fn entered_line(rt: &(impl Abort + AllocGlobal), number: u32) -> EnteredLine {
+    EnteredLine {
         number,
         supply: 1,
         item: 20,
-        name: text(alloc, b"ITEMNAME000020")?,
+        name: text(rt, b"ITEMNAME000020"),
         quantity: 10,
         stock: 20,
         brand: Brand::Original,
         price: Cents::new(119),
         amount: Cents::new(1190),
-    })
-}
-
-fn entered_lines(alloc: Global) -> Result<EnteredLines, Fail> {
-    let mut lines = Vec::new(alloc);
-    for number in [1, 2] {
-        lines.push(entered_line(alloc, number)?)?;
     }
-    Ok(EnteredLines::new(lines))
 }
 
-pub fn accepted(alloc: Global) -> Result<AcceptedOrder, Fail> {
-    let lines = entered_lines(alloc)?;
-    let last = text(alloc, b"BARBARBAR")?;
-    let credit = text(alloc, b"GC")?;
-    Ok(AcceptedOrder {
+fn entered_lines(rt: &(impl Abort + AllocGlobal)) -> EnteredLines {
+    let lines = vec![in rt.alloc(); entered_line(rt, 1), entered_line(rt, 2)];
+    EnteredLines::new(lines.expect(rt, "two lines"))
+}
+
+pub fn accepted(rt: &(impl Abort + AllocGlobal)) -> AcceptedOrder {
+    AcceptedOrder {
         warehouse: 1,
         district: 1,
         customer: 1,
-        last,
-        credit,
+        last: text(rt, b"BARBARBAR"),
+        credit: text(rt, b"GC"),
         discount: Rate::new(100),
         order: 11,
         line_count: 2,
@@ -47,42 +42,24 @@ pub fn accepted(alloc: Global) -> Result<AcceptedOrder, Fail> {
         district_tax: Rate::new(100),
         entry_date: Moment::new(0),
         total: Cents::new(5495),
-        lines,
-    })
+        lines: entered_lines(rt),
+    }
 }
 
-pub fn rolled_back(alloc: Global) -> Result<RolledBackOrder, Fail> {
-    Ok(RolledBackOrder {
+pub fn rolled_back(rt: &(impl Abort + AllocGlobal)) -> RolledBackOrder {
+    RolledBackOrder {
         warehouse: 1,
         district: 1,
         customer: 1,
-        last: text(alloc, b"BARBARBAR")?,
-        credit: text(alloc, b"GC")?,
+        last: text(rt, b"BARBARBAR"),
+        credit: text(rt, b"GC"),
         order: 11,
-    })
+    }
 }
 
-/// The addresses of the warehouse, the district and the customer.
-fn addresses(alloc: Global) -> Result<(Address, Address, Address), Fail> {
-    let warehouse = address(alloc)?;
-    let district = address(alloc)?;
-    let customer = address(alloc)?;
-    Ok((warehouse, district, customer))
-}
-
-/// C_PHONE, C_CREDIT and the first bytes of C_DATA.
-fn particulars(alloc: Global) -> Result<(Text, Text, Text), Fail> {
-    let phone = text(alloc, b"0000000000000010")?;
-    let credit = text(alloc, b"BC")?;
-    let information = text(alloc, b"10 1 1 1 1 1.00 xxx")?;
-    Ok((phone, credit, information))
-}
-
-pub fn paid(alloc: Global) -> Result<Paid, Fail> {
-    let (warehouse_address, district_address, customer_address) = addresses(alloc)?;
-    let (first, middle, last) = full_name(alloc, b"FIRST9989")?;
-    let (phone, credit, information) = particulars(alloc)?;
-    Ok(Paid {
+pub fn paid(rt: &(impl Abort + AllocGlobal)) -> Paid {
+    let (first, middle, last) = full_name(rt, b"FIRST9989");
+    Paid {
         warehouse: 1,
         district: 1,
         customer_warehouse: 1,
@@ -90,20 +67,20 @@ pub fn paid(alloc: Global) -> Result<Paid, Fail> {
         customer: 10,
         amount: Cents::new(100),
         date: Moment::new(0),
-        warehouse_address,
-        district_address,
+        warehouse_address: address(rt),
+        district_address: address(rt),
         first,
         middle,
         last,
-        customer_address,
-        phone,
+        customer_address: address(rt),
+        phone: text(rt, b"0000000000000010"),
         since: Moment::new(0),
-        credit,
+        credit: text(rt, b"BC"),
         credit_limit: Cents::new(5_000_000),
         discount: Rate::new(1000),
         balance: Cents::new(-1100),
-        information: Some(information),
-    })
+        information: Some(text(rt, b"10 1 1 1 1 1.00 xxx")),
+    }
 }
 
 fn status_line(item: u32) -> StatusLine {
@@ -116,13 +93,10 @@ fn status_line(item: u32) -> StatusLine {
     }
 }
 
-pub fn status(alloc: Global) -> Result<Status, Fail> {
-    let mut lines = Vec::new(alloc);
-    for item in [1, 2, 3, 4, 5] {
-        lines.push(status_line(item))?;
-    }
-    let (first, middle, last) = full_name(alloc, b"FIRST9998")?;
-    Ok(Status {
+pub fn status(rt: &(impl Abort + AllocGlobal)) -> Status {
+    let lines = Vec::from_array(rt.alloc(), [1, 2, 3, 4, 5].map(status_line));
+    let (first, middle, last) = full_name(rt, b"FIRST9998");
+    Status {
         warehouse: 1,
         district: 1,
         customer: 1,
@@ -134,15 +108,14 @@ pub fn status(alloc: Global) -> Result<Status, Fail> {
             order: 1,
             entry_date: Moment::new(0),
             carrier: Some(1),
-            lines: StatusLines::new(lines),
+            lines: StatusLines::new(lines.expect(rt, "five lines")),
         }),
-    })
+    }
 }
 
 #[test]
 fn entered_lines_in_their_order(rt: HostRuntime) -> Result<(), Fail> {
-    let alloc = rt.alloc();
-    let lines = entered_lines(alloc)?;
+    let lines = entered_lines(&rt);
     assert_eq!(rt; lines.as_slice().len(), 2);
     for (line, number) in lines.as_slice().iter().zip([1u32, 2]) {
         assert_eq!(rt; line.number, number);

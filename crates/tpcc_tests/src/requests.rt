@@ -1,6 +1,7 @@
 //! Requests built by hand: their lines, and what each kind pays.
 use crate::rows::text;
-use std::alloc::Global;
+use std::alloc::AllocGlobal;
+use std::process::Abort;
 use std::test::Fail;
 use tpcc_money::{Cents, Moment};
 use tpcc_rows::{Line, Lines, Order, Payment, Request, StatusQuery, StockQuery, Ticket, Who};
@@ -13,18 +14,15 @@ fn line(item: u32) -> Line {
     }
 }
 
-pub fn new_order_request(alloc: Global) -> Result<Order, Fail> {
-    let mut lines = Vec::new(alloc);
-    for item in [20, 26, 12, 21, 11] {
-        lines.push(line(item))?;
-    }
-    Ok(Order {
+pub fn new_order_request(rt: &(impl Abort + AllocGlobal)) -> Order {
+    let lines = Vec::from_array(rt.alloc(), [20, 26, 12, 21, 11].map(line));
+    Order {
         warehouse: 1,
         district: 1,
         customer: 1,
         moment: Moment::new(0),
-        lines: Lines::new(lines),
-    })
+        lines: Lines::new(lines.expect(rt, "five lines")),
+    }
 }
 
 pub fn payment(who: Who) -> Payment {
@@ -81,20 +79,17 @@ fn cents_paid(request: Request) -> i64 {
 }
 
 #[test]
-fn a_payment_pays_its_amount(rt: HostRuntime) -> Result<(), Fail> {
+fn a_payment_pays_its_amount(rt: HostRuntime) {
+    let name = Who::Name(text(&rt, b"BARBARBAR"));
     assert_eq!(rt; cents_paid(Request::Payment(payment(Who::Number(1)))), 100);
-    let name = text(rt.alloc(), b"BARBARBAR")?;
-    assert_eq!(rt; cents_paid(Request::Payment(payment(Who::Name(name)))), 100);
-    Ok(())
+    assert_eq!(rt; cents_paid(Request::Payment(payment(name))), 100);
 }
 
 #[test]
-fn other_requests_pay_nothing(rt: HostRuntime) -> Result<(), Fail> {
-    let order = new_order_request(rt.alloc())?;
-    assert_eq!(rt; cents_paid(Request::NewOrder(order)), 0);
+fn other_requests_pay_nothing(rt: HostRuntime) {
+    assert_eq!(rt; cents_paid(Request::NewOrder(new_order_request(&rt))), 0);
     assert_eq!(rt; cents_paid(Request::Status(status_query())), 0);
     assert_eq!(rt; cents_paid(Request::Stock(stock_query())), 0);
     assert_eq!(rt; cents_paid(Request::Delivery(ticket())), 0);
     assert_eq!(rt; cents_paid(Request::Deliver(Moment::new(120))), 0);
-    Ok(())
 }

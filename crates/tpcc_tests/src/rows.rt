@@ -1,85 +1,79 @@
-//! Rows of the plain opening, built by hand, and their keys.
-use std::alloc::Global;
-use std::test::Fail;
+//! Rows of the plain opening, built by hand, and their keys. Want of memory ends the test at once: an `Err` in its
+//! place would let go of half a row on a path of its own, and each such path is proved.
+use std::alloc::AllocGlobal;
+use std::process::Abort;
 use tpcc_money::{Cents, Moment, Rate};
 use tpcc_rows::{
     Address, CustomerRow, DistrictRow, HistoryRow, ItemRow, NewOrderRow, OrderLineRow, OrderRow,
     StockRow, Text, WarehouseRow,
 };
 
-pub fn text(alloc: Global, bytes: &[u8]) -> Result<Text, Fail> {
-    Ok(Text::new(alloc, bytes, bytes.len())?)
+pub fn text(rt: &(impl Abort + AllocGlobal), bytes: &[u8]) -> Text {
+    Text::new(rt.alloc(), bytes, bytes.len()).expect(rt, "a text")
 }
 
-pub fn address(alloc: Global) -> Result<Address, Fail> {
-    Ok(Address {
-        street_1: text(alloc, b"MAINSTREET")?,
-        street_2: text(alloc, b"SIDESTREET")?,
-        city: text(alloc, b"CITYCENTRE")?,
-        state: text(alloc, b"AB")?,
-        zip: text(alloc, b"000111111")?,
-    })
+pub fn address(rt: &(impl Abort + AllocGlobal)) -> Address {
+    Address {
+        street_1: text(rt, b"MAINSTREET"),
+        street_2: text(rt, b"SIDESTREET"),
+        city: text(rt, b"CITYCENTRE"),
+        state: text(rt, b"AB"),
+        zip: text(rt, b"000111111"),
+    }
 }
 
-pub fn warehouse(alloc: Global) -> Result<WarehouseRow, Fail> {
-    Ok(WarehouseRow {
+pub fn warehouse(rt: &(impl Abort + AllocGlobal)) -> WarehouseRow {
+    WarehouseRow {
         id: 1,
-        name: text(alloc, b"WARE001")?,
-        address: address(alloc)?,
+        name: text(rt, b"WARE001"),
+        address: address(rt),
         tax: Rate::new(1000),
         ytd: Cents::new(100_000),
-    })
+    }
 }
 
-pub fn district(alloc: Global) -> Result<DistrictRow, Fail> {
-    Ok(DistrictRow {
+pub fn district(rt: &(impl Abort + AllocGlobal)) -> DistrictRow {
+    DistrictRow {
         id: 1,
         warehouse: 1,
-        name: text(alloc, b"DIST01")?,
-        address: address(alloc)?,
+        name: text(rt, b"DIST01"),
+        address: address(rt),
         tax: Rate::new(100),
         ytd: Cents::new(10_000),
         next_order: 11,
-    })
+    }
 }
 
 /// C_FIRST, C_MIDDLE and C_LAST.
-pub fn full_name(alloc: Global, first: &[u8]) -> Result<(Text, Text, Text), Fail> {
-    let first = text(alloc, first)?;
-    let middle = text(alloc, b"OE")?;
-    let last = text(alloc, b"BARBARBAR")?;
-    Ok((first, middle, last))
+pub fn full_name(rt: &(impl Abort + AllocGlobal), first: &[u8]) -> (Text, Text, Text) {
+    (text(rt, first), text(rt, b"OE"), text(rt, b"BARBARBAR"))
 }
 
-pub fn customer(alloc: Global) -> Result<CustomerRow, Fail> {
-    let (first, middle, last) = full_name(alloc, b"FIRST9998")?;
-    let address = address(alloc)?;
-    let phone = text(alloc, b"0000000000000001")?;
-    let credit = text(alloc, b"GC")?;
-    let information = text(alloc, b"xxx")?;
-    Ok(CustomerRow {
+pub fn customer(rt: &(impl Abort + AllocGlobal)) -> CustomerRow {
+    let (first, middle, last) = full_name(rt, b"FIRST9998");
+    CustomerRow {
         id: 1,
         district: 1,
         warehouse: 1,
         first,
         middle,
         last,
-        address,
-        phone,
+        address: address(rt),
+        phone: text(rt, b"0000000000000001"),
         since: Moment::new(0),
-        credit,
+        credit: text(rt, b"GC"),
         credit_limit: Cents::new(5_000_000),
         discount: Rate::new(100),
         balance: Cents::new(-1000),
         ytd_payment: Cents::new(1000),
         payment_count: 1,
         delivery_count: 0,
-        information,
-    })
+        information: text(rt, b"xxx"),
+    }
 }
 
-pub fn history(alloc: Global) -> Result<HistoryRow, Fail> {
-    Ok(HistoryRow {
+pub fn history(rt: &(impl Abort + AllocGlobal)) -> HistoryRow {
+    HistoryRow {
         customer: 1,
         customer_district: 1,
         customer_warehouse: 1,
@@ -87,8 +81,8 @@ pub fn history(alloc: Global) -> Result<HistoryRow, Fail> {
         warehouse: 1,
         date: Moment::new(0),
         amount: Cents::new(1000),
-        information: text(alloc, b"OPENINGPAYMENT")?,
-    })
+        information: text(rt, b"OPENINGPAYMENT"),
+    }
 }
 
 pub fn order() -> OrderRow {
@@ -104,8 +98,8 @@ pub fn order() -> OrderRow {
     }
 }
 
-pub fn order_line(alloc: Global) -> Result<OrderLineRow, Fail> {
-    Ok(OrderLineRow {
+pub fn order_line(rt: &(impl Abort + AllocGlobal)) -> OrderLineRow {
+    OrderLineRow {
         order: 1,
         district: 1,
         warehouse: 1,
@@ -115,8 +109,8 @@ pub fn order_line(alloc: Global) -> Result<OrderLineRow, Fail> {
         delivered: Some(Moment::new(0)),
         quantity: 5,
         amount: Cents::new(0),
-        district_information: text(alloc, b"dddddddddddddddddddddd01")?,
-    })
+        district_information: text(rt, b"dddddddddddddddddddddd01"),
+    }
 }
 
 pub fn new_order() -> NewOrderRow {
@@ -127,94 +121,52 @@ pub fn new_order() -> NewOrderRow {
     }
 }
 
-pub fn item(alloc: Global) -> Result<ItemRow, Fail> {
-    Ok(ItemRow {
+pub fn item(rt: &(impl Abort + AllocGlobal)) -> ItemRow {
+    ItemRow {
         id: 1,
         image: 1,
-        name: text(alloc, b"ITEMNAME000001")?,
+        name: text(rt, b"ITEMNAME000001"),
         price: Cents::new(100),
-        information: text(alloc, b"iiiiiiiiiiiiiiiiiiiiiiiiii")?,
-    })
+        information: text(rt, b"iiiiiiiiiiiiiiiiiiiiiiiiii"),
+    }
 }
 
-type FiveTexts = (Text, Text, Text, Text, Text);
-
-fn first_five_texts(alloc: Global) -> Result<FiveTexts, Fail> {
-    let first = text(alloc, b"dddddddddddddddddddddd01")?;
-    let second = text(alloc, b"dddddddddddddddddddddd02")?;
-    let third = text(alloc, b"dddddddddddddddddddddd03")?;
-    let fourth = text(alloc, b"dddddddddddddddddddddd04")?;
-    let fifth = text(alloc, b"dddddddddddddddddddddd05")?;
-    Ok((first, second, third, fourth, fifth))
+fn district_texts(rt: &(impl Abort + AllocGlobal)) -> [Text; 10] {
+    [
+        text(rt, b"dddddddddddddddddddddd01"),
+        text(rt, b"dddddddddddddddddddddd02"),
+        text(rt, b"dddddddddddddddddddddd03"),
+        text(rt, b"dddddddddddddddddddddd04"),
+        text(rt, b"dddddddddddddddddddddd05"),
+        text(rt, b"dddddddddddddddddddddd06"),
+        text(rt, b"dddddddddddddddddddddd07"),
+        text(rt, b"dddddddddddddddddddddd08"),
+        text(rt, b"dddddddddddddddddddddd09"),
+        text(rt, b"dddddddddddddddddddddd10"),
+    ]
 }
 
-fn last_five_texts(alloc: Global) -> Result<FiveTexts, Fail> {
-    let sixth = text(alloc, b"dddddddddddddddddddddd06")?;
-    let seventh = text(alloc, b"dddddddddddddddddddddd07")?;
-    let eighth = text(alloc, b"dddddddddddddddddddddd08")?;
-    let ninth = text(alloc, b"dddddddddddddddddddddd09")?;
-    let tenth = text(alloc, b"dddddddddddddddddddddd10")?;
-    Ok((sixth, seventh, eighth, ninth, tenth))
-}
-
-fn stock_texts(alloc: Global) -> Result<[Text; 10], Fail> {
-    let (first, second, third, fourth, fifth) = first_five_texts(alloc)?;
-    let (sixth, seventh, eighth, ninth, tenth) = last_five_texts(alloc)?;
-    Ok([
-        first, second, third, fourth, fifth, sixth, seventh, eighth, ninth, tenth,
-    ])
-}
-
-pub fn stock(alloc: Global) -> Result<StockRow, Fail> {
-    let district_information = stock_texts(alloc)?;
-    let information = text(alloc, b"ssssssssssssssssssssssssss")?;
-    Ok(StockRow {
+pub fn stock(rt: &(impl Abort + AllocGlobal)) -> StockRow {
+    StockRow {
         item: 1,
         warehouse: 1,
         quantity: 11,
-        district_information,
+        district_information: district_texts(rt),
         ytd: 0,
         order_count: 0,
         remote_count: 0,
-        information,
-    })
-}
-
-// A row with texts is dropped in a function of its own: `keys` would else drop six of them at each `?`.
-fn warehouse_key(alloc: Global) -> Result<u32, Fail> {
-    Ok(warehouse(alloc)?.key().warehouse)
-}
-
-fn district_key(alloc: Global) -> Result<u32, Fail> {
-    Ok(district(alloc)?.key().district)
-}
-
-fn customer_key(alloc: Global) -> Result<u32, Fail> {
-    Ok(customer(alloc)?.key().customer)
-}
-
-fn order_line_key(alloc: Global) -> Result<u32, Fail> {
-    Ok(order_line(alloc)?.key().number)
-}
-
-fn item_key(alloc: Global) -> Result<u32, Fail> {
-    Ok(item(alloc)?.key().item)
-}
-
-fn stock_key(alloc: Global) -> Result<u32, Fail> {
-    Ok(stock(alloc)?.key().item)
+        information: text(rt, b"ssssssssssssssssssssssssss"),
+    }
 }
 
 #[test]
-fn keys(rt: HostRuntime) -> Result<(), Fail> {
-    let alloc = rt.alloc();
-    assert_eq!(rt; warehouse_key(alloc)?, 1);
-    assert_eq!(rt; district_key(alloc)?, 1);
-    assert_eq!(rt; customer_key(alloc)?, 1);
+fn keys(rt: HostRuntime) {
+    assert_eq!(rt; warehouse(&rt).key().warehouse, 1);
+    assert_eq!(rt; district(&rt).key().district, 1);
+    assert_eq!(rt; customer(&rt).key().customer, 1);
     assert_eq!(rt; order().key().order, 1);
-    assert_eq!(rt; order_line_key(alloc)?, 2);
+    assert_eq!(rt; order_line(&rt).key().number, 2);
     assert_eq!(rt; new_order().key().order, 8);
-    assert_eq!(rt; item_key(alloc)?, 1);
-    assert_eq!(rt; stock_key(alloc)?, 1);
-    Ok(())
+    assert_eq!(rt; item(&rt).key().item, 1);
+    assert_eq!(rt; stock(&rt).key().item, 1);
 }
