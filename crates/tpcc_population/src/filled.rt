@@ -5,10 +5,10 @@ ghost use Rattle.tpcc_tables.specs.Listed.{listed};
 ghost use Rattle.tpcc_population.specs.Opening.{opening_rows, seeded_rows};
 
 use crate::opening::{Opening, plain_is_sound, seeded_is_sound};
-use crate::plain_tables::*;
+use crate::plain::tables::*;
 use crate::scale::Scale;
 use crate::seeded::Seed;
-use crate::seeded_tables::*;
+use crate::seeded::tables::*;
 use std::alloc::Global;
 use tpcc_money::NoMemory;
 use tpcc_tables::{Lists, Tables};

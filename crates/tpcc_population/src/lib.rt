@@ -3,14 +3,11 @@
 
 mod filled;
 mod layout;
+mod new_orders;
 mod opening;
 mod plain;
-mod plain_tables;
 mod scale;
 mod seeded;
-mod seeded_goods;
-mod seeded_orders;
-mod seeded_tables;
 mod texts;
 
 pub use filled::fill;

@@ -1,7 +1,8 @@
-//! Texts of the plain opening.
+//! Texts of the openings that are not drawn.
 ghost use Rattle.std.specs.Prelude.{◌≡◌, ◌++◌, ◌<◌, ◌≤◌, true, IfOk, if◌then◌else◌, codes};
 ghost use Rattle.std.specs.List.{list_all};
 ghost use Rattle.tpcc_money.specs.Texts.{padded};
+ghost use Rattle.tpcc_rows.specs.Opening.{plain_district_information};
 ghost use Rattle.tpcc_rows.specs.Printable.{is_printable};
 
 use std::alloc::Global;
@@ -46,4 +47,11 @@ pub(crate) fn credit(alloc: Global, is_bad: bool) -> Result<Text, NoMemory>
     } else {
         text(alloc, b"GC")
     }
+}
+
+/// The text of a district, in its lines and its stock.
+pub(crate) fn district_information(alloc: Global, district: u32) -> Result<Text, NoMemory>
+    ensures { IfOk result (λ t. t ≡ plain_district_information district) }
+{
+    numbered(alloc, "dddddddddddddddddddddd", 2, district)
 }

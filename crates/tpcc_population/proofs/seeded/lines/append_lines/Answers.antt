@@ -1,0 +1,16 @@
+use Rattle.std.proofs.Common.{ℕ, [], ◌∷◌, ◌∙◌, ◌++◌, arith}
+use Rattle.tpcc_population.specs.Seeded.{seeded_order_line}
+use Rattle.tpcc_rows.specs.declared.rows.OrderLineRow.{OrderLineRow}
+use Rattle.tpcc_population.proofs.EachLemmas.{each-next_behind}
+use Rattle.tpcc_population.proofs.seeded.lines.append_lines.Goals as goal
+
+pub loop-number-preserved : goal.loop-number-preserved
+loop-number-preserved c =
+    let line : ℕ → OrderLineRow = seeded_order_line c.args.seed.now c.args.warehouse c.args.district c.args.order in
+    record {
+      least = omega arith;
+      rows =
+          c.in_ok-push.ensures
+          ∙ (λ i. c.loop-number.invariant.rows i ++ c.in_ok-row.ensures i ∷ [])
+          ∙ each-next_behind c.args.rows.now.items (λ j. line j ∷ []) 1 c.loop-number.number c.loop-number.invariant.least;
+    }

@@ -1,0 +1,10 @@
+use Rattle.std.proofs.Common.{◌≡◌, ◌≤◌, ◌-◌, ◌++◌}
+use Rattle.tpcc_rows.specs.Layout.{one_each}
+use Rattle.tpcc_population.specs.Seeded.{seeded_order}
+use Rattle.tpcc_population.proofs.seeded.orders.append_orders.Given as goal
+
+abbrev pub invariant-loop-number : goal.invariant-loop-number
+invariant-loop-number l = record {
+  least : 1 ≤ l.number;
+  rows : l.rows.items ≡ l.initial.rows.items ++ one_each 1 (l.number - 1) (seeded_order l.seed l.warehouse l.district);
+}

@@ -1,0 +1,12 @@
+use Rattle.std.proofs.Common.{rules, ◌≡◌, ℕ, IfOk, subst}
+use Rattle.tpcc_rows.specs.Layout.{each, one_each}
+use Rattle.tpcc_population.specs.Seeded.{seeded_stock}
+use Rattle.tpcc_population.proofs.seeded.tables.seeded_stocks.Goals as goal
+
+pub returns : goal.returns
+returns c =
+    let Rows = λ (n m : ℕ). IfOk c.by_warehouse.result (λ v. v.items ≡ each 1 n (λ w. one_each 1 m (seeded_stock c.args.seed w))) in
+    let warehouses : c.warehouses.result ≡ c.args.seed.scale.warehouses = search rules in
+    let items : c.items.result ≡ c.args.seed.scale.items = search rules in
+    let placed = subst (λ n. Rows n c.items.result) warehouses c.by_warehouse.ensures in
+    record { rows = subst (λ m. Rows c.args.seed.scale.warehouses m) items placed }

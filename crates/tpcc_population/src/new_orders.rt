@@ -1,0 +1,36 @@
+//! NEW-ORDER, the same in both openings.
+ghost use Rattle.std.specs.Prelude.{◌≡◌, ◌∷◌, []};
+ghost use Rattle.tpcc_rows.specs.Opening.{plain_new_order};
+
+use crate::layout::{TableRows, push};
+use std::alloc::Global;
+use tpcc_money::NoMemory;
+use tpcc_rows::rows::NewOrderRow;
+
+/// NEW-ORDER.
+#[derive(Drop)]
+pub(crate) struct NewOrders;
+
+impl TableRows for NewOrders {
+    type Row = NewOrderRow;
+
+    ghost rows_of = { λ table warehouse district number. plain_new_order warehouse district number ∷ [] };
+
+    ghost most = { 3000 };
+
+    fn append(
+        &self,
+        _alloc: Global,
+        rows: &mut Vec<NewOrderRow>,
+        warehouse: u32,
+        district: u32,
+        number: u32,
+    ) -> Result<(), NoMemory> {
+        let row = NewOrderRow {
+            order: number,
+            district,
+            warehouse,
+        };
+        push(rows, row)
+    }
+}

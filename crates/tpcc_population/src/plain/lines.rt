@@ -1,0 +1,93 @@
+//! ORDER-LINE of the plain opening.
+ghost use Rattle.std.specs.Prelude.{◌≡◌, ◌++◌, ◌≤◌, IfOk};
+ghost use Rattle.tpcc_rows.specs.Layout.{one_each};
+ghost use Rattle.tpcc_rows.specs.Opening.{plain_order_line};
+
+use crate::layout::{TableRows, push};
+use crate::scale::Scale;
+use crate::texts::district_information;
+use std::alloc::Global;
+use tpcc_money::{Cents, Moment, NoMemory};
+use tpcc_rows::rows::OrderLineRow;
+
+fn plain_order_line(
+    alloc: Global,
+    scale: &Scale,
+    warehouse: u32,
+    district: u32,
+    order: u32,
+    number: u32,
+) -> Result<OrderLineRow, NoMemory>
+    requires order { 1 ≤ order }
+    requires orders { order ≤ 3000 }
+    requires least { 1 ≤ number }
+    requires most { number ≤ 15 }
+    ensures { IfOk result (λ row. row ≡ plain_order_line scale.now warehouse district order number) }
+{
+    let district_information = district_information(alloc, district)?;
+    let is_delivered = scale.is_delivered(order);
+    Ok(OrderLineRow {
+        order,
+        district,
+        warehouse,
+        number,
+        item: 1 + (5 * (order - 1) + number - 1) % scale.items(),
+        supply: warehouse,
+        delivered: if is_delivered {
+            Some(Moment::new(0))
+        } else {
+            None
+        },
+        quantity: 5,
+        amount: if is_delivered {
+            Cents::new(0)
+        } else {
+            Cents::new(i64::from(number) * 100)
+        },
+        district_information,
+    })
+}
+
+fn append_lines(
+    alloc: Global,
+    scale: &Scale,
+    rows: &mut Vec<OrderLineRow>,
+    warehouse: u32,
+    district: u32,
+    order: u32,
+) -> Result<(), NoMemory>
+    requires order { 1 ≤ order }
+    requires orders { order ≤ 3000 }
+    ensures { IfOk result (λ _. rows.new.items ≡ rows.old.items ++ one_each 1 5 (plain_order_line scale.now warehouse district order)) }
+{
+    for number in 1..6 {
+        let row = plain_order_line(alloc, scale, warehouse, district, order, number)?;
+        push(rows, row)?;
+    }
+    Ok(())
+}
+
+/// ORDER-LINE: the five lines of each order.
+#[derive(Drop)]
+pub(super) struct PlainOrderLines {
+    pub(super) scale: Scale,
+}
+
+impl TableRows for PlainOrderLines {
+    type Row = OrderLineRow;
+
+    ghost rows_of = { λ table warehouse district number. one_each 1 5 (plain_order_line table.scale warehouse district number) };
+
+    ghost most = { 3000 };
+
+    fn append(
+        &self,
+        alloc: Global,
+        rows: &mut Vec<OrderLineRow>,
+        warehouse: u32,
+        district: u32,
+        number: u32,
+    ) -> Result<(), NoMemory> {
+        append_lines(alloc, &self.scale, rows, warehouse, district, number)
+    }
+}

@@ -1,0 +1,112 @@
+//! The tables of the plain opening: each list in the order of its key.
+ghost use Rattle.std.specs.Prelude.{◌≡◌, IfOk};
+ghost use Rattle.tpcc_rows.specs.Layout.{laid_out};
+ghost use Rattle.tpcc_rows.specs.Opening.{plain_rules};
+
+use super::customers::{PlainCustomers, PlainHistories};
+use super::goods::{PlainItems, PlainStocks};
+use super::homes::{PlainDistricts, PlainWarehouses};
+use super::lines::PlainOrderLines;
+use super::orders::PlainOrders;
+use crate::layout::{by_district, by_number, by_warehouse};
+use crate::new_orders::NewOrders;
+use crate::scale::Scale;
+use std::alloc::Global;
+use tpcc_money::NoMemory;
+use tpcc_rows::rows::{
+    CustomerRow, DistrictRow, HistoryRow, ItemRow, NewOrderRow, OrderLineRow, OrderRow, StockRow,
+    WarehouseRow,
+};
+
+/// WAREHOUSE.
+pub(crate) fn plain_warehouses(alloc: Global, scale: Scale) -> Result<Vec<WarehouseRow>, NoMemory>
+    ensures rows { IfOk result (λ v. v.items ≡ (laid_out scale (plain_rules scale)).warehouses) }
+{
+    by_number(alloc, &PlainWarehouses { scale }, scale.warehouses())
+}
+
+/// DISTRICT.
+pub(crate) fn plain_districts(alloc: Global, scale: Scale) -> Result<Vec<DistrictRow>, NoMemory>
+    ensures rows { IfOk result (λ v. v.items ≡ (laid_out scale (plain_rules scale)).districts) }
+{
+    by_warehouse(alloc, &PlainDistricts { scale }, scale.warehouses(), 10)
+}
+
+/// CUSTOMER.
+pub(crate) fn plain_customers(alloc: Global, scale: Scale) -> Result<Vec<CustomerRow>, NoMemory>
+    ensures rows { IfOk result (λ v. v.items ≡ (laid_out scale (plain_rules scale)).customers) }
+{
+    by_district(
+        alloc,
+        &PlainCustomers,
+        scale.warehouses(),
+        1,
+        scale.customers(),
+    )
+}
+
+/// HISTORY.
+pub(crate) fn plain_histories(alloc: Global, scale: Scale) -> Result<Vec<HistoryRow>, NoMemory>
+    ensures rows { IfOk result (λ v. v.items ≡ (laid_out scale (plain_rules scale)).histories) }
+{
+    by_district(
+        alloc,
+        &PlainHistories,
+        scale.warehouses(),
+        1,
+        scale.customers(),
+    )
+}
+
+/// ORDER.
+pub(crate) fn plain_orders(alloc: Global, scale: Scale) -> Result<Vec<OrderRow>, NoMemory>
+    ensures rows { IfOk result (λ v. v.items ≡ (laid_out scale (plain_rules scale)).orders) }
+{
+    by_district(
+        alloc,
+        &PlainOrders { scale },
+        scale.warehouses(),
+        1,
+        scale.customers(),
+    )
+}
+
+/// ORDER-LINE.
+pub(crate) fn plain_order_lines(alloc: Global, scale: Scale) -> Result<Vec<OrderLineRow>, NoMemory>
+    ensures rows { IfOk result (λ v. v.items ≡ (laid_out scale (plain_rules scale)).order_lines) }
+{
+    by_district(
+        alloc,
+        &PlainOrderLines { scale },
+        scale.warehouses(),
+        1,
+        scale.customers(),
+    )
+}
+
+/// NEW-ORDER.
+pub(crate) fn plain_new_orders(alloc: Global, scale: Scale) -> Result<Vec<NewOrderRow>, NoMemory>
+    ensures rows { IfOk result (λ v. v.items ≡ (laid_out scale (plain_rules scale)).new_orders) }
+{
+    by_district(
+        alloc,
+        &NewOrders,
+        scale.warehouses(),
+        scale.delivered_orders() + 1,
+        scale.customers() - scale.delivered_orders(),
+    )
+}
+
+/// ITEM.
+pub(crate) fn plain_items(alloc: Global, scale: Scale) -> Result<Vec<ItemRow>, NoMemory>
+    ensures rows { IfOk result (λ v. v.items ≡ (laid_out scale (plain_rules scale)).items) }
+{
+    by_number(alloc, &PlainItems, scale.items())
+}
+
+/// STOCK.
+pub(crate) fn plain_stocks(alloc: Global, scale: Scale) -> Result<Vec<StockRow>, NoMemory>
+    ensures rows { IfOk result (λ v. v.items ≡ (laid_out scale (plain_rules scale)).stocks) }
+{
+    by_warehouse(alloc, &PlainStocks, scale.warehouses(), scale.items())
+}

@@ -1,0 +1,117 @@
+//! The tables of the drawn opening: each list in the order of its key.
+ghost use Rattle.std.specs.Prelude.{◌≡◌, IfOk};
+ghost use Rattle.tpcc_rows.specs.Layout.{laid_out};
+ghost use Rattle.tpcc_population.specs.Seeded.{seeded_rules};
+
+use super::Seed;
+use super::customers::{SeededCustomers, SeededHistories};
+use super::goods::{SeededItems, SeededStocks};
+use super::homes::{SeededDistricts, SeededWarehouses};
+use super::lines::SeededOrderLines;
+use super::orders::SeededOrders;
+use crate::layout::{by_district, by_number, by_warehouse};
+use crate::new_orders::NewOrders;
+use std::alloc::Global;
+use tpcc_money::NoMemory;
+use tpcc_rows::rows::{
+    CustomerRow, DistrictRow, HistoryRow, ItemRow, NewOrderRow, OrderLineRow, OrderRow, StockRow,
+    WarehouseRow,
+};
+
+/// WAREHOUSE.
+pub(crate) fn seeded_warehouses(alloc: Global, seed: Seed) -> Result<Vec<WarehouseRow>, NoMemory>
+    ensures rows { IfOk result (λ v. v.items ≡ (laid_out seed.scale (seeded_rules seed)).warehouses) }
+{
+    by_number(alloc, &SeededWarehouses { seed }, seed.scale.warehouses())
+}
+
+/// DISTRICT.
+pub(crate) fn seeded_districts(alloc: Global, seed: Seed) -> Result<Vec<DistrictRow>, NoMemory>
+    ensures rows { IfOk result (λ v. v.items ≡ (laid_out seed.scale (seeded_rules seed)).districts) }
+{
+    by_warehouse(
+        alloc,
+        &SeededDistricts { seed },
+        seed.scale.warehouses(),
+        10,
+    )
+}
+
+/// CUSTOMER.
+pub(crate) fn seeded_customers(alloc: Global, seed: Seed) -> Result<Vec<CustomerRow>, NoMemory>
+    ensures rows { IfOk result (λ v. v.items ≡ (laid_out seed.scale (seeded_rules seed)).customers) }
+{
+    by_district(
+        alloc,
+        &SeededCustomers { seed },
+        seed.scale.warehouses(),
+        1,
+        seed.scale.customers(),
+    )
+}
+
+/// HISTORY.
+pub(crate) fn seeded_histories(alloc: Global, seed: Seed) -> Result<Vec<HistoryRow>, NoMemory>
+    ensures rows { IfOk result (λ v. v.items ≡ (laid_out seed.scale (seeded_rules seed)).histories) }
+{
+    by_district(
+        alloc,
+        &SeededHistories { seed },
+        seed.scale.warehouses(),
+        1,
+        seed.scale.customers(),
+    )
+}
+
+/// ORDER.
+pub(crate) fn seeded_orders(alloc: Global, seed: Seed) -> Result<Vec<OrderRow>, NoMemory>
+    ensures rows { IfOk result (λ v. v.items ≡ (laid_out seed.scale (seeded_rules seed)).orders) }
+{
+    by_warehouse(alloc, &SeededOrders { seed }, seed.scale.warehouses(), 10)
+}
+
+/// ORDER-LINE.
+pub(crate) fn seeded_order_lines(alloc: Global, seed: Seed) -> Result<Vec<OrderLineRow>, NoMemory>
+    ensures rows { IfOk result (λ v. v.items ≡ (laid_out seed.scale (seeded_rules seed)).order_lines) }
+{
+    by_district(
+        alloc,
+        &SeededOrderLines { seed },
+        seed.scale.warehouses(),
+        1,
+        seed.scale.customers(),
+    )
+}
+
+/// NEW-ORDER.
+pub(crate) fn seeded_new_orders(alloc: Global, seed: Seed) -> Result<Vec<NewOrderRow>, NoMemory>
+    ensures rows { IfOk result (λ v. v.items ≡ (laid_out seed.scale (seeded_rules seed)).new_orders) }
+{
+    let scale = seed.scale;
+    by_district(
+        alloc,
+        &NewOrders,
+        scale.warehouses(),
+        scale.delivered_orders() + 1,
+        scale.customers() - scale.delivered_orders(),
+    )
+}
+
+/// ITEM.
+pub(crate) fn seeded_items(alloc: Global, seed: Seed) -> Result<Vec<ItemRow>, NoMemory>
+    ensures rows { IfOk result (λ v. v.items ≡ (laid_out seed.scale (seeded_rules seed)).items) }
+{
+    by_number(alloc, &SeededItems { seed }, seed.scale.items())
+}
+
+/// STOCK.
+pub(crate) fn seeded_stocks(alloc: Global, seed: Seed) -> Result<Vec<StockRow>, NoMemory>
+    ensures rows { IfOk result (λ v. v.items ≡ (laid_out seed.scale (seeded_rules seed)).stocks) }
+{
+    by_warehouse(
+        alloc,
+        &SeededStocks { seed },
+        seed.scale.warehouses(),
+        seed.scale.items(),
+    )
+}
