@@ -28,38 +28,52 @@ fn counts_rows(rt: HostRuntime) {
     has_rows(&rt, &tables, Table::Stock, 50);
 }
 
+/// C_ID of the customer chosen by that last name.
+fn named(rt: &impl Abort, tables: &Tables, last: &[u8]) -> u32 {
+    tables.customer_by_name(1, 1, last).expect(rt, "name").id
+}
+
 fn finds_customers(rt: &impl Abort, tables: &Tables) {
     let customer = tables.customer(1, 1, 10).expect(rt, "customer");
     assert_eq!(rt; customer.credit.bytes(), b"BC".as_slice());
-    let seventh = tables
-        .customer_by_name(1, 1, b"BARBARBAR")
-        .expect(rt, "name");
-    assert_eq!(rt; seventh.id, 7);
-    let fifth = tables
-        .customer_by_name(1, 1, b"BARBAROUGHT")
-        .expect(rt, "name");
-    assert_eq!(rt; fifth.id, 5);
+    assert_eq!(rt; named(rt, tables, b"BARBARBAR"), 7);
+    assert_eq!(rt; named(rt, tables, b"BARBAROUGHT"), 5);
     assert!(rt; tables.customer_by_name(1, 1, b"EINGEINGEING").is_none());
 }
 
+/// O_CARRIER_ID.
+fn carrier(rt: &impl Abort, tables: &Tables, order: u32) -> Option<u32> {
+    tables.order(1, 1, order).expect(rt, "order").carrier
+}
+
 fn finds_orders(rt: &impl Abort, tables: &Tables) {
-    assert_eq!(rt; tables.order(1, 1, 8).expect(rt, "order").carrier, None);
-    assert_eq!(rt; tables.order(1, 1, 7).expect(rt, "order").carrier, Some(7));
+    assert_eq!(rt; carrier(rt, tables, 8), None);
+    assert_eq!(rt; carrier(rt, tables, 7), Some(7));
+    assert_eq!(rt; tables.last_order(1, 1, 8), Some(8));
+    assert_eq!(rt; tables.last_order(1, 1, 11), None);
+}
+
+fn finds_lines(rt: &impl Abort, tables: &Tables) {
     let line = tables.line(1, 1, 8, 5).expect(rt, "line");
     assert_eq!(rt; line.item, 40);
     assert_eq!(rt; line.amount, Cents::new(500));
-    assert_eq!(rt; tables.new_order(1, 1, 9).expect(rt, "new order").order, 9);
+}
+
+fn finds_new_orders(rt: &impl Abort, tables: &Tables) {
+    let waiting = tables.new_order(1, 1, 9).expect(rt, "new order");
+    assert_eq!(rt; waiting.order, 9);
     assert!(rt; tables.new_order(1, 1, 7).is_none());
-    assert_eq!(rt; tables.last_order(1, 1, 8), Some(8));
-    assert_eq!(rt; tables.last_order(1, 1, 11), None);
     assert_eq!(rt; tables.oldest_new(1, 1), Some(8));
     assert_eq!(rt; tables.oldest_new(1, 2), None);
 }
 
-fn finds_other_rows(rt: &impl Abort, tables: &Tables) {
+fn finds_homes(rt: &impl Abort, tables: &Tables) {
     assert!(rt; tables.warehouse(2).is_none());
     assert_eq!(rt; tables.district(1, 1).expect(rt, "district").next_order, 11);
     assert!(rt; tables.district(1, 2).is_none());
+}
+
+fn finds_items(rt: &impl Abort, tables: &Tables) {
     assert_eq!(rt; tables.item(20).expect(rt, "item").price, Cents::new(119));
     assert_eq!(rt; tables.stock(1, 20).expect(rt, "stock").quantity, 30);
 }
@@ -69,7 +83,10 @@ fn looks_rows_up(rt: HostRuntime) {
     let tables = opened(&rt, 10_000);
     finds_customers(&rt, &tables);
     finds_orders(&rt, &tables);
-    finds_other_rows(&rt, &tables);
+    finds_lines(&rt, &tables);
+    finds_new_orders(&rt, &tables);
+    finds_homes(&rt, &tables);
+    finds_items(&rt, &tables);
     tables.well_keyed();
 }
 

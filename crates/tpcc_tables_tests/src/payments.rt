@@ -1,4 +1,5 @@
-//! Payments on the opening.
+//! Payments on the opening. A test lets a reply go by `drop`, which is one step of its proof: at the end of the scope
+//! each text of the reply would be several.
 use crate::opening::{opened, text};
 use std::alloc::AllocGlobal;
 use std::process::Abort;
@@ -27,47 +28,73 @@ fn paid(
 ) -> Result<Paid, Refusal> {
     let before = tables.count(Table::History);
     match pay(rt.alloc(), tables, payment) {
+        Ok(reply) => Ok(reply),
         Err(Refusal::NoMemory) => {
             assert_eq!(rt; tables.count(Table::History), before);
             pay(rt.alloc(), tables, payment)
         }
-        outcome => outcome,
+        Err(refusal) => Err(refusal),
     }
 }
 
-/// W_YTD, D_YTD, and C_BALANCE of customer 1.
-fn totals(rt: &impl Abort, tables: &Tables) -> (Cents, Cents, Cents) {
-    (
-        tables.warehouse(1).expect(rt, "warehouse").ytd,
-        tables.district(1, 1).expect(rt, "district").ytd,
-        tables.customer(1, 1, 1).expect(rt, "customer").balance,
-    )
+/// W_YTD.
+fn warehouse_total(rt: &impl Abort, tables: &Tables) -> Cents {
+    tables.warehouse(1).expect(rt, "warehouse").ytd
+}
+
+/// D_YTD.
+fn district_total(rt: &impl Abort, tables: &Tables) -> Cents {
+    tables.district(1, 1).expect(rt, "district").ytd
+}
+
+/// C_BALANCE of customer 1.
+fn balance(rt: &impl Abort, tables: &Tables) -> Cents {
+    tables.customer(1, 1, 1).expect(rt, "customer").balance
+}
+
+/// The reply is about that customer, of good credit, who has paid 1.00 more.
+fn shows_customer(rt: &impl Abort, reply: &Paid, customer: u32, first: &[u8], discount: Rate) {
+    assert_eq!(rt; reply.customer, customer);
+    assert_eq!(rt; reply.first.bytes(), first);
+    assert_eq!(rt; reply.discount, discount);
+    assert_eq!(rt; reply.balance, Cents::new(-1100));
+    assert!(rt; reply.information.is_none());
+}
+
+/// Customer 1 has paid 1.00 more.
+fn counts_payments(rt: &impl Abort, tables: &Tables) {
+    let customer = tables.customer(1, 1, 1).expect(rt, "customer");
+    assert_eq!(rt; customer.payment_count, 2);
+    assert_eq!(rt; customer.ytd_payment, Cents::new(1100));
 }
 
 #[test]
 fn by_number(rt: HostRuntime) {
     let mut tables = opened(&rt, 10_000);
     let reply = paid(&rt, &mut tables, &payment(Who::Number(1), 100)).expect(&rt, "a payment");
-    assert_eq!(rt; reply.customer, 1);
-    assert_eq!(rt; reply.first.bytes(), b"FIRST9998".as_slice());
-    assert_eq!(rt; reply.balance, Cents::new(-1100));
-    assert_eq!(rt; reply.discount, Rate::new(100));
-    assert!(rt; reply.information.is_none());
-    let (warehouse, district, balance) = totals(&rt, &tables);
-    assert_eq!(rt; warehouse, Cents::new(100_100));
-    assert_eq!(rt; district, Cents::new(10_100));
-    assert_eq!(rt; balance, Cents::new(-1100));
-    let customer = tables.customer(1, 1, 1).expect(&rt, "customer");
-    assert_eq!(rt; customer.payment_count, 2);
-    assert_eq!(rt; customer.ytd_payment, Cents::new(1100));
+    shows_customer(&rt, &reply, 1, b"FIRST9998", Rate::new(100));
+    drop(reply);
+    assert_eq!(rt; warehouse_total(&rt, &tables), Cents::new(100_100));
+    assert_eq!(rt; district_total(&rt, &tables), Cents::new(10_100));
+    assert_eq!(rt; balance(&rt, &tables), Cents::new(-1100));
+    counts_payments(&rt, &tables);
     assert_eq!(rt; tables.count(Table::History), 11);
+}
+
+/// Pays; C_BALANCE as the reply shows it.
+fn shown_balance(rt: &(impl Abort + AllocGlobal), tables: &mut Tables, payment: &Payment) -> Cents {
+    let reply = paid(rt, tables, payment).expect(rt, "a payment");
+    reply.balance
 }
 
 #[test]
 fn of_the_least_and_the_greatest_amount(rt: HostRuntime) {
     let mut tables = opened(&rt, 10_000);
-    let reply = paid(&rt, &mut tables, &payment(Who::Number(1), 500_000)).expect(&rt, "a payment");
-    assert_eq!(rt; reply.balance, Cents::new(-501_000));
+    let greatest = payment(Who::Number(1), 500_000);
+    assert_eq!(rt;
+        shown_balance(&rt, &mut tables, &greatest),
+        Cents::new(-501_000)
+    );
     for amount in [500_001i64, 99] {
         let request = payment(Who::Number(1), amount);
         assert_eq!(rt;
@@ -75,10 +102,9 @@ fn of_the_least_and_the_greatest_amount(rt: HostRuntime) {
             Some(Refusal::Amount)
         );
     }
-    let (warehouse, district, balance) = totals(&rt, &tables);
-    assert_eq!(rt; warehouse, Cents::new(600_000));
-    assert_eq!(rt; district, Cents::new(510_000));
-    assert_eq!(rt; balance, Cents::new(-501_000));
+    assert_eq!(rt; warehouse_total(&rt, &tables), Cents::new(600_000));
+    assert_eq!(rt; district_total(&rt, &tables), Cents::new(510_000));
+    assert_eq!(rt; balance(&rt, &tables), Cents::new(-501_000));
     assert_eq!(rt; tables.count(Table::History), 11);
 }
 
@@ -87,10 +113,8 @@ fn by_last_name(rt: HostRuntime) {
     let mut tables = opened(&rt, 10_000);
     let name = Who::Name(text(&rt, b"BARBARBAR"));
     let reply = paid(&rt, &mut tables, &payment(name, 100)).expect(&rt, "a payment");
-    assert_eq!(rt; reply.customer, 7);
-    assert_eq!(rt; reply.first.bytes(), b"FIRST9992".as_slice());
-    assert_eq!(rt; reply.discount, Rate::new(700));
-    assert_eq!(rt; reply.balance, Cents::new(-1100));
+    shows_customer(&rt, &reply, 7, b"FIRST9992", Rate::new(700));
+    drop(reply);
     let nobody = Who::Name(text(&rt, b"EINGEINGEING"));
     let request = payment(nobody, 100);
     assert_eq!(rt;
@@ -112,6 +136,19 @@ fn noted(rt: &(impl Abort + AllocGlobal), payments: u32, letters: u32) -> Vec<u8
     bytes
 }
 
+/// The reply shows the first 200 bytes of C_DATA.
+fn shows_notes(rt: &impl Abort, reply: &Paid, notes: &[u8]) {
+    let shown = reply.information.as_ref().expect(rt, "C_DATA");
+    assert_eq!(rt; shown.bytes(), &notes[..200.min(notes.len())]);
+}
+
+/// The row of customer 10 keeps all of C_DATA.
+fn keeps_notes(rt: &impl Abort, tables: &Tables, notes: &[u8]) {
+    let customer = tables.customer(1, 1, 10).expect(rt, "customer");
+    assert_eq!(rt; customer.information.bytes(), notes);
+    assert_eq!(rt; customer.information.len(), 500);
+}
+
 #[test]
 fn of_bad_credit(rt: HostRuntime) {
     let mut tables = opened(&rt, 10_000);
@@ -122,11 +159,9 @@ fn of_bad_credit(rt: HostRuntime) {
     let last = paid(&rt, &mut tables, &request).expect(&rt, "a payment");
     assert_eq!(rt; last.balance, Cents::new(-2300));
     let notes = noted(&rt, 13, 292);
-    let shown = last.information.as_ref().expect(&rt, "C_DATA");
-    assert_eq!(rt; shown.bytes(), &notes.as_slice()[..200.min(notes.len())]);
-    let customer = tables.customer(1, 1, 10).expect(&rt, "customer");
-    assert_eq!(rt; customer.information.bytes(), notes.as_slice());
-    assert_eq!(rt; customer.information.len(), 500);
+    shows_notes(&rt, &last, notes.as_slice());
+    drop(last);
+    keeps_notes(&rt, &tables, notes.as_slice());
 }
 
 #[test]
@@ -136,9 +171,8 @@ fn past_the_total_of_a_district(rt: HostRuntime) {
     let refusal = paid(&rt, &mut tables, &request).err();
     assert_eq!(rt; refusal, Some(Refusal::Total(Field::DistrictYtd)));
     assert_eq!(rt; tables.count(Table::History), 10);
-    let (warehouse, _, balance) = totals(&rt, &tables);
-    assert_eq!(rt; warehouse, Cents::new(100_000));
-    assert_eq!(rt; balance, Cents::new(-1000));
+    assert_eq!(rt; warehouse_total(&rt, &tables), Cents::new(100_000));
+    assert_eq!(rt; balance(&rt, &tables), Cents::new(-1000));
 }
 
 #[test]

@@ -1,6 +1,4 @@
 //! Copies of every row, request and reply, with ample memory: each equals its source.
-ghost use Rattle.std.specs.Prelude.{◌≡◌};
-
 use crate::replies::{accepted, paid, rolled_back, status};
 use crate::requests::{new_order_request, payment, status_query, stock_query, ticket};
 use crate::rows::{
