@@ -144,6 +144,44 @@ fn delivered_to(
 }
 
 #[tactic(auto, unfolding(crate::specs::Columns::term_of))]
+fn history_term(tables: &Tables, column: Column, position: usize) -> i64
+    requires { table_of column ≡ Table.History }
+    ensures { result ≡ term_of column tables.now.rows position }
+{
+    let Some(row) = places::history(tables, position) else {
+        return 0;
+    };
+    match column {
+        Column::PaidIntoWarehouse(warehouse) => paid_into_warehouse(row, warehouse),
+        Column::PaidIntoDistrict(warehouse, district) => paid_into_district(
+            row, warehouse, district,
+        ),
+        Column::PaidBy(warehouse, district, customer) => paid_by(
+            row, warehouse, district, customer,
+        ),
+        _ => 0,
+    }
+}
+
+#[tactic(auto, unfolding(crate::specs::Columns::term_of))]
+fn order_term(tables: &Tables, column: Column, position: usize) -> i64
+    requires { table_of column ≡ Table.Order }
+    ensures { result ≡ term_of column tables.now.rows position }
+{
+    let Some(row) = places::order(tables, position) else {
+        return 0;
+    };
+    match column {
+        Column::LineCounts(warehouse, district) => line_count(row, warehouse, district),
+        Column::Orders(warehouse, district) => one_order(row, warehouse, district),
+        Column::DeliveredTo(warehouse, district, customer) => delivered_to(
+            tables, row, warehouse, district, customer,
+        ),
+        _ => 0,
+    }
+}
+
+#[tactic(auto, unfolding(crate::specs::Columns::term_of))]
 /// The number of the row at a place, 0 behind the last row.
 pub fn term(tables: &Tables, column: Column, position: usize) -> i64
     ensures { result ≡ term_of column tables.now.rows position }
@@ -153,26 +191,10 @@ pub fn term(tables: &Tables, column: Column, position: usize) -> i64
             Some(row) => district_total(row, warehouse),
             None => 0,
         },
-        Column::PaidIntoWarehouse(warehouse) => match places::history(tables, position) {
-            Some(row) => paid_into_warehouse(row, warehouse),
-            None => 0,
-        },
-        Column::PaidIntoDistrict(warehouse, district) => match places::history(tables, position) {
-            Some(row) => paid_into_district(row, warehouse, district),
-            None => 0,
-        },
-        Column::PaidBy(warehouse, district, customer) => match places::history(tables, position) {
-            Some(row) => paid_by(row, warehouse, district, customer),
-            None => 0,
-        },
-        Column::LineCounts(warehouse, district) => match places::order(tables, position) {
-            Some(row) => line_count(row, warehouse, district),
-            None => 0,
-        },
-        Column::Orders(warehouse, district) => match places::order(tables, position) {
-            Some(row) => one_order(row, warehouse, district),
-            None => 0,
-        },
+        Column::PaidIntoWarehouse(_) | Column::PaidIntoDistrict(_, _) | Column::PaidBy(_, _, _) =>
+            history_term(tables, column, position),
+        Column::LineCounts(_, _) | Column::Orders(_, _) | Column::DeliveredTo(_, _, _) =>
+            order_term(tables, column, position),
         Column::Lines(warehouse, district) => match places::line(tables, position) {
             Some(row) => one_line(row, warehouse, district),
             None => 0,
@@ -185,12 +207,6 @@ pub fn term(tables: &Tables, column: Column, position: usize) -> i64
             Some(row) => one_new_order(row, warehouse, district),
             None => 0,
         },
-        Column::DeliveredTo(warehouse, district, customer) => {
-            match places::order(tables, position) {
-                Some(row) => delivered_to(tables, row, warehouse, district, customer),
-                None => 0,
-            }
-        }
     }
 }
 

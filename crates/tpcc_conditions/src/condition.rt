@@ -33,74 +33,97 @@ fn unless(keeps: bool, broken: Broken) -> Option<Broken>
 }
 
 #[tactic(auto, unfolding(crate::specs::First::failing_at))]
+fn broken_warehouse(tables: &Tables, condition: Condition, position: usize) -> Option<Broken>
+    requires { tested_table condition ≡ Table.Warehouse }
+    ensures { option_map as_model result ≡ failing_at condition tables.now.rows position }
+{
+    let row = places::warehouse(tables, position)?;
+    match condition {
+        Condition::One => unless(
+            keeps::totals_of_districts(tables, row),
+            at_warehouse(1, row),
+        ),
+        Condition::Eight => unless(
+            keeps::payments_of_warehouse(tables, row),
+            at_warehouse(8, row),
+        ),
+        _ => None,
+    }
+}
+
+#[tactic(auto, unfolding(crate::specs::First::failing_at))]
+fn broken_district(tables: &Tables, condition: Condition, position: usize) -> Option<Broken>
+    requires { tested_table condition ≡ Table.District }
+    ensures { option_map as_model result ≡ failing_at condition tables.now.rows position }
+{
+    let row = places::district(tables, position)?;
+    match condition {
+        Condition::Two => unless(keeps::next_number(tables, row), at_district(2, row)),
+        Condition::Three => unless(keeps::no_gap(tables, row), at_district(3, row)),
+        Condition::Four => unless(keeps::lines_of_district(tables, row), at_district(4, row)),
+        Condition::Nine => unless(
+            keeps::payments_of_district(tables, row),
+            at_district(9, row),
+        ),
+        Condition::Eleven(customers) => unless(
+            keeps::delivered_orders(tables, row, customers),
+            at_district(11, row),
+        ),
+        _ => None,
+    }
+}
+
+#[tactic(auto, unfolding(crate::specs::First::failing_at))]
+fn broken_order(tables: &Tables, condition: Condition, position: usize) -> Option<Broken>
+    requires { tested_table condition ≡ Table.Order }
+    ensures { option_map as_model result ≡ failing_at condition tables.now.rows position }
+{
+    let row = places::order(tables, position)?;
+    match condition {
+        Condition::Five => unless(keeps::carrier(tables, row), at_order(5, row)),
+        Condition::Six => unless(keeps::lines_of_order(tables, row), at_order(6, row)),
+        _ => None,
+    }
+}
+
+#[tactic(auto, unfolding(crate::specs::First::failing_at))]
+fn broken_line(tables: &Tables, position: usize) -> Option<Broken>
+    ensures { option_map as_model result ≡ failing_at Condition.Seven tables.now.rows position }
+{
+    let row = places::line(tables, position)?;
+    unless(keeps::delivery_date(tables, row), at_order_line(7, row))
+}
+
+#[tactic(auto, unfolding(crate::specs::First::failing_at))]
+fn broken_customer(tables: &Tables, condition: Condition, position: usize) -> Option<Broken>
+    requires { tested_table condition ≡ Table.Customer }
+    ensures { option_map as_model result ≡ failing_at condition tables.now.rows position }
+{
+    let row = places::customer(tables, position)?;
+    match condition {
+        Condition::Ten => unless(keeps::balance(tables, row), at_customer(10, row)),
+        Condition::Twelve => unless(
+            keeps::balance_and_payments(tables, row),
+            at_customer(12, row),
+        ),
+        _ => None,
+    }
+}
+
 /// What is broken at the row at a place, if there is a row and it fails.
 fn broken_at(tables: &Tables, condition: Condition, position: usize) -> Option<Broken>
     ensures { option_map as_model result ≡ failing_at condition tables.now.rows position }
 {
     match condition {
-        Condition::One => match places::warehouse(tables, position) {
-            Some(row) => unless(
-                keeps::totals_of_districts(tables, row),
-                at_warehouse(1, row),
-            ),
-            None => None,
-        },
-        Condition::Two => match places::district(tables, position) {
-            Some(row) => unless(keeps::next_number(tables, row), at_district(2, row)),
-            None => None,
-        },
-        Condition::Three => match places::district(tables, position) {
-            Some(row) => unless(keeps::no_gap(tables, row), at_district(3, row)),
-            None => None,
-        },
-        Condition::Four => match places::district(tables, position) {
-            Some(row) => unless(keeps::lines_of_district(tables, row), at_district(4, row)),
-            None => None,
-        },
-        Condition::Five => match places::order(tables, position) {
-            Some(row) => unless(keeps::carrier(tables, row), at_order(5, row)),
-            None => None,
-        },
-        Condition::Six => match places::order(tables, position) {
-            Some(row) => unless(keeps::lines_of_order(tables, row), at_order(6, row)),
-            None => None,
-        },
-        Condition::Seven => match places::line(tables, position) {
-            Some(row) => unless(keeps::delivery_date(tables, row), at_order_line(7, row)),
-            None => None,
-        },
-        Condition::Eight => match places::warehouse(tables, position) {
-            Some(row) => unless(
-                keeps::payments_of_warehouse(tables, row),
-                at_warehouse(8, row),
-            ),
-            None => None,
-        },
-        Condition::Nine => match places::district(tables, position) {
-            Some(row) => unless(
-                keeps::payments_of_district(tables, row),
-                at_district(9, row),
-            ),
-            None => None,
-        },
-        Condition::Ten => match places::customer(tables, position) {
-            Some(row) => unless(keeps::balance(tables, row), at_customer(10, row)),
-            None => None,
-        },
-        Condition::Eleven(customers) => match places::district(tables, position) {
-            Some(row) => unless(
-                keeps::delivered_orders(tables, row, customers),
-                at_district(11, row),
-            ),
-            None => None,
-        },
-        Condition::Twelve => match places::customer(tables, position) {
-            Some(row) => unless(
-                keeps::balance_and_payments(tables, row),
-                at_customer(12, row),
-            ),
-            None => None,
-        },
+        Condition::One | Condition::Eight => broken_warehouse(tables, condition, position),
+        Condition::Two
+        | Condition::Three
+        | Condition::Four
+        | Condition::Nine
+        | Condition::Eleven(_) => broken_district(tables, condition, position),
+        Condition::Five | Condition::Six => broken_order(tables, condition, position),
+        Condition::Seven => broken_line(tables, position),
+        Condition::Ten | Condition::Twelve => broken_customer(tables, condition, position),
     }
 }
 

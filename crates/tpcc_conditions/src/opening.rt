@@ -175,9 +175,7 @@ pub enum Change {
     YtdPayment,
 }
 
-/// The opening with one change.
-pub fn opened(alloc: Global, change: Change) -> Result<Tables, Fail> {
-    let mut tables = Tables::empty(alloc);
+fn put_homes(alloc: Global, tables: &mut Tables, change: Change) -> Result<(), Fail> {
     let warehouse_ytd = match change {
         Change::WarehouseTotal | Change::BothTotals => 10_001,
         _ => 10_000,
@@ -187,36 +185,55 @@ pub fn opened(alloc: Global, change: Change) -> Result<Tables, Fail> {
         Change::CentInAnotherDistrict => 9_999,
         _ => 10_000,
     };
-    put(&mut tables, warehouse(alloc, warehouse_ytd)?)?;
-    put(&mut tables, district(alloc, 1, district_ytd, 11)?)?;
+    put(tables, warehouse(alloc, warehouse_ytd)?)?;
+    put(tables, district(alloc, 1, district_ytd, 11)?)?;
     if change == Change::CentInAnotherDistrict {
-        put(&mut tables, district(alloc, 2, 1, 1)?)?;
+        put(tables, district(alloc, 2, 1, 1)?)?;
     }
+    Ok(())
+}
+
+/// A customer and the opening payment.
+fn put_customer(alloc: Global, tables: &mut Tables, change: Change, id: u32) -> Result<(), Fail> {
+    let balance = if id == 3 && change == Change::Balance {
+        -999
+    } else {
+        -1000
+    };
+    let ytd_payment = if id == 3 && change == Change::YtdPayment {
+        1001
+    } else {
+        1000
+    };
+    put(tables, customer(alloc, id, balance, ytd_payment)?)?;
+    put(tables, history(alloc, id)?)?;
+    Ok(())
+}
+
+/// An order and its five lines.
+fn put_order(alloc: Global, tables: &mut Tables, change: Change, id: u32) -> Result<(), Fail> {
+    let line_count = if id == 4 && change == Change::LineCounts {
+        6
+    } else {
+        5
+    };
+    put(tables, order(id, line_count))?;
+    for number in 1..6u32 {
+        let waits = 7 < id || (id == 2 && number == 4 && change == Change::LineUndelivered);
+        put(tables, line(alloc, id, number, waits)?)?;
+    }
+    Ok(())
+}
+
+/// The opening with one change.
+pub fn opened(alloc: Global, change: Change) -> Result<Tables, Fail> {
+    let mut tables = Tables::empty(alloc);
+    put_homes(alloc, &mut tables, change)?;
     put(&mut tables, item(alloc)?)?;
     put(&mut tables, stock(alloc)?)?;
     for id in 1..11u32 {
-        let balance = if id == 3 && change == Change::Balance {
-            -999
-        } else {
-            -1000
-        };
-        let ytd_payment = if id == 3 && change == Change::YtdPayment {
-            1001
-        } else {
-            1000
-        };
-        put(&mut tables, customer(alloc, id, balance, ytd_payment)?)?;
-        put(&mut tables, history(alloc, id)?)?;
-        let line_count = if id == 4 && change == Change::LineCounts {
-            6
-        } else {
-            5
-        };
-        put(&mut tables, order(id, line_count))?;
-        for number in 1..6u32 {
-            let waits = 7 < id || (id == 2 && number == 4 && change == Change::LineUndelivered);
-            put(&mut tables, line(alloc, id, number, waits)?)?;
-        }
+        put_customer(alloc, &mut tables, change, id)?;
+        put_order(alloc, &mut tables, change, id)?;
     }
     for id in 8..11u32 {
         if change != Change::NewOrderLeftOut(id) {
