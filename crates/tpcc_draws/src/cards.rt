@@ -1,8 +1,6 @@
 //! The deck of transactions that a terminal deals from (5.2.4.2).
-ghost use Rattle.std.specs.Prelude.{◌≡◌, IfOk};
+ghost use Rattle.std.specs.Prelude.{◌≡◌};
 ghost use Rattle.tpcc_draws.specs.Cards.{cards};
-
-use std::alloc::{AllocError, Allocator};
 
 /// A card of a terminal's deck: which of the five transactions comes next.
 #[derive(Clone, Copy, Debug, PartialEq, Eq)]
@@ -15,12 +13,11 @@ pub enum Card {
 }
 
 // The deck before its shuffle.
-pub(crate) fn all_cards<A: Allocator>(alloc: A) -> Result<Vec<Card, A>, AllocError>
-    ensures cards { IfOk result (λ v. v.items ≡ cards) }
+pub(crate) fn all_cards() -> [Card; 23]
+    ensures cards { result ≡ cards }
 {
-    let mut all = Vec::with_capacity(alloc, 23)?;
-    all.extend_from_slice(&[Card::NewOrder; 10])?;
-    all.extend_from_slice(&[Card::Payment; 10])?;
-    all.extend_from_slice(&[Card::OrderStatus, Card::Delivery, Card::StockLevel])?;
-    Ok(all)
+    let mut all = [Card::NewOrder; 23];
+    all[10..20].copy_from_slice(&[Card::Payment; 10]);
+    all[20..].copy_from_slice(&[Card::OrderStatus, Card::Delivery, Card::StockLevel]);
+    all
 }

@@ -1,6 +1,7 @@
 //! The stream of draws that belongs to one row of one table.
-ghost use Rattle.std.specs.Prelude.{◌≡◌, ◌+◌, ◌-◌, ◌<◌, ◌≤◌, ◌*◌, ◌%◌, ◌^◌, IsPermutation, length, IfOk, OnErr, bit_or};
-ghost use Rattle.std.specs.List.{range_with_len};
+ghost use Rattle.std.specs.Prelude.{◌≡◌, ◌+◌, ◌-◌, ◌<◌, ◌≤◌, ◌*◌, ◌%◌, ◌^◌, IsPermutation, length, IfOk, OnErr, bit_or, true};
+ghost use Rattle.std.specs.List.{list_all, range_with_len};
+ghost use Rattle.tpcc_rows.specs.Printable.{is_printable};
 ghost use Rattle.tpcc_draws.specs.Draws.{answers, generator_of, between, permutation, nurand, a_string, n_string, drawn_text};
 ghost use Rattle.tpcc_draws.specs.Cards.{cards, deck};
 
@@ -14,7 +15,7 @@ use tpcc_money::NoMemory;
 use tpcc_rows::text::Text;
 
 /// The draws of one row, in the order of its columns. A call that is refused memory has drawn
-/// nothing.
+/// nothing; a permutation alone takes any.
 #[derive(Drop)]
 pub struct Stream {
     generator: Lcg128Xsl64,
@@ -70,72 +71,47 @@ impl Stream {
         (mixed % width) as u32 + low
     }
 
-    /// A string of letters and digits, `least` to `most` bytes long (4.3.2.2). Refused only for
-    /// want of memory.
-    pub fn a_string<A: Allocator>(
-        &mut self,
-        alloc: A,
-        least: u32,
-        most: u32,
-    ) -> Result<Text<A>, NoMemory>
+    /// A string of letters and digits, `least` to `most` bytes long (4.3.2.2).
+    pub fn a_string<const N: usize>(&mut self, least: u32, most: u32) -> Text<N>
         requires order { least ≤ most }
-        requires small { most ≤ 1000 }
-        ensures drawn { IfOk result (λ t. (t, answers self.new) ≡ a_string least most (answers self.old)) }
-        ensures err { OnErr result (self.new ≡ self.old) }
+        requires fits { most ≤ N }
+        requires short { N ≤ 65535 }
+        ensures drawn { (result, answers self.new) ≡ a_string least most (answers self.old) }
     {
-        match self.bytes(
-            alloc,
+        self.text(
             b"0123456789ABCDEFGHIJKLMNOPQRSTUVWXYZabcdefghijklmnopqrstuvwxyz",
             least,
             most,
-        ) {
-            Ok(bytes) => Ok(Text::of(bytes)),
-            Err(_) => Err(NoMemory),
-        }
+        )
     }
 
-    /// A string of digits, `least` to `most` bytes long (4.3.2.2). Refused only for want of
-    /// memory.
-    pub fn n_string<A: Allocator>(
-        &mut self,
-        alloc: A,
-        least: u32,
-        most: u32,
-    ) -> Result<Text<A>, NoMemory>
+    /// A string of digits, `least` to `most` bytes long (4.3.2.2).
+    pub fn n_string<const N: usize>(&mut self, least: u32, most: u32) -> Text<N>
         requires order { least ≤ most }
-        requires small { most ≤ 1000 }
-        ensures drawn { IfOk result (λ t. (t, answers self.new) ≡ n_string least most (answers self.old)) }
-        ensures err { OnErr result (self.new ≡ self.old) }
+        requires fits { most ≤ N }
+        requires short { N ≤ 65535 }
+        ensures drawn { (result, answers self.new) ≡ n_string least most (answers self.old) }
     {
-        match self.bytes(alloc, b"0123456789", least, most) {
-            Ok(bytes) => Ok(Text::of(bytes)),
-            Err(_) => Err(NoMemory),
-        }
+        self.text(b"0123456789", least, most)
     }
 
-    // All memory is taken before the first draw.
-    fn bytes<A: Allocator>(
-        &mut self,
-        alloc: A,
-        alphabet: &[u8],
-        least: u32,
-        most: u32,
-    ) -> Result<Vec<u8, A>, AllocError>
+    fn text<const N: usize>(&mut self, alphabet: &[u8], least: u32, most: u32) -> Text<N>
         requires order { least ≤ most }
-        requires small { most ≤ 1000 }
+        requires fits { most ≤ N }
+        requires short { N ≤ 65535 }
         requires some { 0 < length alphabet.now }
         requires few { length alphabet.now ≤ 1000 }
-        ensures drawn { IfOk result (λ v. (v.items, answers self.new) ≡ drawn_text alphabet.now least most (answers self.old)) }
-        ensures err { OnErr result (self.new ≡ self.old) }
+        requires printable { list_all is_printable alphabet.now ≡ true }
+        ensures drawn { (result, answers self.new) ≡ drawn_text alphabet.now least most (answers self.old) }
     {
-        let mut bytes = Vec::with_capacity(alloc, most as usize)?;
+        let mut text = Text::empty();
         let size = self.between(least, most);
         let last = alphabet.len() as u32 - 1;
         for _ in 0..size {
             let place = self.between(0, last);
-            bytes.push(alphabet[place as usize]).unwrap();
+            text.push(alphabet[place as usize]);
         }
-        Ok(bytes)
+        text
     }
 
     /// The numbers 1 to n in a drawn order. Refused only for want of memory.
@@ -156,20 +132,15 @@ impl Stream {
     }
 
     /// The 23 cards of a deck in a drawn order: ten New-Order, ten Payment, and one each of
-    /// Order-Status, Delivery and Stock-Level (5.2.4.2). Refused only for want of memory.
+    /// Order-Status, Delivery and Stock-Level (5.2.4.2).
     #[tactic(auto, unfolding(crate::specs::Cards::deck))]
-    pub fn deck<A: Allocator>(&mut self, alloc: A) -> Result<Vec<Card, A>, NoMemory>
-        ensures drawn { IfOk result (λ v. (v.items, answers self.new) ≡ deck (answers self.old)) }
-        ensures order { IfOk result (λ v. IsPermutation cards v.items) }
-        ensures err { OnErr result (self.new ≡ self.old) }
+    pub fn deck(&mut self) -> [Card; 23]
+        ensures drawn { (result, answers self.new) ≡ deck (answers self.old) }
+        ensures order { IsPermutation cards result }
     {
-        match all_cards(alloc) {
-            Ok(mut all) => {
-                all.as_mut_slice().shuffle(&mut self.generator);
-                Ok(all)
-            }
-            Err(_) => Err(NoMemory),
-        }
+        let mut all = all_cards();
+        all.shuffle(&mut self.generator);
+        all
     }
 }
 

@@ -16,6 +16,7 @@ pub mod ReplayKeeps
 pub mod CheckLemmas
 pub mod PaymentParents
 pub mod Elements
+mod InPlace
 mod Plain
 pub mod Small
 mod WorkedPayments

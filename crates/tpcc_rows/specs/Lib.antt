@@ -1,6 +1,7 @@
 pub mod ChosenCustomer
 pub mod Conditions
 pub mod Delivery
+pub mod FewView
 pub mod LastName
 pub mod Layout
 pub mod Lists
@@ -15,5 +16,6 @@ pub mod RefusalOrder
 pub mod Replay
 pub mod SoundState
 pub mod Tables
+pub mod TextView
 pub mod Turn
 pub mod WellKeyed

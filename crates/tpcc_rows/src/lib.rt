@@ -2,10 +2,8 @@
 //! the model of order entry that every contract cites (`specs/`).
 #![tactic(auto)]
 
-pub mod copy_replies;
-pub mod copy_requests;
-pub mod copy_rows;
 pub mod entry;
+pub mod few;
 pub mod keys;
 pub mod laws;
 pub mod refusals;
@@ -16,6 +14,7 @@ pub mod rows;
 pub mod text;
 
 pub use entry::Entry;
+pub use few::{Blank, Few};
 pub use keys::{
     CustomerKey, DistrictKey, ItemKey, NewOrderKey, OrderKey, OrderLineKey, StockKey, WarehouseKey,
 };

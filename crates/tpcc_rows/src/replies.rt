@@ -1,15 +1,13 @@
-//! What the replies hold: the values that the terminals' screens show.
-ghost use Rattle.std.specs.Prelude.{◌≡◌, IfOk};
-ghost use Rattle.std.specs.Cmp.Lexicographic.{pointwise, lists_equiv, lists_per};
-
+//! What the replies hold: the values that the terminals' screens show. A reply is a plain
+//! value, whose copy takes no memory.
+use crate::few::{Blank, Few};
 use crate::requests::Ticket;
 use crate::rows::Address;
 use crate::text::Text;
-use std::marker::Model;
-use tpcc_money::{Cents, Moment, NoMemory, Rate};
+use tpcc_money::{Cents, Moment, Rate};
 
 /// The brand of a line (2.4.2.2): B where I_DATA and S_DATA both contain ORIGINAL, else G.
-#[derive(Clone, Copy, Debug, PartialEq, Eq)]
+#[derive(Clone, Copy, PartialEq, Eq)]
 pub enum Brand {
     /// B.
     Original,
@@ -18,13 +16,13 @@ pub enum Brand {
 }
 
 /// A line of an accepted order (2.4.3.3).
-#[derive(Debug, Drop, PartialEq, Eq)]
+#[derive(Clone, Copy, PartialEq, Eq)]
 pub struct EnteredLine {
     pub number: u32,
     pub supply: u32,
     pub item: u32,
     /// I_NAME.
-    pub name: Text,
+    pub name: Text<24>,
     pub quantity: u32,
     /// S_QUANTITY as it stands after this line.
     pub stock: u32,
@@ -35,78 +33,48 @@ pub struct EnteredLine {
     pub amount: Cents,
 }
 
-/// The lines of an accepted order, seen as their list.
-#[derive(Debug, Drop)]
-pub struct EnteredLines {
-    entered: Vec<EnteredLine>,
-}
+impl Blank for EnteredLine {
+    ghost use Rattle.std.specs.Prelude.{[], pos};
+    ghost use Rattle.tpcc_rows.specs.declared.replies.Brand.{Brand};
 
-impl Model for EnteredLines {
-    ghost use Rattle.std.specs.Prelude.{List};
-    ghost use Rattle.tpcc_rows.specs.declared.replies.EnteredLine.{EnteredLine};
+    ghost blank = { record {
+      number = 0;
+      supply = 0;
+      item = 0;
+      name = [];
+      quantity = 0;
+      stock = 0;
+      brand = Brand.Generic;
+      price = pos 0;
+      amount = pos 0;
+    } };
 
-    ghost Value = { List EnteredLine };
-
-    ghost view = { λ l. l.entered.items };
-}
-
-impl EnteredLines {
-    /// These lines, in their order.
-    pub fn new(items: Vec<EnteredLine>) -> EnteredLines
-        ensures lines { result ≡ items.items }
-    {
-        EnteredLines { entered: items }
-    }
-
-    /// The lines, in their order.
-    pub fn as_slice(&self) -> &[EnteredLine]
-        ensures lines { result.now ≡ self.now }
-    {
-        self.entered.as_slice()
-    }
-
-    /// A copy of the lines.
-    pub fn duplicate(&self) -> Result<EnteredLines, NoMemory>
-        ensures equal { IfOk result (λ copy. copy ≡ self.now) }
-    {
-        let mut items = Vec::new(*self.entered.allocator());
-        for line in self.as_slice() {
-            let copy = line.duplicate()?;
-            match items.push(copy) {
-                Ok(()) => {}
-                Err(_) => return Err(NoMemory),
-            }
+    fn blank() -> Self {
+        EnteredLine {
+            number: 0,
+            supply: 0,
+            item: 0,
+            name: Text::empty(),
+            quantity: 0,
+            stock: 0,
+            brand: Brand::Generic,
+            price: Cents::new(0),
+            amount: Cents::new(0),
         }
-        Ok(EnteredLines { entered: items })
     }
 }
 
-impl PartialEq for EnteredLines {
-    ghost use Rattle.tpcc_rows.specs.contracts.replies.EnteredLinePartialEq.TheImpl.Laws.{laws-law};
-
-    ghost eq = { pointwise ⟦<EnteredLine as PartialEq>⟧.eq };
-
-    ghost laws = { lists_per laws-law };
-
-    fn eq(&self, other: &Self) -> bool {
-        self.as_slice() == other.as_slice()
-    }
-}
-
-impl Eq for EnteredLines {
-    ghost use Rattle.tpcc_rows.specs.contracts.replies.EnteredLineEq.TheImpl.Laws.{laws-law};
-
-    ghost laws = { lists_equiv laws-law };
-}
+/// The lines of an accepted order, at most 15.
+pub type EnteredLines = Few<EnteredLine, 15>;
 
 /// An order that was entered (2.4.3.3).
-#[derive(Debug, Drop, PartialEq, Eq)]
+#[derive(Clone, Copy, PartialEq, Eq)]
 pub struct AcceptedOrder {
     pub warehouse: u32,
     pub district: u32,
     pub customer: u32,
-    pub last: Text,
-    pub credit: Text,
+    pub last: Text<16>,
+    pub credit: Text<2>,
     pub discount: Rate,
     /// O_ID.
     pub order: u32,
@@ -121,26 +89,26 @@ pub struct AcceptedOrder {
 }
 
 /// An order with an unused item, which was rolled back (2.4.3.4).
-#[derive(Debug, Drop, PartialEq, Eq)]
+#[derive(Clone, Copy, PartialEq, Eq)]
 pub struct RolledBackOrder {
     pub warehouse: u32,
     pub district: u32,
     pub customer: u32,
-    pub last: Text,
-    pub credit: Text,
+    pub last: Text<16>,
+    pub credit: Text<2>,
     /// The O_ID that the order would have had.
     pub order: u32,
 }
 
 /// What became of a New-Order request.
-#[derive(Debug, Drop, PartialEq, Eq)]
+#[derive(Clone, Copy, PartialEq, Eq)]
 pub enum Entered {
     Accepted(AcceptedOrder),
     RolledBack(RolledBackOrder),
 }
 
 /// A payment that was made (2.5.3.3); all values are those after it.
-#[derive(Debug, Drop, PartialEq, Eq)]
+#[derive(Clone, Copy, PartialEq, Eq)]
 pub struct Paid {
     pub warehouse: u32,
     pub district: u32,
@@ -151,22 +119,22 @@ pub struct Paid {
     pub date: Moment,
     pub warehouse_address: Address,
     pub district_address: Address,
-    pub first: Text,
-    pub middle: Text,
-    pub last: Text,
+    pub first: Text<16>,
+    pub middle: Text<2>,
+    pub last: Text<16>,
     pub customer_address: Address,
-    pub phone: Text,
+    pub phone: Text<16>,
     pub since: Moment,
-    pub credit: Text,
+    pub credit: Text<2>,
     pub credit_limit: Cents,
     pub discount: Rate,
     pub balance: Cents,
     /// The first 200 bytes of C_DATA, where the credit is bad.
-    pub information: Option<Text>,
+    pub information: Option<Text<200>>,
 }
 
 /// A line of a customer's last order (2.6.3.3).
-#[derive(Clone, Copy, Debug, PartialEq, Eq)]
+#[derive(Clone, Copy, PartialEq, Eq)]
 pub struct StatusLine {
     pub supply: u32,
     pub item: u32,
@@ -175,67 +143,27 @@ pub struct StatusLine {
     pub delivered: Option<Moment>,
 }
 
-/// The lines of a customer's last order, seen as their list.
-#[derive(Debug, Drop)]
-pub struct StatusLines {
-    shown: Vec<StatusLine>,
-}
+impl Blank for StatusLine {
+    ghost use Rattle.std.specs.Prelude.{None, pos};
 
-impl Model for StatusLines {
-    ghost use Rattle.std.specs.Prelude.{List};
-    ghost use Rattle.tpcc_rows.specs.declared.replies.StatusLine.{StatusLine};
+    ghost blank = { record { supply = 0; item = 0; quantity = 0; amount = pos 0; delivered = None } };
 
-    ghost Value = { List StatusLine };
-
-    ghost view = { λ l. l.shown.items };
-}
-
-impl StatusLines {
-    /// These lines, in their order.
-    pub fn new(items: Vec<StatusLine>) -> StatusLines
-        ensures lines { result ≡ items.items }
-    {
-        StatusLines { shown: items }
-    }
-
-    /// The lines, in their order.
-    pub fn as_slice(&self) -> &[StatusLine]
-        ensures lines { result.now ≡ self.now }
-    {
-        self.shown.as_slice()
-    }
-
-    /// A copy of the lines.
-    pub fn duplicate(&self) -> Result<StatusLines, NoMemory>
-        ensures equal { IfOk result (λ copy. copy ≡ self.now) }
-    {
-        match self.shown.clone() {
-            Ok(copy) => Ok(StatusLines { shown: copy }),
-            Err(_) => Err(NoMemory),
+    fn blank() -> Self {
+        StatusLine {
+            supply: 0,
+            item: 0,
+            quantity: 0,
+            amount: Cents::new(0),
+            delivered: None,
         }
     }
 }
 
-impl PartialEq for StatusLines {
-    ghost use Rattle.tpcc_rows.specs.contracts.replies.StatusLinePartialEq.TheImpl.Laws.{laws-law};
-
-    ghost eq = { pointwise ⟦<StatusLine as PartialEq>⟧.eq };
-
-    ghost laws = { lists_per laws-law };
-
-    fn eq(&self, other: &Self) -> bool {
-        self.as_slice() == other.as_slice()
-    }
-}
-
-impl Eq for StatusLines {
-    ghost use Rattle.tpcc_rows.specs.contracts.replies.StatusLineEq.TheImpl.Laws.{laws-law};
-
-    ghost laws = { lists_equiv laws-law };
-}
+/// The lines of a customer's last order, at most 15.
+pub type StatusLines = Few<StatusLine, 15>;
 
 /// A customer's last order (2.6.3.3).
-#[derive(Debug, Drop, PartialEq, Eq)]
+#[derive(Clone, Copy, PartialEq, Eq)]
 pub struct LastOrder {
     /// O_ID.
     pub order: u32,
@@ -245,21 +173,21 @@ pub struct LastOrder {
 }
 
 /// What Order-Status answers (2.6.3.3).
-#[derive(Debug, Drop, PartialEq, Eq)]
+#[derive(Clone, Copy, PartialEq, Eq)]
 pub struct Status {
     pub warehouse: u32,
     pub district: u32,
     pub customer: u32,
-    pub first: Text,
-    pub middle: Text,
-    pub last: Text,
+    pub first: Text<16>,
+    pub middle: Text<2>,
+    pub last: Text<16>,
     pub balance: Cents,
     /// None where the customer has no order.
     pub order: Option<LastOrder>,
 }
 
 /// What Stock-Level answers (2.8.3.3).
-#[derive(Clone, Copy, Debug, PartialEq, Eq)]
+#[derive(Clone, Copy, PartialEq, Eq)]
 pub struct Level {
     pub warehouse: u32,
     pub district: u32,
@@ -269,7 +197,7 @@ pub struct Level {
 }
 
 /// One district of a ticket, run (2.7.4.2).
-#[derive(Clone, Copy, Debug, PartialEq, Eq)]
+#[derive(Clone, Copy, PartialEq, Eq)]
 pub struct DistrictDelivery {
     pub ticket: Ticket,
     /// The moment of the run.
@@ -280,14 +208,14 @@ pub struct DistrictDelivery {
 }
 
 /// What a Deliver request answers.
-#[derive(Clone, Copy, Debug, PartialEq, Eq)]
+#[derive(Clone, Copy, PartialEq, Eq)]
 pub enum Delivery {
     District(DistrictDelivery),
     NoneQueued,
 }
 
 /// The ten runs of one ticket, as the delivery result log has them (2.7.2.2).
-#[derive(Clone, Copy, Debug, PartialEq, Eq)]
+#[derive(Clone, Copy, PartialEq, Eq)]
 pub struct Delivered {
     pub ticket: Ticket,
     /// The moment of the tenth run.
@@ -297,7 +225,7 @@ pub struct Delivered {
 }
 
 /// What an accepted request is answered.
-#[derive(Debug, Drop, PartialEq, Eq)]
+#[derive(Clone, Copy, PartialEq, Eq)]
 pub enum Reply {
     Entered(Entered),
     Paid(Paid),

@@ -12,14 +12,14 @@ use std::marker::Model;
 use tpcc_money::{Cents, Moment, NoMemory};
 
 /// A customer by C_ID or by C_LAST (2.5.1.2, 2.6.1.2).
-#[derive(Debug, Drop, PartialEq, Eq)]
+#[derive(Clone, Copy, PartialEq, Eq)]
 pub enum Who {
     Number(u32),
-    Name(Text),
+    Name(Text<16>),
 }
 
 /// A line of a new order (2.4.1.5).
-#[derive(Clone, Copy, Debug, PartialEq, Eq)]
+#[derive(Clone, Copy, PartialEq, Eq)]
 pub struct Line {
     /// OL_I_ID.
     pub item: u32,
@@ -30,7 +30,7 @@ pub struct Line {
 }
 
 /// The lines of a new order, seen as their list.
-#[derive(Debug, Drop)]
+#[derive(Drop)]
 pub struct Lines {
     items: Vec<Line>,
 }
@@ -89,7 +89,7 @@ impl Eq for Lines {
 }
 
 /// A New-Order request (2.4.1): 5 to 15 lines.
-#[derive(Debug, Drop, PartialEq, Eq)]
+#[derive(Drop, PartialEq, Eq)]
 pub struct Order {
     pub warehouse: u32,
     pub district: u32,
@@ -100,7 +100,7 @@ pub struct Order {
 }
 
 /// A Payment request (2.5.1): the warehouse and district that are paid, and the customer who pays.
-#[derive(Debug, Drop, PartialEq, Eq)]
+#[derive(Clone, Copy, PartialEq, Eq)]
 pub struct Payment {
     pub warehouse: u32,
     pub district: u32,
@@ -114,7 +114,7 @@ pub struct Payment {
 }
 
 /// An Order-Status request (2.6.1).
-#[derive(Debug, Drop, PartialEq, Eq)]
+#[derive(Clone, Copy, PartialEq, Eq)]
 pub struct StatusQuery {
     pub warehouse: u32,
     pub district: u32,
@@ -122,7 +122,7 @@ pub struct StatusQuery {
 }
 
 /// A Stock-Level request (2.8.1): the threshold is 10 to 20.
-#[derive(Clone, Copy, Debug, PartialEq, Eq)]
+#[derive(Clone, Copy, PartialEq, Eq)]
 pub struct StockQuery {
     pub warehouse: u32,
     pub district: u32,
@@ -130,7 +130,7 @@ pub struct StockQuery {
 }
 
 /// A Delivery request (2.7.1), as it waits in the queue: the carrier is 1 to 10.
-#[derive(Clone, Copy, Debug, PartialEq, Eq)]
+#[derive(Clone, Copy, PartialEq, Eq)]
 pub struct Ticket {
     pub warehouse: u32,
     pub carrier: u32,
@@ -139,14 +139,14 @@ pub struct Ticket {
 }
 
 /// A ticket in the queue with the district, 1 to 10, that its next run delivers.
-#[derive(Clone, Copy, Debug, PartialEq, Eq)]
+#[derive(Clone, Copy, PartialEq, Eq)]
 pub struct QueuedTicket {
     pub ticket: Ticket,
     pub next: u32,
 }
 
 /// One of the six requests.
-#[derive(Debug, Drop, PartialEq, Eq)]
+#[derive(Drop, PartialEq, Eq)]
 pub enum Request {
     NewOrder(Order),
     Payment(Payment),
@@ -158,7 +158,37 @@ pub enum Request {
     Deliver(Moment),
 }
 
+impl Order {
+    /// A copy of the request. Refused only for want of memory.
+    pub fn duplicate(&self) -> Result<Order, NoMemory>
+        ensures equal { IfOk result (λ copy. copy ≡ self.now) }
+    {
+        let lines = self.lines.duplicate()?;
+        Ok(Order {
+            warehouse: self.warehouse,
+            district: self.district,
+            customer: self.customer,
+            moment: self.moment,
+            lines,
+        })
+    }
+}
+
 impl Request {
+    /// A copy of the request. Refused only for want of memory, which a New-Order's lines alone take.
+    pub fn duplicate(&self) -> Result<Request, NoMemory>
+        ensures equal { IfOk result (λ copy. copy ≡ self.now) }
+    {
+        match self {
+            Request::NewOrder(order) => Ok(Request::NewOrder(order.duplicate()?)),
+            Request::Payment(payment) => Ok(Request::Payment(*payment)),
+            Request::Status(query) => Ok(Request::Status(*query)),
+            Request::Stock(query) => Ok(Request::Stock(*query)),
+            Request::Delivery(ticket) => Ok(Request::Delivery(*ticket)),
+            Request::Deliver(at) => Ok(Request::Deliver(*at)),
+        }
+    }
+
     /// What the request pays: H_AMOUNT of a Payment, 0.00 of any other.
     pub fn paid(&self) -> Cents
         ensures paid { result ≡ paid_by_request self.now }

@@ -34,7 +34,7 @@ impl Table {
 }
 
 /// One row of one of the nine tables.
-#[derive(Debug, Drop, PartialEq, Eq)]
+#[derive(Clone, Copy, PartialEq, Eq)]
 pub enum Row {
     Warehouse(WarehouseRow),
     District(DistrictRow),
@@ -47,8 +47,8 @@ pub enum Row {
     Stock(StockRow),
 }
 
-/// A row that stands in its table; no text is copied. NEW-ORDER rows are plain numbers and go out by value.
-#[derive(Clone, Copy, Debug)]
+/// A row that stands in its table. NEW-ORDER rows are plain numbers and go out by value.
+#[derive(Clone, Copy)]
 pub enum RowRef<'a> {
     Warehouse(&'a WarehouseRow),
     District(&'a DistrictRow),

@@ -1,7 +1,8 @@
 //! The rows of the nine tables (1.3), with the columns in the standard's order.
 //!
 //! A column's field is its name in words without the table's prefix; the four
-//! `*_DATA` columns are `information`. The ranges of all columns stand in
+//! `*_DATA` columns are `information`. The bound of a text is its type, and a row is
+//! a plain value, whose copy takes no memory. The ranges of all columns stand in
 //! `specs/Ranges.antt`; a row outside of them can be built but not loaded.
 ghost use Rattle.std.specs.Prelude.{◌≡◌};
 
@@ -11,32 +12,32 @@ use crate::keys::{
 use crate::text::Text;
 use tpcc_money::{Cents, Moment, Rate};
 
-/// The five columns of an address: streets and city up to 20 bytes, state 2, ZIP 9.
-#[derive(Debug, Drop, PartialEq, Eq)]
+/// The five columns of an address.
+#[derive(Clone, Copy, PartialEq, Eq)]
 pub struct Address {
-    pub street_1: Text,
-    pub street_2: Text,
-    pub city: Text,
-    pub state: Text,
-    pub zip: Text,
+    pub street_1: Text<20>,
+    pub street_2: Text<20>,
+    pub city: Text<20>,
+    pub state: Text<2>,
+    pub zip: Text<9>,
 }
 
 /// WAREHOUSE: W_ID, W_NAME, the address, W_TAX, W_YTD.
-#[derive(Debug, Drop, PartialEq, Eq)]
+#[derive(Clone, Copy, PartialEq, Eq)]
 pub struct WarehouseRow {
     pub id: u32,
-    pub name: Text,
+    pub name: Text<10>,
     pub address: Address,
     pub tax: Rate,
     pub ytd: Cents,
 }
 
 /// DISTRICT: D_ID, D_W_ID, D_NAME, the address, D_TAX, D_YTD, D_NEXT_O_ID.
-#[derive(Debug, Drop, PartialEq, Eq)]
+#[derive(Clone, Copy, PartialEq, Eq)]
 pub struct DistrictRow {
     pub id: u32,
     pub warehouse: u32,
-    pub name: Text,
+    pub name: Text<10>,
     pub address: Address,
     pub tax: Rate,
     pub ytd: Cents,
@@ -45,19 +46,19 @@ pub struct DistrictRow {
 }
 
 /// CUSTOMER: C_ID, C_D_ID, C_W_ID, the names, the address, and the rest to C_DATA.
-#[derive(Debug, Drop, PartialEq, Eq)]
+#[derive(Clone, Copy, PartialEq, Eq)]
 pub struct CustomerRow {
     pub id: u32,
     pub district: u32,
     pub warehouse: u32,
-    pub first: Text,
-    pub middle: Text,
-    pub last: Text,
+    pub first: Text<16>,
+    pub middle: Text<2>,
+    pub last: Text<16>,
     pub address: Address,
-    pub phone: Text,
+    pub phone: Text<16>,
     pub since: Moment,
     /// C_CREDIT: `GC` for good, `BC` for bad.
-    pub credit: Text,
+    pub credit: Text<2>,
     pub credit_limit: Cents,
     pub discount: Rate,
     /// C_BALANCE: what the customer owes; below zero where more was paid than delivered.
@@ -65,12 +66,12 @@ pub struct CustomerRow {
     pub ytd_payment: Cents,
     pub payment_count: u32,
     pub delivery_count: u32,
-    /// C_DATA, at most 500 bytes.
-    pub information: Text,
+    /// C_DATA.
+    pub information: Text<500>,
 }
 
 /// HISTORY: one payment of a customer into a district.
-#[derive(Debug, Drop, PartialEq, Eq)]
+#[derive(Clone, Copy, PartialEq, Eq)]
 pub struct HistoryRow {
     pub customer: u32,
     pub customer_district: u32,
@@ -79,12 +80,12 @@ pub struct HistoryRow {
     pub warehouse: u32,
     pub date: Moment,
     pub amount: Cents,
-    /// H_DATA, at most 24 bytes.
-    pub information: Text,
+    /// H_DATA.
+    pub information: Text<24>,
 }
 
 /// ORDER: O_ID, O_D_ID, O_W_ID, O_C_ID, O_ENTRY_D, O_CARRIER_ID, O_OL_CNT, O_ALL_LOCAL.
-#[derive(Clone, Copy, Debug, PartialEq, Eq)]
+#[derive(Clone, Copy, PartialEq, Eq)]
 pub struct OrderRow {
     pub id: u32,
     pub district: u32,
@@ -99,7 +100,7 @@ pub struct OrderRow {
 }
 
 /// ORDER-LINE: one line of an order, numbered from 1.
-#[derive(Debug, Drop, PartialEq, Eq)]
+#[derive(Clone, Copy, PartialEq, Eq)]
 pub struct OrderLineRow {
     pub order: u32,
     pub district: u32,
@@ -113,11 +114,11 @@ pub struct OrderLineRow {
     pub quantity: u32,
     pub amount: Cents,
     /// OL_DIST_INFO, exactly 24 bytes.
-    pub district_information: Text,
+    pub district_information: Text<24>,
 }
 
 /// NEW-ORDER: an order that is not delivered yet.
-#[derive(Clone, Copy, Debug, PartialEq, Eq)]
+#[derive(Clone, Copy, PartialEq, Eq)]
 pub struct NewOrderRow {
     pub order: u32,
     pub district: u32,
@@ -125,29 +126,29 @@ pub struct NewOrderRow {
 }
 
 /// ITEM: I_ID, I_IM_ID, I_NAME, I_PRICE, I_DATA.
-#[derive(Debug, Drop, PartialEq, Eq)]
+#[derive(Clone, Copy, PartialEq, Eq)]
 pub struct ItemRow {
     pub id: u32,
     pub image: u32,
-    pub name: Text,
+    pub name: Text<24>,
     pub price: Cents,
-    /// I_DATA, at most 50 bytes.
-    pub information: Text,
+    /// I_DATA.
+    pub information: Text<50>,
 }
 
 /// STOCK: one item in one warehouse.
-#[derive(Debug, Drop, PartialEq, Eq)]
+#[derive(Clone, Copy, PartialEq, Eq)]
 pub struct StockRow {
     pub item: u32,
     pub warehouse: u32,
     pub quantity: u32,
     /// S_DIST_01 to S_DIST_10, each exactly 24 bytes.
-    pub district_information: [Text; 10],
+    pub district_information: [Text<24>; 10],
     pub ytd: u32,
     pub order_count: u32,
     pub remote_count: u32,
-    /// S_DATA, at most 50 bytes.
-    pub information: Text,
+    /// S_DATA.
+    pub information: Text<50>,
 }
 
 impl WarehouseRow {

@@ -58,12 +58,12 @@ pub fn insert_one<T: Keyed>(rows: &mut Vec<T>, added: T)
 }
 
 /// Puts new rows at their places, one after another; there is room for them.
-pub fn insert_all<T: Keyed>(rows: &mut Vec<T>, added: Vec<T>)
-    requires keyed { is_ascending T.key (inserted_all (by_key T.key) added.items rows.old.items) ≡ true }
-    requires room { vec_len rows.old + length added.items ≤ vec_capacity rows.old }
-    ensures { rows.new.items ≡ inserted_all (by_key T.key) added.items rows.old.items }
+pub fn insert_all<T: Keyed>(rows: &mut Vec<T>, added: &[T])
+    requires keyed { is_ascending T.key (inserted_all (by_key T.key) added.now rows.old.items) ≡ true }
+    requires room { vec_len rows.old + length added.now ≤ vec_capacity rows.old }
+    ensures { rows.new.items ≡ inserted_all (by_key T.key) added.now rows.old.items }
 {
     for row in added {
-        insert(rows, row).unwrap();
+        insert(rows, *row).unwrap();
     }
 }

@@ -4,11 +4,10 @@ ghost use Rattle.tpcc_rows.specs.Lists.{key_before};
 ghost use Rattle.tpcc_tables.specs.Searches.{is_same_key};
 
 use crate::keys::*;
-use std::fmt::Debug;
 use tpcc_rows::rows::*;
 
 /// A row whose key is a list of numbers; the first that differs decides.
-pub trait Keyed: Debug + Drop {
+pub trait Keyed: Copy {
     ghost use Rattle.std.specs.Prelude.{ℕ, List};
 
     /// The columns of the key alone.

@@ -44,13 +44,13 @@ fn is_moment(moment: Moment) -> bool
     is_within(0, 4_102_444_799, moment.seconds())
 }
 
-fn is_text(longest: usize, text: &Text) -> bool
+fn is_text<const N: usize>(longest: usize, text: &Text<N>) -> bool
     ensures { result ≡ ranges.is_text longest text.now }
 {
     text.len() <= longest && tpcc_rows::text::are_plain(text.bytes())
 }
 
-fn is_exact_text(long: usize, text: &Text) -> bool
+fn is_exact_text<const N: usize>(long: usize, text: &Text<N>) -> bool
     ensures { result ≡ ranges.is_exact_text long text.now }
 {
     text.len() == long && tpcc_rows::text::are_plain(text.bytes())
@@ -228,7 +228,7 @@ pub fn is_item_row(row: &ItemRow) -> bool
         && is_text(50, &row.information)
 }
 
-fn are_district_texts(texts: &[Text]) -> bool
+fn are_district_texts(texts: &[Text<24>]) -> bool
     ensures { result ≡ list_all (ranges.is_exact_text 24) texts.now }
 {
     texts.iter().all(|text| is_exact_text(24, text))

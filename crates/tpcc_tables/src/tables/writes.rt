@@ -42,7 +42,7 @@ impl Tables {
     /// Pays the amount of a HISTORY row into its warehouse and district (2.5.2.2), takes it from
     /// the customer's balance and appends the row. C_DATA becomes the information, where there is
     /// one. Takes no memory.
-    pub fn pay(&mut self, history: HistoryRow, information: Option<Text>)
+    pub fn pay(&mut self, history: HistoryRow, information: Option<Text<500>>)
         requires room { 0 < self.old.payment_room }
         requires payment { IsPayment self.old.rows history information }
         ensures { self.new.rows ≡ with_payment self.old.rows history information }
@@ -69,13 +69,13 @@ impl Tables {
     /// Enters an order (2.4.2.2): its ORDER, NEW-ORDER and ORDER-LINE rows are put at their
     /// places, its district's next number rises, and each line is taken from its STOCK row.
     /// Takes no memory.
-    pub fn append_order(&mut self, order: OrderRow, lines: Vec<OrderLineRow>)
-        requires room { length lines.items < self.old.order_room }
-        requires order { IsOrder self.old.rows order lines.items }
-        ensures { self.new.rows ≡ with_entered_order self.old.rows order lines.items }
+    pub fn append_order(&mut self, order: OrderRow, lines: &[OrderLineRow])
+        requires room { length lines.now < self.old.order_room }
+        requires order { IsOrder self.old.rows order lines.now }
+        ensures { self.new.rows ≡ with_entered_order self.old.rows order lines.now }
     {
         place::raise_next_order(&mut self.districts, order.warehouse, order.district);
-        supply::supply(&mut self.stocks, order.warehouse, lines.as_slice());
+        supply::supply(&mut self.stocks, order.warehouse, lines);
         insertion::insert_all(&mut self.order_lines, lines);
         let waiting = NewOrderRow {
             order: order.id,

@@ -1,4 +1,4 @@
-use Rattle.std.proofs.Common.{◌≡◌, ◌∙◌, ◌≤◌, List, length, true, sym, ap, subst, arith}
+use Rattle.std.proofs.Common.{◌≡◌, ◌∙◌, ◌≤◌, List, length, true, refl, sym, ap, subst, arith}
 use Rattle.std.specs.List.{list_all}
 use Rattle.tpcc_rows.specs.declared.rows.OrderLineRow.{OrderLineRow}
 use Rattle.tpcc_rows.specs.Ranges.{is_within}
@@ -18,24 +18,24 @@ supply-requires-clause-near c = near_starts c.self.inside.stocks.items c.self.in
 
 pub supply-requires-clause-few : goal.supply-requires-clause-few
 supply-requires-clause-few c =
-    let known = enterable (rows_of c.self.inside) c.args.order c.args.lines.items (subst (λ (t : Held). IsOrder t.rows c.args.order c.args.lines.items) (sym c.self.view_is) c.requires.order) in
-    subst (λ (ls : List OrderLineRow). length ls ≤ 15) (sym c.as_slice.ensures.value) known.few
+    let known = enterable (rows_of c.self.inside) c.args.order c.args.lines.now (subst (λ (t : Held). IsOrder t.rows c.args.order c.args.lines.now) (sym c.self.view_is) c.requires.order) in
+    known.few
 
 pub supply-requires-clause-quantities : goal.supply-requires-clause-quantities
 supply-requires-clause-quantities c =
-    let known = enterable (rows_of c.self.inside) c.args.order c.args.lines.items (subst (λ (t : Held). IsOrder t.rows c.args.order c.args.lines.items) (sym c.self.view_is) c.requires.order) in
-    subst (λ (ls : List OrderLineRow). list_all (λ l. is_within 1 10 l.quantity) ls ≡ true) (sym c.as_slice.ensures.value) known.quantities
+    let known = enterable (rows_of c.self.inside) c.args.order c.args.lines.now (subst (λ (t : Held). IsOrder t.rows c.args.order c.args.lines.now) (sym c.self.view_is) c.requires.order) in
+    known.quantities
 
 pub insert_all-requires-clause-keyed : goal.insert_all-requires-clause-keyed
 insert_all-requires-clause-keyed c =
-    lines_in_order (rows_of c.self.inside) c.args.order c.args.lines.items (subst (λ (t : Held). IsOrder t.rows c.args.order c.args.lines.items) (sym c.self.view_is) c.requires.order) c.self.invariant.well_keyed
+    lines_in_order (rows_of c.self.inside) c.args.order c.args.lines.now (subst (λ (t : Held). IsOrder t.rows c.args.order c.args.lines.now) (sym c.self.view_is) c.requires.order) c.self.invariant.well_keyed
 
 pub invariant_of-self : goal.invariant_of-self
 invariant_of-self c =
-    let written = written_rows (rows_of c.self.inside) c.args.order c.args.lines.items c.as_slice.result.now c.raise_next_order.new.rows.items c.insert_one-2.new.rows.items c.insert_all.new.rows.items c.insert_one.new.rows.items c.supply.new.rows.items
-    c.as_slice.ensures.value c.raise_next_order.ensures c.insert_one-2.ensures c.insert_all.ensures c.insert_one.ensures c.supply.ensures in
+    let written = written_rows (rows_of c.self.inside) c.args.order c.args.lines.now c.args.lines.now c.raise_next_order.new.rows.items c.insert_one-2.new.rows.items c.insert_all.new.rows.items c.insert_one.new.rows.items c.supply.new.rows.items
+    refl c.raise_next_order.ensures c.insert_one-2.ensures c.insert_all.ensures c.insert_one.ensures c.supply.ensures in
     record {
-      well_keyed = subst IsWellKeyed (sym written) (entered_is_well_keyed (rows_of c.self.inside) c.args.order c.args.lines.items (subst (λ (t : Held). IsOrder t.rows c.args.order c.args.lines.items) (sym c.self.view_is) c.requires.order) c.self.invariant.well_keyed);
+      well_keyed = subst IsWellKeyed (sym written) (entered_is_well_keyed (rows_of c.self.inside) c.args.order c.args.lines.now (subst (λ (t : Held). IsOrder t.rows c.args.order c.args.lines.now) (sym c.self.view_is) c.requires.order) c.self.invariant.well_keyed);
       order = λ lt. absurd (omega (arith, lt));
       new_order = λ lt. absurd (omega (arith, lt));
       lines = λ lt. absurd (omega (arith, lt));
@@ -44,6 +44,6 @@ invariant_of-self c =
 
 pub returns : goal.returns
 returns c =
-    written_rows (rows_of c.self.inside) c.args.order c.args.lines.items c.as_slice.result.now c.raise_next_order.new.rows.items c.insert_one-2.new.rows.items c.insert_all.new.rows.items c.insert_one.new.rows.items c.supply.new.rows.items
-    c.as_slice.ensures.value c.raise_next_order.ensures c.insert_one-2.ensures c.insert_all.ensures c.insert_one.ensures c.supply.ensures
-    ∙ ap (λ (t : Held). with_entered_order t.rows c.args.order c.args.lines.items) c.self.view_is
+    written_rows (rows_of c.self.inside) c.args.order c.args.lines.now c.args.lines.now c.raise_next_order.new.rows.items c.insert_one-2.new.rows.items c.insert_all.new.rows.items c.insert_one.new.rows.items c.supply.new.rows.items
+    refl c.raise_next_order.ensures c.insert_one-2.ensures c.insert_all.ensures c.insert_one.ensures c.supply.ensures
+    ∙ ap (λ (t : Held). with_entered_order t.rows c.args.order c.args.lines.now) c.self.view_is

@@ -1,0 +1,95 @@
+//! Short lists, which lie in the value itself.
+ghost use Rattle.std.specs.Prelude.{◌≡◌, ◌<◌, ◌≤◌, ◌++◌, ◌∷◌, [], length};
+ghost use Rattle.std.specs.Cmp.Lexicographic.{pointwise, lists_equiv, lists_per};
+
+use std::alloc::AllocError;
+use std::marker::Model;
+
+/// A value for places that are not used.
+pub trait Blank: Copy {
+    ghost blank: { Self };
+
+    /// That value; nothing shows it.
+    fn blank() -> Self
+        ensures blank { result ≡ blank };
+}
+
+/// At most `N` values, seen as their list; `N` is at most 65,535.
+// Unused places are blank, so that equal lists have equal fields.
+#[derive(Copy)]
+pub struct Few<T: Blank, const N: usize> {
+    items: [T; N],
+    len: u16,
+}
+
+impl<T: Blank, const N: usize> Model for Few<T, N> {
+    ghost use Rattle.std.specs.Prelude.{List};
+    ghost use Rattle.tpcc_rows.specs.FewView.{IsFew, shown, fields_of, gives_back};
+
+    ghost Value = { List T };
+
+    ghost view = { shown };
+
+    ghost invariant = { IsFew T.blank N };
+
+    ghost inverse = { fields_of T.blank N };
+
+    ghost inverse_ok = { gives_back T.blank N };
+}
+
+impl<T: Blank, const N: usize> Clone for Few<T, N> {
+    fn clone(&self) -> Result<Self, AllocError> {
+        Ok(*self)
+    }
+}
+
+impl<T: Blank, const N: usize> Few<T, N> {
+    /// None.
+    pub fn empty() -> Few<T, N>
+        ensures none { result ≡ [] }
+    {
+        Few {
+            items: [T::blank(); N],
+            len: 0,
+        }
+    }
+
+    /// How many there are.
+    pub fn len(&self) -> usize
+        ensures length { result ≡ length self.now }
+        ensures fits { result ≤ N }
+    {
+        usize::from(self.len)
+    }
+
+    /// All of them, in their order.
+    pub fn as_slice(&self) -> &[T]
+        ensures items { result.now ≡ self.now }
+    {
+        &self.items[..usize::from(self.len)]
+    }
+
+    /// One more at the end.
+    pub fn push(&mut self, item: T)
+        requires short { N ≤ 65535 }
+        requires room { length self.old < N }
+        ensures pushed { self.new ≡ self.old ++ item ∷ [] }
+    {
+        self.items[usize::from(self.len)] = item;
+        self.len += 1;
+    }
+}
+
+impl<T: Blank + PartialEq, const N: usize> PartialEq for Few<T, N> {
+    ghost eq = { pointwise T.eq };
+
+    ghost laws = { lists_per T.laws };
+
+    fn eq(&self, other: &Self) -> bool {
+        self.as_slice() == other.as_slice()
+    }
+}
+
+impl<T: Blank + Eq, const N: usize> Eq for Few<T, N> {
+    ghost laws = { lists_equiv T.Eq.laws };
+}
