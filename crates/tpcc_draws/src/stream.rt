@@ -77,6 +77,8 @@ impl Stream {
         requires fits { most ≤ N }
         requires short { N ≤ 65535 }
         ensures drawn { (result, answers self.new) ≡ a_string least most (answers self.old) }
+        ensures least { least ≤ length result }
+        ensures most { length result ≤ most }
     {
         self.text(
             b"0123456789ABCDEFGHIJKLMNOPQRSTUVWXYZabcdefghijklmnopqrstuvwxyz",
@@ -91,6 +93,8 @@ impl Stream {
         requires fits { most ≤ N }
         requires short { N ≤ 65535 }
         ensures drawn { (result, answers self.new) ≡ n_string least most (answers self.old) }
+        ensures least { least ≤ length result }
+        ensures most { length result ≤ most }
     {
         self.text(b"0123456789", least, most)
     }
@@ -103,6 +107,8 @@ impl Stream {
         requires few { length alphabet.now ≤ 1000 }
         requires printable { list_all is_printable alphabet.now ≡ true }
         ensures drawn { (result, answers self.new) ≡ drawn_text alphabet.now least most (answers self.old) }
+        ensures least { least ≤ length result }
+        ensures most { length result ≤ most }
     {
         let mut text = Text::empty();
         let size = self.between(least, most);

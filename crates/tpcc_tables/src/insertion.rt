@@ -1,9 +1,10 @@
 //! New rows put into a table in ascending order of its keys.
-ghost use Rattle.std.specs.Prelude.{[], ◌∷◌, ◌++◌, ◌≡◌, ◌<◌, ◌≤◌, not, true, OnOk, OnErr, IfErr, IsOk, ◌+◌, length, vec_len, vec_capacity};
+ghost use Rattle.std.specs.Prelude.{[], ◌∷◌, ◌++◌, ◌≡◌, ◌<◌, ◌≤◌, not, true, OnOk, OnErr, IsOk, ◌+◌, length, vec_len, vec_capacity};
 ghost use Rattle.std.specs.List.{prefix_len};
 ghost use Rattle.tpcc_rows.specs.Lists.{by_key, is_ascending, inserted, inserted_all};
 
 use crate::keyed::Keyed;
+use tpcc_money::NoMemory;
 
 /// How many rows stand before the first one that comes after a new row, searched by halves.
 fn place_for<T: Keyed>(rows: &[T], added: &T) -> usize
@@ -17,12 +18,11 @@ fn place_for<T: Keyed>(rows: &[T], added: &T) -> usize
     )
 }
 
-/// Puts a new row at its place, or gives it back where there is no memory for it.
-pub fn insert<T: Keyed>(rows: &mut Vec<T>, added: T) -> Result<(), T>
+/// Puts a new row at its place; refuses only for want of memory.
+pub fn insert<T: Keyed>(rows: &mut Vec<T>, added: T) -> Result<(), NoMemory>
     requires keyed { is_ascending T.key rows.old.items ≡ true }
     ensures inserted { OnOk result (rows.new.items ≡ inserted (by_key T.key) added rows.old.items) }
     ensures same { OnErr result (rows.new.items ≡ rows.old.items) }
-    ensures given_back { IfErr result (λ row. row ≡ added) }
     ensures len { vec_len rows.new ≤ vec_len rows.old + 1 }
     ensures capacity { vec_capacity rows.old ≤ vec_capacity rows.new }
     ensures succeeds { vec_len rows.old < vec_capacity rows.old → IsOk result }
@@ -30,21 +30,20 @@ pub fn insert<T: Keyed>(rows: &mut Vec<T>, added: T) -> Result<(), T>
     let place = place_for(rows.as_slice(), &added);
     match rows.insert(place, added) {
         Ok(()) => Ok(()),
-        Err(failed) => Err(failed.value),
+        Err(_) => Err(NoMemory),
     }
 }
 
-/// Appends a row, or gives it back where there is no memory for it.
-pub fn push<T>(rows: &mut Vec<T>, added: T) -> Result<(), T>
+/// Appends a row; refuses only for want of memory.
+pub fn push<T: Copy>(rows: &mut Vec<T>, added: T) -> Result<(), NoMemory>
     ensures appended { OnOk result (rows.new.items ≡ rows.old.items ++ added ∷ []) }
     ensures same { OnErr result (rows.new.items ≡ rows.old.items) }
-    ensures given_back { IfErr result (λ row. row ≡ added) }
     ensures capacity { vec_capacity rows.old ≤ vec_capacity rows.new }
     ensures succeeds { vec_len rows.old < vec_capacity rows.old → IsOk result }
 {
     match rows.push(added) {
         Ok(()) => Ok(()),
-        Err(failed) => Err(failed.value),
+        Err(_) => Err(NoMemory),
     }
 }
 

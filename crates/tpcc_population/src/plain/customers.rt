@@ -1,63 +1,46 @@
 //! CUSTOMER and HISTORY of the plain opening.
-ghost use Rattle.std.specs.Prelude.{◌≡◌, ◌∷◌, [], ◌≤◌, IfOk};
+ghost use Rattle.std.specs.Prelude.{◌≡◌, ◌∷◌, [], ◌≤◌};
 ghost use Rattle.tpcc_rows.specs.Opening.{plain_customer, plain_history};
 
 use super::address::plain_address;
 use crate::layout::{TableRows, push};
-use crate::texts::{credit, numbered, text};
+use crate::texts::{credit, numbered};
 use std::alloc::Global;
 use tpcc_draws::last_name;
 use tpcc_money::{Cents, Moment, NoMemory, Rate};
 use tpcc_rows::rows::{CustomerRow, HistoryRow};
+use tpcc_rows::text::Text;
 
-fn plain_customer(
-    alloc: Global,
-    warehouse: u32,
-    district: u32,
-    number: u32,
-) -> Result<CustomerRow, NoMemory>
+fn plain_customer(warehouse: u32, district: u32, number: u32) -> CustomerRow
     requires least { 1 ≤ number }
     requires most { number ≤ 3000 }
-    ensures { IfOk result (λ row. row ≡ plain_customer warehouse district number) }
+    ensures { result ≡ plain_customer warehouse district number }
 {
-    let first = numbered(alloc, "FIRST", 4, 9999 - number)?;
-    let middle = text(alloc, b"OE")?;
-    let last = last_name(alloc, (number - 1) % 3)?;
-    let address = plain_address(alloc)?;
-    let phone = numbered(alloc, "", 16, number)?;
-    let credit = credit(alloc, number % 10 == 0)?;
-    let information = text(alloc, &[b'x'; 300])?;
-    Ok(CustomerRow {
+    CustomerRow {
         id: number,
         district,
         warehouse,
-        first,
-        middle,
-        last,
-        address,
-        phone,
+        first: numbered(b"FIRST", 4, 9999 - number),
+        middle: Text::of(b"OE"),
+        last: last_name((number - 1) % 3),
+        address: plain_address(),
+        phone: numbered(b"", 16, number),
         since: Moment::new(0),
-        credit,
+        credit: credit(number % 10 == 0),
         credit_limit: Cents::new(5_000_000),
         discount: Rate::new((number % 51) as u16 * 100),
         balance: Cents::new(-1000),
         ytd_payment: Cents::new(1000),
         payment_count: 1,
         delivery_count: 0,
-        information,
-    })
+        information: Text::of(&[b'x'; 300]),
+    }
 }
 
-fn plain_history(
-    alloc: Global,
-    warehouse: u32,
-    district: u32,
-    customer: u32,
-) -> Result<HistoryRow, NoMemory>
-    ensures { IfOk result (λ row. row ≡ plain_history warehouse district customer) }
+fn plain_history(warehouse: u32, district: u32, customer: u32) -> HistoryRow
+    ensures { result ≡ plain_history warehouse district customer }
 {
-    let information = text(alloc, b"OPENINGPAYMENT")?;
-    Ok(HistoryRow {
+    HistoryRow {
         customer,
         customer_district: district,
         customer_warehouse: warehouse,
@@ -65,8 +48,8 @@ fn plain_history(
         warehouse,
         date: Moment::new(0),
         amount: Cents::new(1000),
-        information,
-    })
+        information: Text::of(b"OPENINGPAYMENT"),
+    }
 }
 
 /// CUSTOMER.
@@ -82,13 +65,13 @@ impl TableRows for PlainCustomers {
 
     fn append(
         &self,
-        alloc: Global,
+        _alloc: Global,
         rows: &mut Vec<CustomerRow>,
         warehouse: u32,
         district: u32,
         number: u32,
     ) -> Result<(), NoMemory> {
-        push(rows, plain_customer(alloc, warehouse, district, number)?)
+        push(rows, plain_customer(warehouse, district, number))
     }
 }
 
@@ -105,12 +88,12 @@ impl TableRows for PlainHistories {
 
     fn append(
         &self,
-        alloc: Global,
+        _alloc: Global,
         rows: &mut Vec<HistoryRow>,
         warehouse: u32,
         district: u32,
         number: u32,
     ) -> Result<(), NoMemory> {
-        push(rows, plain_history(alloc, warehouse, district, number)?)
+        push(rows, plain_history(warehouse, district, number))
     }
 }

@@ -1,76 +1,67 @@
 //! ITEM and STOCK of the plain opening.
-ghost use Rattle.std.specs.Prelude.{◌≡◌, ◌∷◌, [], ◌≤◌, IfOk, map};
+ghost use Rattle.std.specs.Prelude.{◌≡◌, ◌∷◌, [], ◌≤◌, map};
 ghost use Rattle.std.specs.List.{range_with_len};
 ghost use Rattle.tpcc_rows.specs.Opening.{plain_item, plain_stock, plain_district_information};
 
 use crate::layout::{TableRows, push};
-use crate::texts::{district_information, numbered, text};
+use crate::texts::{district_information, numbered};
 use std::alloc::Global;
 use tpcc_money::{Cents, NoMemory};
 use tpcc_rows::rows::{ItemRow, StockRow};
 use tpcc_rows::text::Text;
 
-fn plain_item(alloc: Global, number: u32) -> Result<ItemRow, NoMemory>
+fn plain_item(number: u32) -> ItemRow
     requires least { 1 ≤ number }
     requires most { number ≤ 100000 }
-    ensures { IfOk result (λ row. row ≡ plain_item number) }
+    ensures { result ≡ plain_item number }
 {
-    let name = numbered(alloc, "ITEMNAME", 6, number)?;
-    let information = text(
-        alloc,
-        if number % 10 == 0 {
+    ItemRow {
+        id: number,
+        image: 1 + (number - 1) % 10000,
+        name: numbered(b"ITEMNAME", 6, number),
+        price: Cents::new(i64::from(100 + (number - 1) % 9901)),
+        information: Text::of(if number % 10 == 0 {
             b"ORIGINALiiiiiiiiiiiiiiiiii"
         } else {
             b"iiiiiiiiiiiiiiiiiiiiiiiiii"
-        },
-    )?;
-    Ok(ItemRow {
-        id: number,
-        image: 1 + (number - 1) % 10000,
-        name,
-        price: Cents::new(i64::from(100 + (number - 1) % 9901)),
-        information,
-    })
+        }),
+    }
 }
 
-fn ten_texts(alloc: Global) -> Result<[Text; 10], NoMemory>
-    ensures { IfOk result (λ texts. texts ≡ map plain_district_information (range_with_len 1 10)) }
+fn ten_texts() -> [Text<24>; 10]
+    ensures { result ≡ map plain_district_information (range_with_len 1 10) }
 {
-    let d1 = district_information(alloc, 1)?;
-    let d2 = district_information(alloc, 2)?;
-    let d3 = district_information(alloc, 3)?;
-    let d4 = district_information(alloc, 4)?;
-    let d5 = district_information(alloc, 5)?;
-    let d6 = district_information(alloc, 6)?;
-    let d7 = district_information(alloc, 7)?;
-    let d8 = district_information(alloc, 8)?;
-    let d9 = district_information(alloc, 9)?;
-    let d10 = district_information(alloc, 10)?;
-    Ok([d1, d2, d3, d4, d5, d6, d7, d8, d9, d10])
+    [
+        district_information(1),
+        district_information(2),
+        district_information(3),
+        district_information(4),
+        district_information(5),
+        district_information(6),
+        district_information(7),
+        district_information(8),
+        district_information(9),
+        district_information(10),
+    ]
 }
 
-fn plain_stock(alloc: Global, warehouse: u32, item: u32) -> Result<StockRow, NoMemory>
-    ensures { IfOk result (λ row. row ≡ plain_stock warehouse item) }
+fn plain_stock(warehouse: u32, item: u32) -> StockRow
+    ensures { result ≡ plain_stock warehouse item }
 {
-    let district_information = ten_texts(alloc)?;
-    let information = text(
-        alloc,
-        if item % 20 == 0 {
-            b"ORIGINALssssssssssssssssss"
-        } else {
-            b"ssssssssssssssssssssssssss"
-        },
-    )?;
-    Ok(StockRow {
+    StockRow {
         item,
         warehouse,
         quantity: 10 + item % 91,
-        district_information,
+        district_information: ten_texts(),
         ytd: 0,
         order_count: 0,
         remote_count: 0,
-        information,
-    })
+        information: Text::of(if item % 20 == 0 {
+            b"ORIGINALssssssssssssssssss"
+        } else {
+            b"ssssssssssssssssssssssssss"
+        }),
+    }
 }
 
 /// ITEM.
@@ -86,13 +77,13 @@ impl TableRows for PlainItems {
 
     fn append(
         &self,
-        alloc: Global,
+        _alloc: Global,
         rows: &mut Vec<ItemRow>,
         _warehouse: u32,
         _district: u32,
         number: u32,
     ) -> Result<(), NoMemory> {
-        push(rows, plain_item(alloc, number)?)
+        push(rows, plain_item(number))
     }
 }
 
@@ -109,12 +100,12 @@ impl TableRows for PlainStocks {
 
     fn append(
         &self,
-        alloc: Global,
+        _alloc: Global,
         rows: &mut Vec<StockRow>,
         warehouse: u32,
         _district: u32,
         number: u32,
     ) -> Result<(), NoMemory> {
-        push(rows, plain_stock(alloc, warehouse, number)?)
+        push(rows, plain_stock(warehouse, number))
     }
 }

@@ -1,5 +1,5 @@
 //! WAREHOUSE and DISTRICT of the plain opening.
-ghost use Rattle.std.specs.Prelude.{◌≡◌, ◌∷◌, [], ◌≤◌, IfOk};
+ghost use Rattle.std.specs.Prelude.{◌≡◌, ◌∷◌, [], ◌≤◌};
 ghost use Rattle.tpcc_rows.specs.Opening.{plain_warehouse, plain_district};
 
 use super::address::plain_address;
@@ -10,41 +10,33 @@ use std::alloc::Global;
 use tpcc_money::{Cents, NoMemory, Rate};
 use tpcc_rows::rows::{DistrictRow, WarehouseRow};
 
-fn plain_warehouse(alloc: Global, scale: &Scale, number: u32) -> Result<WarehouseRow, NoMemory>
-    ensures { IfOk result (λ row. row ≡ plain_warehouse scale.now number) }
+fn plain_warehouse(scale: &Scale, number: u32) -> WarehouseRow
+    requires { number ≤ 100 }
+    ensures { result ≡ plain_warehouse scale.now number }
 {
-    let name = numbered(alloc, "WARE", 3, number)?;
-    let address = plain_address(alloc)?;
-    Ok(WarehouseRow {
+    WarehouseRow {
         id: number,
-        name,
-        address,
+        name: numbered(b"WARE", 3, number),
+        address: plain_address(),
         tax: Rate::new(1000),
         ytd: Cents::new(i64::from(scale.customers()) * 10000),
-    })
+    }
 }
 
-fn plain_district(
-    alloc: Global,
-    scale: &Scale,
-    warehouse: u32,
-    number: u32,
-) -> Result<DistrictRow, NoMemory>
+fn plain_district(scale: &Scale, warehouse: u32, number: u32) -> DistrictRow
     requires { number ≤ 10 }
-    ensures { IfOk result (λ row. row ≡ plain_district scale.now warehouse number) }
+    ensures { result ≡ plain_district scale.now warehouse number }
 {
-    let name = numbered(alloc, "DIST", 2, number)?;
-    let address = plain_address(alloc)?;
     let customers = scale.customers();
-    Ok(DistrictRow {
+    DistrictRow {
         id: number,
         warehouse,
-        name,
-        address,
+        name: numbered(b"DIST", 2, number),
+        address: plain_address(),
         tax: Rate::new(number as u16 * 100),
         ytd: Cents::new(i64::from(customers) * 1000),
         next_order: customers + 1,
-    })
+    }
 }
 
 /// WAREHOUSE.
@@ -62,13 +54,13 @@ impl TableRows for PlainWarehouses {
 
     fn append(
         &self,
-        alloc: Global,
+        _alloc: Global,
         rows: &mut Vec<WarehouseRow>,
         _warehouse: u32,
         _district: u32,
         number: u32,
     ) -> Result<(), NoMemory> {
-        push(rows, plain_warehouse(alloc, &self.scale, number)?)
+        push(rows, plain_warehouse(&self.scale, number))
     }
 }
 
@@ -87,12 +79,12 @@ impl TableRows for PlainDistricts {
 
     fn append(
         &self,
-        alloc: Global,
+        _alloc: Global,
         rows: &mut Vec<DistrictRow>,
         warehouse: u32,
         _district: u32,
         number: u32,
     ) -> Result<(), NoMemory> {
-        push(rows, plain_district(alloc, &self.scale, warehouse, number)?)
+        push(rows, plain_district(&self.scale, warehouse, number))
     }
 }

@@ -11,22 +11,21 @@ use tpcc_money::{Cents, Moment, NoMemory};
 use tpcc_rows::rows::OrderLineRow;
 
 fn plain_order_line(
-    alloc: Global,
     scale: &Scale,
     warehouse: u32,
     district: u32,
     order: u32,
     number: u32,
-) -> Result<OrderLineRow, NoMemory>
+) -> OrderLineRow
+    requires district { district ≤ 10 }
     requires order { 1 ≤ order }
     requires orders { order ≤ 3000 }
     requires least { 1 ≤ number }
     requires most { number ≤ 15 }
-    ensures { IfOk result (λ row. row ≡ plain_order_line scale.now warehouse district order number) }
+    ensures { result ≡ plain_order_line scale.now warehouse district order number }
 {
-    let district_information = district_information(alloc, district)?;
     let is_delivered = scale.is_delivered(order);
-    Ok(OrderLineRow {
+    OrderLineRow {
         order,
         district,
         warehouse,
@@ -44,25 +43,24 @@ fn plain_order_line(
         } else {
             Cents::new(i64::from(number) * 100)
         },
-        district_information,
-    })
+        district_information: district_information(district),
+    }
 }
 
 fn append_lines(
-    alloc: Global,
     scale: &Scale,
     rows: &mut Vec<OrderLineRow>,
     warehouse: u32,
     district: u32,
     order: u32,
 ) -> Result<(), NoMemory>
+    requires district { district ≤ 10 }
     requires order { 1 ≤ order }
     requires orders { order ≤ 3000 }
     ensures { IfOk result (λ _. rows.new.items ≡ rows.old.items ++ one_each 1 5 (plain_order_line scale.now warehouse district order)) }
 {
     for number in 1..6 {
-        let row = plain_order_line(alloc, scale, warehouse, district, order, number)?;
-        push(rows, row)?;
+        push(rows, plain_order_line(scale, warehouse, district, order, number))?;
     }
     Ok(())
 }
@@ -82,12 +80,12 @@ impl TableRows for PlainOrderLines {
 
     fn append(
         &self,
-        alloc: Global,
+        _alloc: Global,
         rows: &mut Vec<OrderLineRow>,
         warehouse: u32,
         district: u32,
         number: u32,
     ) -> Result<(), NoMemory> {
-        append_lines(alloc, &self.scale, rows, warehouse, district, number)
+        append_lines(&self.scale, rows, warehouse, district, number)
     }
 }

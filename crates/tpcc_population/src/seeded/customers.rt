@@ -1,5 +1,5 @@
 //! CUSTOMER and HISTORY of the drawn opening.
-ghost use Rattle.std.specs.Prelude.{◌≡◌, ◌∷◌, [], ◌≤◌, IfOk};
+ghost use Rattle.std.specs.Prelude.{◌≡◌, ◌∷◌, [], ◌≤◌};
 ghost use Rattle.tpcc_draws.specs.Draws.{answers};
 ghost use Rattle.tpcc_population.specs.Seeded.{drawn_last, seeded_customer, seeded_history};
 
@@ -7,7 +7,7 @@ use super::Seed;
 use super::address::drawn_address;
 use super::numbers::number_in_districts;
 use crate::layout::{TableRows, push};
-use crate::texts::{credit, text};
+use crate::texts::credit;
 use std::alloc::Global;
 use tpcc_draws::{Stream, last_name};
 use tpcc_money::{Cents, NoMemory, Rate};
@@ -15,49 +15,42 @@ use tpcc_rows::rows::{CustomerRow, HistoryRow};
 use tpcc_rows::text::Text;
 
 #[tactic(auto, unfolding(crate::specs::Seeded::drawn_last))]
-fn drawn_last(alloc: Global, stream: &mut Stream, number: u32) -> Result<Text, NoMemory>
+fn drawn_last(stream: &mut Stream, number: u32) -> Text<16>
     requires least { 1 ≤ number }
     requires most { number ≤ 3000 }
-    ensures drawn { IfOk result (λ t. (t, answers stream.new) ≡ drawn_last number (answers stream.old)) }
+    ensures drawn { (result, answers stream.new) ≡ drawn_last number (answers stream.old) }
 {
     if number <= 1000 {
-        last_name(alloc, number - 1)
+        last_name(number - 1)
     } else {
-        last_name(alloc, stream.nurand(255, 100, 0, 999))
+        last_name(stream.nurand(255, 100, 0, 999))
     }
 }
 
-fn seeded_customer(
-    alloc: Global,
-    seed: &Seed,
-    warehouse: u32,
-    district: u32,
-    number: u32,
-) -> Result<CustomerRow, NoMemory>
+fn seeded_customer(seed: &Seed, warehouse: u32, district: u32, number: u32) -> CustomerRow
     requires warehouse_least { 1 ≤ warehouse }
     requires warehouse { warehouse ≤ 100 }
     requires district_least { 1 ≤ district }
     requires district { district ≤ 10 }
     requires least { 1 ≤ number }
     requires most { number ≤ 3000 }
-    ensures { IfOk result (λ row. row ≡ seeded_customer seed.now warehouse district number) }
+    ensures { result ≡ seeded_customer seed.now warehouse district number }
 {
     let row = number_in_districts(&seed.scale, warehouse, district, number);
     let mut stream = Stream::of(seed.seed, 3, row);
-    let first = stream.a_string(alloc, 8, 16)?;
-    let middle = text(alloc, b"OE")?;
-    let last = drawn_last(alloc, &mut stream, number)?;
-    let address = drawn_address(alloc, &mut stream)?;
-    let phone = stream.n_string(alloc, 16, 16)?;
-    let credit = credit(alloc, stream.between(1, 10) == 1)?;
+    let first = stream.a_string(8, 16);
+    let last = drawn_last(&mut stream, number);
+    let address = drawn_address(&mut stream);
+    let phone = stream.n_string(16, 16);
+    let credit = credit(stream.between(1, 10) == 1);
     let discount = Rate::new(stream.between(0, 5000) as u16);
-    let information = stream.a_string(alloc, 300, 500)?;
-    Ok(CustomerRow {
+    let information = stream.a_string(300, 500);
+    CustomerRow {
         id: number,
         district,
         warehouse,
         first,
-        middle,
+        middle: Text::of(b"OE"),
         last,
         address,
         phone,
@@ -70,28 +63,22 @@ fn seeded_customer(
         payment_count: 1,
         delivery_count: 0,
         information,
-    })
+    }
 }
 
-fn seeded_history(
-    alloc: Global,
-    seed: &Seed,
-    warehouse: u32,
-    district: u32,
-    customer: u32,
-) -> Result<HistoryRow, NoMemory>
+fn seeded_history(seed: &Seed, warehouse: u32, district: u32, customer: u32) -> HistoryRow
     requires warehouse_least { 1 ≤ warehouse }
     requires warehouse { warehouse ≤ 100 }
     requires district_least { 1 ≤ district }
     requires district { district ≤ 10 }
     requires least { 1 ≤ customer }
     requires most { customer ≤ 3000 }
-    ensures { IfOk result (λ row. row ≡ seeded_history seed.now warehouse district customer) }
+    ensures { result ≡ seeded_history seed.now warehouse district customer }
 {
     let row = number_in_districts(&seed.scale, warehouse, district, customer);
     let mut stream = Stream::of(seed.seed, 4, row);
-    let information = stream.a_string(alloc, 12, 24)?;
-    Ok(HistoryRow {
+    let information = stream.a_string(12, 24);
+    HistoryRow {
         customer,
         customer_district: district,
         customer_warehouse: warehouse,
@@ -100,7 +87,7 @@ fn seeded_history(
         date: seed.moment,
         amount: Cents::new(1000),
         information,
-    })
+    }
 }
 
 /// CUSTOMER.
@@ -118,13 +105,13 @@ impl TableRows for SeededCustomers {
 
     fn append(
         &self,
-        alloc: Global,
+        _alloc: Global,
         rows: &mut Vec<CustomerRow>,
         warehouse: u32,
         district: u32,
         number: u32,
     ) -> Result<(), NoMemory> {
-        let row = seeded_customer(alloc, &self.seed, warehouse, district, number)?;
+        let row = seeded_customer(&self.seed, warehouse, district, number);
         push(rows, row)
     }
 }
@@ -144,13 +131,13 @@ impl TableRows for SeededHistories {
 
     fn append(
         &self,
-        alloc: Global,
+        _alloc: Global,
         rows: &mut Vec<HistoryRow>,
         warehouse: u32,
         district: u32,
         number: u32,
     ) -> Result<(), NoMemory> {
-        let row = seeded_history(alloc, &self.seed, warehouse, district, number)?;
+        let row = seeded_history(&self.seed, warehouse, district, number);
         push(rows, row)
     }
 }

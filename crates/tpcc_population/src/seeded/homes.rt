@@ -1,5 +1,5 @@
 //! WAREHOUSE and DISTRICT of the drawn opening.
-ghost use Rattle.std.specs.Prelude.{◌≡◌, ◌∷◌, [], ◌≤◌, IfOk};
+ghost use Rattle.std.specs.Prelude.{◌≡◌, ◌∷◌, [], ◌≤◌};
 ghost use Rattle.tpcc_population.specs.Seeded.{seeded_warehouse, seeded_district};
 
 use super::Seed;
@@ -11,39 +11,34 @@ use tpcc_draws::Stream;
 use tpcc_money::{Cents, NoMemory, Rate};
 use tpcc_rows::rows::{DistrictRow, WarehouseRow};
 
-fn seeded_warehouse(alloc: Global, seed: &Seed, number: u32) -> Result<WarehouseRow, NoMemory>
-    ensures { IfOk result (λ row. row ≡ seeded_warehouse seed.now number) }
+fn seeded_warehouse(seed: &Seed, number: u32) -> WarehouseRow
+    ensures { result ≡ seeded_warehouse seed.now number }
 {
     let mut stream = Stream::of(seed.seed, 1, u64::from(number));
-    let name = stream.a_string(alloc, 6, 10)?;
-    let address = drawn_address(alloc, &mut stream)?;
+    let name = stream.a_string(6, 10);
+    let address = drawn_address(&mut stream);
     let tax = Rate::new(stream.between(0, 2000) as u16);
-    Ok(WarehouseRow {
+    WarehouseRow {
         id: number,
         name,
         address,
         tax,
         ytd: Cents::new(i64::from(seed.scale.customers()) * 10000),
-    })
+    }
 }
 
-fn seeded_district(
-    alloc: Global,
-    seed: &Seed,
-    warehouse: u32,
-    number: u32,
-) -> Result<DistrictRow, NoMemory>
+fn seeded_district(seed: &Seed, warehouse: u32, number: u32) -> DistrictRow
     requires least { 1 ≤ warehouse }
     requires warehouse { warehouse ≤ 100 }
     requires number { number ≤ 10 }
-    ensures { IfOk result (λ row. row ≡ seeded_district seed.now warehouse number) }
+    ensures { result ≡ seeded_district seed.now warehouse number }
 {
     let mut stream = Stream::of(seed.seed, 2, district_number(warehouse, number));
-    let name = stream.a_string(alloc, 6, 10)?;
-    let address = drawn_address(alloc, &mut stream)?;
+    let name = stream.a_string(6, 10);
+    let address = drawn_address(&mut stream);
     let tax = Rate::new(stream.between(0, 2000) as u16);
     let customers = seed.scale.customers();
-    Ok(DistrictRow {
+    DistrictRow {
         id: number,
         warehouse,
         name,
@@ -51,7 +46,7 @@ fn seeded_district(
         tax,
         ytd: Cents::new(i64::from(customers) * 1000),
         next_order: customers + 1,
-    })
+    }
 }
 
 /// WAREHOUSE.
@@ -69,13 +64,13 @@ impl TableRows for SeededWarehouses {
 
     fn append(
         &self,
-        alloc: Global,
+        _alloc: Global,
         rows: &mut Vec<WarehouseRow>,
         _warehouse: u32,
         _district: u32,
         number: u32,
     ) -> Result<(), NoMemory> {
-        let row = seeded_warehouse(alloc, &self.seed, number)?;
+        let row = seeded_warehouse(&self.seed, number);
         push(rows, row)
     }
 }
@@ -95,13 +90,13 @@ impl TableRows for SeededDistricts {
 
     fn append(
         &self,
-        alloc: Global,
+        _alloc: Global,
         rows: &mut Vec<DistrictRow>,
         warehouse: u32,
         _district: u32,
         number: u32,
     ) -> Result<(), NoMemory> {
-        let row = seeded_district(alloc, &self.seed, warehouse, number)?;
+        let row = seeded_district(&self.seed, warehouse, number);
         push(rows, row)
     }
 }

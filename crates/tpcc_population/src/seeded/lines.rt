@@ -26,13 +26,12 @@ fn drawn_amount(stream: &mut Stream, is_delivered: bool) -> Cents
 }
 
 fn seeded_order_line(
-    alloc: Global,
     seed: &Seed,
     warehouse: u32,
     district: u32,
     order: u32,
     number: u32,
-) -> Result<OrderLineRow, NoMemory>
+) -> OrderLineRow
     requires warehouse_least { 1 ≤ warehouse }
     requires warehouse { warehouse ≤ 100 }
     requires district_least { 1 ≤ district }
@@ -40,15 +39,15 @@ fn seeded_order_line(
     requires order { 1 ≤ order }
     requires orders { order ≤ 3000 }
     requires most { number ≤ 15 }
-    ensures { IfOk result (λ row. row ≡ seeded_order_line seed.now warehouse district order number) }
+    ensures { result ≡ seeded_order_line seed.now warehouse district order number }
 {
     let row = number_in_districts(&seed.scale, warehouse, district, order);
     let is_delivered = seed.scale.is_delivered(order);
     let mut stream = Stream::of(seed.seed, 6, 15 * (row - 1) + u64::from(number));
     let item = stream.between(1, seed.scale.items());
     let amount = drawn_amount(&mut stream, is_delivered);
-    let district_information = stream.a_string(alloc, 24, 24)?;
-    Ok(OrderLineRow {
+    let district_information = stream.a_string(24, 24);
+    OrderLineRow {
         order,
         district,
         warehouse,
@@ -63,12 +62,11 @@ fn seeded_order_line(
         quantity: 5,
         amount,
         district_information,
-    })
+    }
 }
 
 // The lines of an order.
 fn append_lines(
-    alloc: Global,
     seed: &Seed,
     rows: &mut Vec<OrderLineRow>,
     warehouse: u32,
@@ -85,7 +83,7 @@ fn append_lines(
 {
     let (_, line_count) = carrier_and_lines(seed, warehouse, district, order);
     for number in 1..line_count + 1 {
-        let row = seeded_order_line(alloc, seed, warehouse, district, order, number)?;
+        let row = seeded_order_line(seed, warehouse, district, order, number);
         push(rows, row)?;
     }
     Ok(())
@@ -106,12 +104,12 @@ impl TableRows for SeededOrderLines {
 
     fn append(
         &self,
-        alloc: Global,
+        _alloc: Global,
         rows: &mut Vec<OrderLineRow>,
         warehouse: u32,
         district: u32,
         number: u32,
     ) -> Result<(), NoMemory> {
-        append_lines(alloc, &self.seed, rows, warehouse, district, number)
+        append_lines(&self.seed, rows, warehouse, district, number)
     }
 }

@@ -6,11 +6,11 @@ ghost use Rattle.tpcc_tables.specs.Loads as loads;
 use super::Tables;
 use crate::faults::{self, LoadFault};
 use crate::insertion;
+use tpcc_money::NoMemory;
 use tpcc_rows::row::Row;
 use tpcc_rows::rows::*;
 
 impl Tables {
-    #[tactic(auto, unfolding(crate::specs::Loads::with_row, crate::specs::Loads::load_fault))]
     /// Loads one row at the place of its key, a HISTORY row at the end. A refused row comes back,
     /// and the tables stay as they were.
     pub fn load(&mut self, row: Row) -> Result<(), (Row, LoadFault)>
@@ -20,181 +20,168 @@ impl Tables {
         ensures given_back { IfErr result (λ e. e.0 ≡ row) }
         ensures same { OnErr result (self.new ≡ self.old) }
     {
-        match row {
-            Row::Warehouse(row) => self
-                .load_warehouse(row)
-                .map_err(|(row, fault)| (Row::Warehouse(row), fault)),
-            Row::District(row) => self
-                .load_district(row)
-                .map_err(|(row, fault)| (Row::District(row), fault)),
-            Row::Customer(row) => self
-                .load_customer(row)
-                .map_err(|(row, fault)| (Row::Customer(row), fault)),
-            Row::History(row) => self
-                .load_history(row)
-                .map_err(|(row, fault)| (Row::History(row), fault)),
-            Row::Order(row) => self
-                .load_order(row)
-                .map_err(|(row, fault)| (Row::Order(row), fault)),
-            Row::OrderLine(row) => self
-                .load_order_line(row)
-                .map_err(|(row, fault)| (Row::OrderLine(row), fault)),
-            Row::NewOrder(row) => self
-                .load_new_order(row)
-                .map_err(|(row, fault)| (Row::NewOrder(row), fault)),
-            Row::Item(row) => self
-                .load_item(row)
-                .map_err(|(row, fault)| (Row::Item(row), fault)),
-            Row::Stock(row) => self
-                .load_stock(row)
-                .map_err(|(row, fault)| (Row::Stock(row), fault)),
+        let given = row;
+        match self.load_row(row) {
+            Ok(()) => Ok(()),
+            Err(fault) => Err((given, fault)),
         }
     }
 
-    fn load_warehouse(&mut self, row: WarehouseRow) -> Result<(), (WarehouseRow, LoadFault)>
+    #[tactic(auto, unfolding(crate::specs::Loads::with_row, crate::specs::Loads::load_fault))]
+    fn load_row(&mut self, row: Row) -> Result<(), LoadFault>
+        ensures loaded { OnOk result (self.new.rows ≡ loads.with_row self.old.rows row) }
+        ensures accepted { OnOk result (loads.load_fault self.old.rows row ≡ None) }
+        ensures refused { IfErr result (λ fault. option_or (loads.load_fault self.old.rows row) (Some LoadFault.NoMemory) ≡ Some fault) }
+        ensures same { OnErr result (self.new ≡ self.old) }
+    {
+        match row {
+            Row::Warehouse(row) => self.load_warehouse(row),
+            Row::District(row) => self.load_district(row),
+            Row::Customer(row) => self.load_customer(row),
+            Row::History(row) => self.load_history(row),
+            Row::Order(row) => self.load_order(row),
+            Row::OrderLine(row) => self.load_order_line(row),
+            Row::NewOrder(row) => self.load_new_order(row),
+            Row::Item(row) => self.load_item(row),
+            Row::Stock(row) => self.load_stock(row),
+        }
+    }
+
+    fn load_warehouse(&mut self, row: WarehouseRow) -> Result<(), LoadFault>
         ensures loaded { OnOk result (self.new.rows ≡ loads.with_warehouse self.old.rows row) }
         ensures accepted { OnOk result (loads.warehouse_fault self.old.rows row ≡ None) }
-        ensures refused { IfErr result (λ e. option_or (loads.warehouse_fault self.old.rows row) (Some LoadFault.NoMemory) ≡ Some e.1) }
-        ensures given_back { IfErr result (λ e. e.0 ≡ row) }
+        ensures refused { IfErr result (λ fault. option_or (loads.warehouse_fault self.old.rows row) (Some LoadFault.NoMemory) ≡ Some fault) }
         ensures same { OnErr result (self.new ≡ self.old) }
     {
         if let Some(fault) = faults::of_warehouse(self, &row) {
-            return Err((row, fault));
+            return Err(fault);
         }
-        if let Err(row) = insertion::insert(&mut self.warehouses, row) {
-            return Err((row, LoadFault::NoMemory));
+        if let Err(NoMemory) = insertion::insert(&mut self.warehouses, row) {
+            return Err(LoadFault::NoMemory);
         }
         Ok(())
     }
 
-    fn load_district(&mut self, row: DistrictRow) -> Result<(), (DistrictRow, LoadFault)>
+    fn load_district(&mut self, row: DistrictRow) -> Result<(), LoadFault>
         ensures loaded { OnOk result (self.new.rows ≡ loads.with_district self.old.rows row) }
         ensures accepted { OnOk result (loads.district_fault self.old.rows row ≡ None) }
-        ensures refused { IfErr result (λ e. option_or (loads.district_fault self.old.rows row) (Some LoadFault.NoMemory) ≡ Some e.1) }
-        ensures given_back { IfErr result (λ e. e.0 ≡ row) }
+        ensures refused { IfErr result (λ fault. option_or (loads.district_fault self.old.rows row) (Some LoadFault.NoMemory) ≡ Some fault) }
         ensures same { OnErr result (self.new ≡ self.old) }
     {
         if let Some(fault) = faults::of_district(self, &row) {
-            return Err((row, fault));
+            return Err(fault);
         }
-        if let Err(row) = insertion::insert(&mut self.districts, row) {
-            return Err((row, LoadFault::NoMemory));
+        if let Err(NoMemory) = insertion::insert(&mut self.districts, row) {
+            return Err(LoadFault::NoMemory);
         }
         Ok(())
     }
 
-    fn load_customer(&mut self, row: CustomerRow) -> Result<(), (CustomerRow, LoadFault)>
+    fn load_customer(&mut self, row: CustomerRow) -> Result<(), LoadFault>
         ensures loaded { OnOk result (self.new.rows ≡ loads.with_customer self.old.rows row) }
         ensures accepted { OnOk result (loads.customer_fault self.old.rows row ≡ None) }
-        ensures refused { IfErr result (λ e. option_or (loads.customer_fault self.old.rows row) (Some LoadFault.NoMemory) ≡ Some e.1) }
-        ensures given_back { IfErr result (λ e. e.0 ≡ row) }
+        ensures refused { IfErr result (λ fault. option_or (loads.customer_fault self.old.rows row) (Some LoadFault.NoMemory) ≡ Some fault) }
         ensures same { OnErr result (self.new ≡ self.old) }
     {
         if let Some(fault) = faults::of_customer(self, &row) {
-            return Err((row, fault));
+            return Err(fault);
         }
-        if let Err(row) = insertion::insert(&mut self.customers, row) {
-            return Err((row, LoadFault::NoMemory));
+        if let Err(NoMemory) = insertion::insert(&mut self.customers, row) {
+            return Err(LoadFault::NoMemory);
         }
         Ok(())
     }
 
-    fn load_history(&mut self, row: HistoryRow) -> Result<(), (HistoryRow, LoadFault)>
+    fn load_history(&mut self, row: HistoryRow) -> Result<(), LoadFault>
         ensures loaded { OnOk result (self.new.rows ≡ loads.with_history self.old.rows row) }
         ensures accepted { OnOk result (loads.history_fault self.old.rows row ≡ None) }
-        ensures refused { IfErr result (λ e. option_or (loads.history_fault self.old.rows row) (Some LoadFault.NoMemory) ≡ Some e.1) }
-        ensures given_back { IfErr result (λ e. e.0 ≡ row) }
+        ensures refused { IfErr result (λ fault. option_or (loads.history_fault self.old.rows row) (Some LoadFault.NoMemory) ≡ Some fault) }
         ensures same { OnErr result (self.new ≡ self.old) }
     {
         if let Some(fault) = faults::of_history(self, &row) {
-            return Err((row, fault));
+            return Err(fault);
         }
-        if let Err(row) = insertion::push(&mut self.histories, row) {
-            return Err((row, LoadFault::NoMemory));
+        if let Err(NoMemory) = insertion::push(&mut self.histories, row) {
+            return Err(LoadFault::NoMemory);
         }
         self.payment_room = 0;
         Ok(())
     }
 
-    fn load_order(&mut self, row: OrderRow) -> Result<(), (OrderRow, LoadFault)>
+    fn load_order(&mut self, row: OrderRow) -> Result<(), LoadFault>
         ensures loaded { OnOk result (self.new.rows ≡ loads.with_order self.old.rows row) }
         ensures accepted { OnOk result (loads.order_fault self.old.rows row ≡ None) }
-        ensures refused { IfErr result (λ e. option_or (loads.order_fault self.old.rows row) (Some LoadFault.NoMemory) ≡ Some e.1) }
-        ensures given_back { IfErr result (λ e. e.0 ≡ row) }
+        ensures refused { IfErr result (λ fault. option_or (loads.order_fault self.old.rows row) (Some LoadFault.NoMemory) ≡ Some fault) }
         ensures same { OnErr result (self.new ≡ self.old) }
     {
         if let Some(fault) = faults::of_order(self, &row) {
-            return Err((row, fault));
+            return Err(fault);
         }
-        if let Err(row) = insertion::insert(&mut self.orders, row) {
-            return Err((row, LoadFault::NoMemory));
+        if let Err(NoMemory) = insertion::insert(&mut self.orders, row) {
+            return Err(LoadFault::NoMemory);
         }
         self.order_room = 0;
         Ok(())
     }
 
-    fn load_order_line(&mut self, row: OrderLineRow) -> Result<(), (OrderLineRow, LoadFault)>
+    fn load_order_line(&mut self, row: OrderLineRow) -> Result<(), LoadFault>
         ensures loaded { OnOk result (self.new.rows ≡ loads.with_order_line self.old.rows row) }
         ensures accepted { OnOk result (loads.order_line_fault self.old.rows row ≡ None) }
-        ensures refused { IfErr result (λ e. option_or (loads.order_line_fault self.old.rows row) (Some LoadFault.NoMemory) ≡ Some e.1) }
-        ensures given_back { IfErr result (λ e. e.0 ≡ row) }
+        ensures refused { IfErr result (λ fault. option_or (loads.order_line_fault self.old.rows row) (Some LoadFault.NoMemory) ≡ Some fault) }
         ensures same { OnErr result (self.new ≡ self.old) }
     {
         if let Some(fault) = faults::of_order_line(self, &row) {
-            return Err((row, fault));
+            return Err(fault);
         }
-        if let Err(row) = insertion::insert(&mut self.order_lines, row) {
-            return Err((row, LoadFault::NoMemory));
+        if let Err(NoMemory) = insertion::insert(&mut self.order_lines, row) {
+            return Err(LoadFault::NoMemory);
         }
         self.order_room = 0;
         Ok(())
     }
 
-    fn load_new_order(&mut self, row: NewOrderRow) -> Result<(), (NewOrderRow, LoadFault)>
+    fn load_new_order(&mut self, row: NewOrderRow) -> Result<(), LoadFault>
         ensures loaded { OnOk result (self.new.rows ≡ loads.with_new_order self.old.rows row) }
         ensures accepted { OnOk result (loads.new_order_fault self.old.rows row ≡ None) }
-        ensures refused { IfErr result (λ e. option_or (loads.new_order_fault self.old.rows row) (Some LoadFault.NoMemory) ≡ Some e.1) }
-        ensures given_back { IfErr result (λ e. e.0 ≡ row) }
+        ensures refused { IfErr result (λ fault. option_or (loads.new_order_fault self.old.rows row) (Some LoadFault.NoMemory) ≡ Some fault) }
         ensures same { OnErr result (self.new ≡ self.old) }
     {
         if let Some(fault) = faults::of_new_order(self, &row) {
-            return Err((row, fault));
+            return Err(fault);
         }
-        if let Err(row) = insertion::insert(&mut self.new_orders, row) {
-            return Err((row, LoadFault::NoMemory));
+        if let Err(NoMemory) = insertion::insert(&mut self.new_orders, row) {
+            return Err(LoadFault::NoMemory);
         }
         self.order_room = 0;
         Ok(())
     }
 
-    fn load_item(&mut self, row: ItemRow) -> Result<(), (ItemRow, LoadFault)>
+    fn load_item(&mut self, row: ItemRow) -> Result<(), LoadFault>
         ensures loaded { OnOk result (self.new.rows ≡ loads.with_item self.old.rows row) }
         ensures accepted { OnOk result (loads.item_fault self.old.rows row ≡ None) }
-        ensures refused { IfErr result (λ e. option_or (loads.item_fault self.old.rows row) (Some LoadFault.NoMemory) ≡ Some e.1) }
-        ensures given_back { IfErr result (λ e. e.0 ≡ row) }
+        ensures refused { IfErr result (λ fault. option_or (loads.item_fault self.old.rows row) (Some LoadFault.NoMemory) ≡ Some fault) }
         ensures same { OnErr result (self.new ≡ self.old) }
     {
         if let Some(fault) = faults::of_item(self, &row) {
-            return Err((row, fault));
+            return Err(fault);
         }
-        if let Err(row) = insertion::insert(&mut self.items, row) {
-            return Err((row, LoadFault::NoMemory));
+        if let Err(NoMemory) = insertion::insert(&mut self.items, row) {
+            return Err(LoadFault::NoMemory);
         }
         Ok(())
     }
 
-    fn load_stock(&mut self, row: StockRow) -> Result<(), (StockRow, LoadFault)>
+    fn load_stock(&mut self, row: StockRow) -> Result<(), LoadFault>
         ensures loaded { OnOk result (self.new.rows ≡ loads.with_stock self.old.rows row) }
         ensures accepted { OnOk result (loads.stock_fault self.old.rows row ≡ None) }
-        ensures refused { IfErr result (λ e. option_or (loads.stock_fault self.old.rows row) (Some LoadFault.NoMemory) ≡ Some e.1) }
-        ensures given_back { IfErr result (λ e. e.0 ≡ row) }
+        ensures refused { IfErr result (λ fault. option_or (loads.stock_fault self.old.rows row) (Some LoadFault.NoMemory) ≡ Some fault) }
         ensures same { OnErr result (self.new ≡ self.old) }
     {
         if let Some(fault) = faults::of_stock(self, &row) {
-            return Err((row, fault));
+            return Err(fault);
         }
-        if let Err(row) = insertion::insert(&mut self.stocks, row) {
-            return Err((row, LoadFault::NoMemory));
+        if let Err(NoMemory) = insertion::insert(&mut self.stocks, row) {
+            return Err(LoadFault::NoMemory);
         }
         Ok(())
     }

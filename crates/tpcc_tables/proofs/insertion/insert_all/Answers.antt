@@ -1,4 +1,4 @@
-use Rattle.std.proofs.Common.{◌∙◌, ◌+◌, ap, sym, take, arith}
+use Rattle.std.proofs.Common.{◌∙◌, ◌+◌, ap, sym, take, arith, slice_index_or}
 use Rattle.std.specs.Prelude.{IsOk}
 use Rattle.std.proofs.lemmas.List.{take_all, take_more}
 use Rattle.tpcc_rows.specs.Lists.{by_key, inserted, inserted_all, is_ascending}
@@ -17,7 +17,8 @@ loop-row-preserved g c =
     record {
       rows = on_ok c.insert.result ok c.insert.ensures.inserted
           ∙ ap (inserted (by_key g.T.Keyed.key) c.row-item.result) c.loop-row.invariant.rows
-          ∙ one_more_inserted (by_key g.T.Keyed.key) (take c.loop-row.row-index c.args.added.now) c.row-item.result c.args.rows.now.items
+          ∙ ap (λ row. inserted (by_key g.T.Keyed.key) row (inserted_all (by_key g.T.Keyed.key) (take c.loop-row.row-index c.args.added.now) c.args.rows.now.items)) c.row-item.is
+          ∙ one_more_inserted (by_key g.T.Keyed.key) (take c.loop-row.row-index c.args.added.now) (slice_index_or c.args.added.now c.loop-row.row-index c.row-item.result) c.args.rows.now.items
           ∙ ap (λ news. inserted_all (by_key g.T.Keyed.key) news c.args.rows.now.items) (sym (take_more c.args.added.now c.loop-row.row-index c.row-item.result c.loop-row-test.true));
       room = omega (arith, c.loop-row.invariant.room, c.insert.ensures.len, c.insert.ensures.capacity);
     }
