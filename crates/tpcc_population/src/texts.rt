@@ -5,7 +5,6 @@ ghost use Rattle.tpcc_money.specs.Texts.{padded};
 ghost use Rattle.tpcc_rows.specs.Opening.{plain_district_information};
 ghost use Rattle.tpcc_rows.specs.Printable.{is_printable};
 
-use itoa::Buffer;
 use tpcc_rows::text::Text;
 
 /// A prefix and a number with leading zeros in so many places.
@@ -17,11 +16,8 @@ pub(crate) fn numbered<const N: usize>(prefix: &[u8], places: usize, number: u32
     requires short { N ≤ 65535 }
     ensures text { result ≡ prefix.now ++ padded places number }
 {
-    let mut buffer = Buffer::new();
-    let digits = buffer.format(number).as_bytes();
     let mut text = Text::of(prefix);
-    text.extend(&b"0000000000000000"[..places - digits.len()]);
-    text.extend(digits);
+    text.extend_padded(places, number);
     text
 }
 
@@ -29,12 +25,16 @@ pub(crate) fn numbered<const N: usize>(prefix: &[u8], places: usize, number: u32
 pub(crate) fn credit(is_bad: bool) -> Text<2>
     ensures text { result ≡ (if is_bad then codes "BC" else codes "GC") }
 {
-    Text::of(if is_bad { b"BC" } else { b"GC" })
+    if is_bad {
+        Text::of(b"BC")
+    } else {
+        Text::of(b"GC")
+    }
 }
 
 /// The text of a district, in its lines and its stock.
 pub(crate) fn district_information(district: u32) -> Text<24>
-    requires { district < 100 }
+    requires { district ≤ 10 }
     ensures { result ≡ plain_district_information district }
 {
     numbered(b"dddddddddddddddddddddd", 2, district)

@@ -2,7 +2,7 @@
 use Rattle.std.specs.Prelude.{ℕ, List, ◌≡◌, ◌<◌, ◌≤◌, ◌-◌, ◌+◌, ◌++◌, length, take, drop, replicate, slice_set, min, true}
 use Rattle.std.specs.List.{list_all}
 use Rattle.std.proofs.Common.{arith, ap, ◌∙◌, sym, refl, length-take-le}
-use Rattle.std.proofs.lemmas.List.{drop-replicate, length-append, length-drop, length-replicate, length-set, drop-set-lt, take_min}
+use Rattle.std.proofs.lemmas.List.{drop-replicate, length-append, length-drop, length-replicate, length-set, drop-set-lt, take_min, take-replicate}
 use Rattle.std.proofs.Math.Seq.{take-append_seam, take-append-add, drop-append_seam, drop-drop}
 use Rattle.tpcc_rows.specs.Printable.{is_printable}
 use Rattle.tpcc_rows.specs.TextView.{IsText}
@@ -58,3 +58,10 @@ pushed_is_few blank N t item room h =
           drop-set-lt (t.len + 1) t.items t.len item (omega arith) ∙ ap (λ k. drop k t.items) (omega arith) ∙ sym (drop-drop 1 t.len t.items) ∙ ap (drop 1) h.rest ∙ drop-replicate 1 (N - t.len) blank
           ∙ ap (λ k. replicate k blank) (omega arith);
     }
+
+-- some of sixteen zero digits
+pub zeros_taken : (k : ℕ) → k ≤ 16 → take k (replicate {A = ℕ} 16 48) ≡ replicate {A = ℕ} k 48
+zeros_taken k few = take-replicate k 16 48 few
+
+pub length_zeros : (k : ℕ) → length (replicate {A = ℕ} k 48) ≡ k
+length_zeros k = length-replicate k 48

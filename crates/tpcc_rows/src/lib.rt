@@ -6,6 +6,7 @@ pub mod entry;
 pub mod few;
 pub mod keys;
 pub mod laws;
+mod numerals;
 pub mod refusals;
 pub mod replies;
 pub mod requests;
