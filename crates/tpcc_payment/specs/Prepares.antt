@@ -44,7 +44,6 @@ pub record IsPrepared (rows : Rows) (payment : Payment) (prepared : Prepared) : 
   pub writes : IsPaymentOf rows prepared.history prepared.information payment
   pub after : with_payment rows prepared.history prepared.information ≡ after_payment rows payment
   pub reply : prepared.reply ≡ payment_reply rows payment
-  pub copy : prepared.copy ≡ payment_reply rows payment
 
 -- what is prepared of the three rows
 abbrev pub history_from : Payment → WarehouseRow → DistrictRow → CustomerRow → HistoryRow
@@ -87,4 +86,4 @@ reply_from p w d c =
 
 abbrev pub prepared_from : Payment → WarehouseRow → DistrictRow → CustomerRow → Prepared
 prepared_from p w d c =
-    record { history = history_from p w d c; information = new_information p c; reply = reply_from p w d c; copy = reply_from p w d c }
+    record { history = history_from p w d c; information = new_information p c; reply = reply_from p w d c }

@@ -24,6 +24,7 @@ impl<const N: usize> Text<N> {
         requires digits { length (decimal number) ≤ places }
         requires room { length self.old + places ≤ N }
         ensures written { self.new ≡ self.old ++ padded places number }
+        ensures long { length self.new ≡ length self.old + places }
     {
         let mut buffer = Buffer::new();
         let digits = buffer.format(number).as_bytes();

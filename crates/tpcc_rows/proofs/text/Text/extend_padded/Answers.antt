@@ -1,6 +1,7 @@
 use Rattle.std.proofs.Common.{rules, arith, ap, sym, ◌∙◌, ◌≡◌, ◌-◌, ◌++◌, decimal, length, take, length-append, append_assoc}
 use Rattle.std.specs.Prelude.{ℕ, replicate}
 use Rattle.std.specs.List.{list_all}
+use Rattle.tpcc_money.specs.Texts.{padded}
 use Rattle.tpcc_rows.specs.Printable.{is_printable}
 use Rattle.tpcc_rows.proofs.InPlace.{zeros_taken, length_zeros}
 use Rattle.tpcc_rows.proofs.PrintableTexts.{decimal_printable, zeros_printable}
@@ -40,11 +41,14 @@ returns g c =
     let digits : c.as_bytes-digits.result.now ≡ decimal c.args.number = c.as_bytes-digits.ensures.value ∙ c.format.ensures.text in
     let count = c.args.places - length c.as_bytes-digits.result.now in
     let zeros = zeros_taken count (omega (arith, c.requires.few)) in
+    let written =
+        c.extend-2.ensures.extended
+        ∙ ap (λ front. front ++ c.as_bytes-digits.result.now) c.extend.ensures.extended
+        ∙ append_assoc c.args.self.now (take count (replicate {A = ℕ} 16 48)) c.as_bytes-digits.result.now
+        ∙ ap (λ front. c.args.self.now ++ (front ++ c.as_bytes-digits.result.now)) zeros
+        ∙ ap (λ ds. c.args.self.now ++ (replicate {A = ℕ} (c.args.places - length ds) 48 ++ ds)) digits in
+    let left = c.args.places - length (decimal c.args.number) in
     record {
-      written =
-          c.extend-2.ensures.extended
-          ∙ ap (λ front. front ++ c.as_bytes-digits.result.now) c.extend.ensures.extended
-          ∙ append_assoc c.args.self.now (take count (replicate {A = ℕ} 16 48)) c.as_bytes-digits.result.now
-          ∙ ap (λ front. c.args.self.now ++ (front ++ c.as_bytes-digits.result.now)) zeros
-          ∙ ap (λ ds. c.args.self.now ++ (replicate {A = ℕ} (c.args.places - length ds) 48 ++ ds)) digits;
+      written = written;
+      long = ap length written ∙ length-append c.args.self.now (padded c.args.places c.args.number) ∙ omega (arith, length-append (replicate {A = ℕ} left 48) (decimal c.args.number), length_zeros left, c.requires.digits);
     }
