@@ -83,19 +83,10 @@ all-take p zero xs h = refl
 all-take p (suc n) [] h = refl
 all-take p (suc n) (x ∷ xs) h = grind (arith, all-take p n xs)
 
-all-drop : (p : ℕ → Bool) (n : ℕ) (xs : List ℕ) → list_all p xs ≡ true → list_all p (drop n xs) ≡ true
+pub all-drop : (p : ℕ → Bool) (n : ℕ) (xs : List ℕ) → list_all p xs ≡ true → list_all p (drop n xs) ≡ true
 all-drop p zero xs h = h
 all-drop p (suc n) [] h = refl
 all-drop p (suc n) (x ∷ xs) h = all-drop p n xs (grind (arith))
-
-pub original_is_printable : (place : ℕ) (text : List ℕ) → list_all is_printable text ≡ true → list_all is_printable (with_original place text) ≡ true
-original_is_printable place text all =
-    let word : list_all is_printable (codes "ORIGINAL") ≡ true = refl in
-    let a = take place text in
-    let b = drop (place + 8) text in
-    let h = all-take is_printable place text all in
-    let k = all-drop is_printable (place + 8) text all in
-    grind (arith, h, k, word, list_all-append is_printable (a ++ codes "ORIGINAL") b, list_all-append is_printable a (codes "ORIGINAL"), list_all-append is_printable a (codes "ORIGINAL" ++ b), list_all-append is_printable (codes "ORIGINAL") b)
 
 joined_ok : (a b : List ℕ) → list_all is_printable a ≡ true → list_all is_printable b ≡ true → length a + length b ≤ 42 → is_text 50 (a ++ codes "ORIGINAL" ++ b) ≡ true
 joined_ok a b h k short =

@@ -8,7 +8,7 @@ use tpcc_money::NoMemory;
 /// The rows of a table by their numbers: warehouse, district and the row's own number. A table
 /// that has no use for one of them is asked with 1.
 pub(crate) trait TableRows {
-    type Row: Drop;
+    type Row: Copy;
 
     ghost rows_of: { Self → ℕ → ℕ → ℕ → List Self.Row };
 
@@ -17,7 +17,6 @@ pub(crate) trait TableRows {
     /// Appends the rows of these numbers.
     fn append(
         &self,
-        alloc: Global,
         rows: &mut Vec<Self::Row>,
         warehouse: u32,
         district: u32,
@@ -33,10 +32,10 @@ pub(crate) trait TableRows {
 }
 
 /// One more row.
-pub(crate) fn push<X: Drop>(rows: &mut Vec<X>, row: X) -> Result<(), NoMemory>
-    ensures { IfOk result (λ _. rows.new.items ≡ rows.old.items ++ row ∷ []) }
+pub(crate) fn push<X: Copy>(rows: &mut Vec<X>, row: &X) -> Result<(), NoMemory>
+    ensures { IfOk result (λ _. rows.new.items ≡ rows.old.items ++ row.now ∷ []) }
 {
-    match rows.push(row) {
+    match rows.push(*row) {
         Ok(()) => Ok(()),
         Err(_) => Err(NoMemory),
     }
@@ -44,7 +43,6 @@ pub(crate) fn push<X: Drop>(rows: &mut Vec<X>, row: X) -> Result<(), NoMemory>
 
 /// The rows of `count` numbers from `low` on.
 fn append_each<T: TableRows>(
-    alloc: Global,
     table: &T,
     rows: &mut Vec<T::Row>,
     warehouse: u32,
@@ -62,7 +60,7 @@ fn append_each<T: TableRows>(
     ensures { IfOk result (λ _. rows.new.items ≡ rows.old.items ++ each low count (T.rows_of table.now warehouse district)) }
 {
     for number in low..low + count {
-        table.append(alloc, rows, warehouse, district, number)?;
+        table.append(rows, warehouse, district, number)?;
     }
     Ok(())
 }
@@ -78,7 +76,7 @@ pub(crate) fn by_number<T: TableRows>(
     ensures { IfOk result (λ v. v.items ≡ each 1 count (T.rows_of table.now 1 1)) }
 {
     let mut rows = Vec::new(alloc);
-    append_each(alloc, table, &mut rows, 1, 1, 1, count)?;
+    append_each(table, &mut rows, 1, 1, 1, count)?;
     Ok(rows)
 }
 
@@ -96,14 +94,13 @@ pub(crate) fn by_warehouse<T: TableRows>(
 {
     let mut rows = Vec::new(alloc);
     for warehouse in 1..warehouses + 1 {
-        append_each(alloc, table, &mut rows, warehouse, 1, 1, count)?;
+        append_each(table, &mut rows, warehouse, 1, 1, count)?;
     }
     Ok(rows)
 }
 
 /// The ten districts of a warehouse.
 fn append_districts<T: TableRows>(
-    alloc: Global,
     table: &T,
     rows: &mut Vec<T::Row>,
     warehouse: u32,
@@ -118,7 +115,7 @@ fn append_districts<T: TableRows>(
     ensures { IfOk result (λ _. rows.new.items ≡ rows.old.items ++ each 1 10 (λ d. each low count (T.rows_of table.now warehouse d))) }
 {
     for district in 1..11 {
-        append_each(alloc, table, rows, warehouse, district, low, count)?;
+        append_each(table, rows, warehouse, district, low, count)?;
     }
     Ok(())
 }
@@ -139,7 +136,7 @@ pub(crate) fn by_district<T: TableRows>(
 {
     let mut rows = Vec::new(alloc);
     for warehouse in 1..warehouses + 1 {
-        append_districts(alloc, table, &mut rows, warehouse, low, count)?;
+        append_districts(table, &mut rows, warehouse, low, count)?;
     }
     Ok(rows)
 }

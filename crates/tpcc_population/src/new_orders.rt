@@ -3,7 +3,6 @@ ghost use Rattle.std.specs.Prelude.{◌≡◌, ◌∷◌, []};
 ghost use Rattle.tpcc_rows.specs.Opening.{plain_new_order};
 
 use crate::layout::{TableRows, push};
-use std::alloc::Global;
 use tpcc_money::NoMemory;
 use tpcc_rows::rows::NewOrderRow;
 
@@ -20,7 +19,6 @@ impl TableRows for NewOrders {
 
     fn append(
         &self,
-        _alloc: Global,
         rows: &mut Vec<NewOrderRow>,
         warehouse: u32,
         district: u32,
@@ -31,6 +29,6 @@ impl TableRows for NewOrders {
             district,
             warehouse,
         };
-        push(rows, row)
+        push(rows, &row)
     }
 }

@@ -1,5 +1,5 @@
 //! Texts of the openings that are not drawn.
-ghost use Rattle.std.specs.Prelude.{◌≡◌, ◌++◌, ◌+◌, ◌<◌, ◌≤◌, true, if◌then◌else◌, codes, decimal, length};
+ghost use Rattle.std.specs.Prelude.{◌≡◌, ◌++◌, ◌+◌, ◌<◌, ◌≤◌, ◌^◌, true, if◌then◌else◌, codes, length};
 ghost use Rattle.std.specs.List.{list_all};
 ghost use Rattle.tpcc_money.specs.Texts.{padded};
 ghost use Rattle.tpcc_rows.specs.Opening.{plain_district_information};
@@ -10,8 +10,9 @@ use tpcc_rows::text::Text;
 /// A prefix and a number with leading zeros in so many places.
 pub(crate) fn numbered<const N: usize>(prefix: &[u8], places: usize, number: u32) -> Text<N>
     requires printable { list_all is_printable prefix.now ≡ true }
+    requires some { 0 < places }
     requires few { places ≤ 16 }
-    requires digits { length (decimal number) ≤ places }
+    requires small { number < 10 ^ places }
     requires room { length prefix.now + places ≤ N }
     requires short { N ≤ 65535 }
     ensures text { result ≡ prefix.now ++ padded places number }

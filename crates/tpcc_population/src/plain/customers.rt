@@ -5,7 +5,6 @@ ghost use Rattle.tpcc_rows.specs.Opening.{plain_customer, plain_history};
 use super::address::plain_address;
 use crate::layout::{TableRows, push};
 use crate::texts::{credit, numbered};
-use std::alloc::Global;
 use tpcc_draws::last_name;
 use tpcc_money::{Cents, Moment, NoMemory, Rate};
 use tpcc_rows::rows::{CustomerRow, HistoryRow};
@@ -65,13 +64,12 @@ impl TableRows for PlainCustomers {
 
     fn append(
         &self,
-        _alloc: Global,
         rows: &mut Vec<CustomerRow>,
         warehouse: u32,
         district: u32,
         number: u32,
     ) -> Result<(), NoMemory> {
-        push(rows, plain_customer(warehouse, district, number))
+        push(rows, &plain_customer(warehouse, district, number))
     }
 }
 
@@ -88,12 +86,11 @@ impl TableRows for PlainHistories {
 
     fn append(
         &self,
-        _alloc: Global,
         rows: &mut Vec<HistoryRow>,
         warehouse: u32,
         district: u32,
         number: u32,
     ) -> Result<(), NoMemory> {
-        push(rows, plain_history(warehouse, district, number))
+        push(rows, &plain_history(warehouse, district, number))
     }
 }

@@ -5,7 +5,6 @@ ghost use Rattle.tpcc_rows.specs.Opening.{plain_item, plain_stock, plain_distric
 
 use crate::layout::{TableRows, push};
 use crate::texts::{district_information, numbered};
-use std::alloc::Global;
 use tpcc_money::{Cents, NoMemory};
 use tpcc_rows::rows::{ItemRow, StockRow};
 use tpcc_rows::text::Text;
@@ -77,13 +76,12 @@ impl TableRows for PlainItems {
 
     fn append(
         &self,
-        _alloc: Global,
         rows: &mut Vec<ItemRow>,
         _warehouse: u32,
         _district: u32,
         number: u32,
     ) -> Result<(), NoMemory> {
-        push(rows, plain_item(number))
+        push(rows, &plain_item(number))
     }
 }
 
@@ -100,12 +98,11 @@ impl TableRows for PlainStocks {
 
     fn append(
         &self,
-        _alloc: Global,
         rows: &mut Vec<StockRow>,
         warehouse: u32,
         _district: u32,
         number: u32,
     ) -> Result<(), NoMemory> {
-        push(rows, plain_stock(warehouse, number))
+        push(rows, &plain_stock(warehouse, number))
     }
 }

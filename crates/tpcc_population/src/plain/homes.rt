@@ -6,7 +6,6 @@ use super::address::plain_address;
 use crate::layout::{TableRows, push};
 use crate::scale::Scale;
 use crate::texts::numbered;
-use std::alloc::Global;
 use tpcc_money::{Cents, NoMemory, Rate};
 use tpcc_rows::rows::{DistrictRow, WarehouseRow};
 
@@ -54,13 +53,12 @@ impl TableRows for PlainWarehouses {
 
     fn append(
         &self,
-        _alloc: Global,
         rows: &mut Vec<WarehouseRow>,
         _warehouse: u32,
         _district: u32,
         number: u32,
     ) -> Result<(), NoMemory> {
-        push(rows, plain_warehouse(&self.scale, number))
+        push(rows, &plain_warehouse(&self.scale, number))
     }
 }
 
@@ -79,12 +77,11 @@ impl TableRows for PlainDistricts {
 
     fn append(
         &self,
-        _alloc: Global,
         rows: &mut Vec<DistrictRow>,
         warehouse: u32,
         _district: u32,
         number: u32,
     ) -> Result<(), NoMemory> {
-        push(rows, plain_district(&self.scale, warehouse, number))
+        push(rows, &plain_district(&self.scale, warehouse, number))
     }
 }

@@ -6,7 +6,6 @@ ghost use Rattle.tpcc_rows.specs.Opening.{plain_order_line};
 use crate::layout::{TableRows, push};
 use crate::scale::Scale;
 use crate::texts::district_information;
-use std::alloc::Global;
 use tpcc_money::{Cents, Moment, NoMemory};
 use tpcc_rows::rows::OrderLineRow;
 
@@ -60,7 +59,10 @@ fn append_lines(
     ensures { IfOk result (λ _. rows.new.items ≡ rows.old.items ++ one_each 1 5 (plain_order_line scale.now warehouse district order)) }
 {
     for number in 1..6 {
-        push(rows, plain_order_line(scale, warehouse, district, order, number))?;
+        push(
+            rows,
+            &plain_order_line(scale, warehouse, district, order, number),
+        )?;
     }
     Ok(())
 }
@@ -80,7 +82,6 @@ impl TableRows for PlainOrderLines {
 
     fn append(
         &self,
-        _alloc: Global,
         rows: &mut Vec<OrderLineRow>,
         warehouse: u32,
         district: u32,

@@ -4,7 +4,6 @@ ghost use Rattle.tpcc_rows.specs.Opening.{plain_order};
 
 use crate::layout::{TableRows, push};
 use crate::scale::Scale;
-use std::alloc::Global;
 use tpcc_money::{Moment, NoMemory};
 use tpcc_rows::rows::OrderRow;
 
@@ -43,12 +42,11 @@ impl TableRows for PlainOrders {
 
     fn append(
         &self,
-        _alloc: Global,
         rows: &mut Vec<OrderRow>,
         warehouse: u32,
         district: u32,
         number: u32,
     ) -> Result<(), NoMemory> {
-        push(rows, plain_order(&self.scale, warehouse, district, number))
+        push(rows, &plain_order(&self.scale, warehouse, district, number))
     }
 }

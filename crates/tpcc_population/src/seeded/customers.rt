@@ -8,7 +8,6 @@ use super::address::drawn_address;
 use super::numbers::number_in_districts;
 use crate::layout::{TableRows, push};
 use crate::texts::credit;
-use std::alloc::Global;
 use tpcc_draws::{Stream, last_name};
 use tpcc_money::{Cents, NoMemory, Rate};
 use tpcc_rows::rows::{CustomerRow, HistoryRow};
@@ -105,14 +104,13 @@ impl TableRows for SeededCustomers {
 
     fn append(
         &self,
-        _alloc: Global,
         rows: &mut Vec<CustomerRow>,
         warehouse: u32,
         district: u32,
         number: u32,
     ) -> Result<(), NoMemory> {
         let row = seeded_customer(&self.seed, warehouse, district, number);
-        push(rows, row)
+        push(rows, &row)
     }
 }
 
@@ -131,13 +129,12 @@ impl TableRows for SeededHistories {
 
     fn append(
         &self,
-        _alloc: Global,
         rows: &mut Vec<HistoryRow>,
         warehouse: u32,
         district: u32,
         number: u32,
     ) -> Result<(), NoMemory> {
         let row = seeded_history(&self.seed, warehouse, district, number);
-        push(rows, row)
+        push(rows, &row)
     }
 }

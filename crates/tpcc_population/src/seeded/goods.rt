@@ -6,7 +6,6 @@ ghost use Rattle.tpcc_population.specs.Seeded.{drawn_information, drawn_texts, s
 use super::Seed;
 use super::numbers::stock_number;
 use crate::layout::{TableRows, push};
-use std::alloc::Global;
 use tpcc_draws::Stream;
 use tpcc_money::{Cents, NoMemory};
 use tpcc_rows::rows::{ItemRow, StockRow};
@@ -109,14 +108,13 @@ impl TableRows for SeededItems {
 
     fn append(
         &self,
-        _alloc: Global,
         rows: &mut Vec<ItemRow>,
         _warehouse: u32,
         _district: u32,
         number: u32,
     ) -> Result<(), NoMemory> {
         let row = seeded_item(&self.seed, number);
-        push(rows, row)
+        push(rows, &row)
     }
 }
 
@@ -135,13 +133,12 @@ impl TableRows for SeededStocks {
 
     fn append(
         &self,
-        _alloc: Global,
         rows: &mut Vec<StockRow>,
         warehouse: u32,
         _district: u32,
         number: u32,
     ) -> Result<(), NoMemory> {
         let row = seeded_stock(&self.seed, warehouse, number);
-        push(rows, row)
+        push(rows, &row)
     }
 }

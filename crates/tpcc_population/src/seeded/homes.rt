@@ -6,7 +6,6 @@ use super::Seed;
 use super::address::drawn_address;
 use super::numbers::district_number;
 use crate::layout::{TableRows, push};
-use std::alloc::Global;
 use tpcc_draws::Stream;
 use tpcc_money::{Cents, NoMemory, Rate};
 use tpcc_rows::rows::{DistrictRow, WarehouseRow};
@@ -64,14 +63,13 @@ impl TableRows for SeededWarehouses {
 
     fn append(
         &self,
-        _alloc: Global,
         rows: &mut Vec<WarehouseRow>,
         _warehouse: u32,
         _district: u32,
         number: u32,
     ) -> Result<(), NoMemory> {
         let row = seeded_warehouse(&self.seed, number);
-        push(rows, row)
+        push(rows, &row)
     }
 }
 
@@ -90,13 +88,12 @@ impl TableRows for SeededDistricts {
 
     fn append(
         &self,
-        _alloc: Global,
         rows: &mut Vec<DistrictRow>,
         warehouse: u32,
         _district: u32,
         number: u32,
     ) -> Result<(), NoMemory> {
         let row = seeded_district(&self.seed, warehouse, number);
-        push(rows, row)
+        push(rows, &row)
     }
 }

@@ -8,7 +8,6 @@ use super::Seed;
 use super::numbers::number_in_districts;
 use super::orders::carrier_and_lines;
 use crate::layout::{TableRows, push};
-use std::alloc::Global;
 use tpcc_draws::Stream;
 use tpcc_money::{Cents, NoMemory};
 use tpcc_rows::rows::OrderLineRow;
@@ -84,7 +83,7 @@ fn append_lines(
     let (_, line_count) = carrier_and_lines(seed, warehouse, district, order);
     for number in 1..line_count + 1 {
         let row = seeded_order_line(seed, warehouse, district, order, number);
-        push(rows, row)?;
+        push(rows, &row)?;
     }
     Ok(())
 }
@@ -104,7 +103,6 @@ impl TableRows for SeededOrderLines {
 
     fn append(
         &self,
-        _alloc: Global,
         rows: &mut Vec<OrderLineRow>,
         warehouse: u32,
         district: u32,

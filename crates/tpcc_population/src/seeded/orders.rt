@@ -113,7 +113,7 @@ fn append_orders(
     let customers = drawn_customers(alloc, seed, warehouse, district)?;
     for number in 1..seed.scale.customers() + 1 {
         let row = seeded_order(seed, customers.as_slice(), warehouse, district, number);
-        push(rows, row)?;
+        push(rows, &row)?;
     }
     Ok(())
 }
@@ -122,6 +122,7 @@ fn append_orders(
 #[derive(Drop)]
 pub(super) struct SeededOrders {
     pub(super) seed: Seed,
+    pub(super) alloc: Global,
 }
 
 impl TableRows for SeededOrders {
@@ -133,12 +134,11 @@ impl TableRows for SeededOrders {
 
     fn append(
         &self,
-        alloc: Global,
         rows: &mut Vec<OrderRow>,
         warehouse: u32,
         _district: u32,
         number: u32,
     ) -> Result<(), NoMemory> {
-        append_orders(alloc, &self.seed, rows, warehouse, number)
+        append_orders(self.alloc, &self.seed, rows, warehouse, number)
     }
 }

@@ -67,7 +67,12 @@ pub(crate) fn seeded_histories(alloc: Global, seed: Seed) -> Result<Vec<HistoryR
 pub(crate) fn seeded_orders(alloc: Global, seed: Seed) -> Result<Vec<OrderRow>, NoMemory>
     ensures rows { IfOk result (λ v. v.items ≡ (laid_out seed.scale (seeded_rules seed)).orders) }
 {
-    by_warehouse(alloc, &SeededOrders { seed }, seed.scale.warehouses(), 10)
+    by_warehouse(
+        alloc,
+        &SeededOrders { seed, alloc },
+        seed.scale.warehouses(),
+        10,
+    )
 }
 
 /// ORDER-LINE.

@@ -12,7 +12,7 @@ loop-number-preserved c =
       least = omega arith;
       rows =
           c.in_ok-push.ensures
-          ∙ (λ i. c.loop-number.invariant.rows i ++ c.in_ok-row.ensures i ∷ [])
+          ∙ (λ i. c.loop-number.invariant.rows i ++ c.plain_order_line.ensures i ∷ [])
           ∙ each-next_behind c.args.rows.now.items (λ j. line j ∷ []) 1 c.loop-number.number c.loop-number.invariant.least;
     }
 

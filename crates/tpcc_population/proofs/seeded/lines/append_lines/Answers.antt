@@ -11,6 +11,6 @@ loop-number-preserved c =
       least = omega arith;
       rows =
           c.in_ok-push.ensures
-          ∙ (λ i. c.loop-number.invariant.rows i ++ c.in_ok-row.ensures i ∷ [])
+          ∙ (λ i. c.loop-number.invariant.rows i ++ c.seeded_order_line-row.ensures i ∷ [])
           ∙ each-next_behind c.args.rows.now.items (λ j. line j ∷ []) 1 c.loop-number.number c.loop-number.invariant.least;
     }
