@@ -88,17 +88,17 @@ entered_reply rows o b = sym (λ i. if b i then RolledBack (rolled_back_order ro
 
 -- ---- what is prepared
 
-pub unwritten_is : (rows : Rows) (o : Order) (n : NamedRows) (reply copy : RolledBackOrder) → IsNamed rows o n → is_rolled_back rows o ≡ true → reply ≡ rolled_back_from o n.district.now n.customer.now → copy ≡ reply → IsPrepared rows o (record { rows = None; reply = RolledBack reply; copy = RolledBack copy })
-unwritten_is rows o n reply copy h b e f =
+pub unwritten_is : (rows : Rows) (o : Order) (n : NamedRows) (reply : RolledBackOrder) → IsNamed rows o n → is_rolled_back rows o ≡ true → reply ≡ rolled_back_from o n.district.now n.customer.now → IsPrepared rows o (record { rows = None; reply = RolledBack reply })
+unwritten_is rows o n reply h b e =
     let shown : RolledBack reply ≡ order_reply rows o = ap RolledBack (e ∙ rolled_back_is rows o n h) ∙ back_reply rows o b in
-    record { accepted = not_refused_back rows o h.accepted b; writes = b; after = back_rows rows o b; reply = shown; copy = ap RolledBack f ∙ shown }
+    record { accepted = not_refused_back rows o h.accepted b; writes = b; after = back_rows rows o b; reply = shown }
 
-pub entered_is : (rows : Rows) (o : Order) (new : NewRows) (reply copy : AcceptedOrder) → IsOrderOf rows new.order new.lines.items o → reply ≡ accepted_order rows o → copy ≡ reply → IsPrepared rows o (record { rows = Some new; reply = Accepted reply; copy = Accepted copy })
-entered_is rows o new reply copy h e f =
+pub entered_is : (rows : Rows) (o : Order) (new : NewRows) (reply : AcceptedOrder) → IsOrderOf rows new.order new.lines o → reply ≡ accepted_order rows o → IsPrepared rows o (record { rows = Some new; reply = Accepted reply })
+entered_is rows o new reply h e =
     let shown : Accepted reply ≡ order_reply rows o = ap Accepted e ∙ entered_reply rows o h.entered in
-    record { accepted = h.accepted; writes = h; after = order_is rows new.order new.lines.items o h ∙ entered_rows rows o h.entered; reply = shown; copy = ap Accepted f ∙ shown }
+    record { accepted = h.accepted; writes = h; after = order_is rows new.order new.lines o h ∙ entered_rows rows o h.entered; reply = shown }
 
 -- an order has at most fifteen lines
 pub few_rows : (rows : Rows) (o : Order) (new : Option NewRows) → AreRowsOf rows o new → HasRoomForRows 16 new
 few_rows rows o None h = tt
-few_rows rows o (Some new) h = let few = (enterable rows new.order new.lines.items (o, h)).few in omega (arith, few)
+few_rows rows o (Some new) h = let few = (enterable rows new.order new.lines (o, h)).few in omega (arith, few)

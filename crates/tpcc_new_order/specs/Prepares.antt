@@ -19,12 +19,12 @@ use Rattle.tpcc_new_order.specs.declared.transaction.Prepared.{Prepared}
 -- the rows of an order that is entered; an order that is rolled back has none
 abbrev pub AreRowsOf : Rows → Order → Option NewRows → Type 0
 AreRowsOf rows order None = is_rolled_back rows order ≡ true
-AreRowsOf rows order (Some new) = IsOrderOf rows new.order new.lines.items order
+AreRowsOf rows order (Some new) = IsOrderOf rows new.order new.lines order
 
 -- the tables with these rows written, if there are any
 abbrev pub with_new_rows : Rows → Option NewRows → Rows
 with_new_rows rows None = rows
-with_new_rows rows (Some new) = with_entered_order rows new.order new.lines.items
+with_new_rows rows (Some new) = with_entered_order rows new.order new.lines
 
 -- what finishing writes and shows is what the order does and shows
 pub record IsPrepared (rows : Rows) (order : Order) (prepared : Prepared) : Type 0 where
@@ -32,12 +32,11 @@ pub record IsPrepared (rows : Rows) (order : Order) (prepared : Prepared) : Type
   pub writes : AreRowsOf rows order prepared.rows
   pub after : with_new_rows rows prepared.rows ≡ rows_after_order rows order
   pub reply : prepared.reply ≡ order_reply rows order
-  pub copy : prepared.copy ≡ order_reply rows order
 
 -- there is room for the rows, if there are any
 abbrev pub HasRoomForRows : ℕ → Option NewRows → Type 0
 HasRoomForRows room None = Unit {0}
-HasRoomForRows room (Some new) = length new.lines.items < room
+HasRoomForRows room (Some new) = length new.lines < room
 
 abbrev pub HasRoom : ℕ → Prepared → Type 0
 HasRoom room prepared = HasRoomForRows room prepared.rows

@@ -13,8 +13,6 @@ use crate::named::{NamedRows, rows_of_order};
 use crate::ranges::range_refusal;
 use crate::replies::{accepted, rolled_back};
 use crate::written::{NewRows, make_room, new_rows, write};
-use std::alloc::Global;
-use tpcc_money::NoMemory;
 use tpcc_rows::refusals::Refusal;
 use tpcc_rows::replies::Entered;
 use tpcc_rows::requests::Order;
@@ -27,68 +25,49 @@ pub struct Prepared {
     pub rows: Option<NewRows>,
     /// What the terminal shows (2.4.3.3, 2.4.3.4).
     pub reply: Entered,
-    pub copy: Entered,
 }
 
 /// What an order that is entered writes and shows.
-fn entering(
-    alloc: Global,
-    tables: &Tables,
-    order: &Order,
-    named: &NamedRows,
-) -> Result<Prepared, NoMemory>
+fn entering(tables: &Tables, order: &Order, named: &NamedRows) -> Prepared
     requires stocked { IsStocked tables.now.rows }
     requires named { IsNamed tables.now.rows order.now named.now }
     requires accepted { order_refusal tables.now.rows order.now ≡ None }
     requires entered { is_rolled_back tables.now.rows order.now ≡ false }
     requires servable { IsServable tables.now.rows order.now.lines }
-    ensures { IfOk result (IsPrepared tables.now.rows order.now) }
+    ensures { IsPrepared tables.now.rows order.now result }
 {
-    let rows = new_rows(alloc, tables, order, named)?;
-    let reply = accepted(alloc, tables, order, named)?;
-    let copy = reply.duplicate()?;
-    Ok(Prepared {
-        rows: Some(rows),
-        reply: Entered::Accepted(reply),
-        copy: Entered::Accepted(copy),
-    })
+    Prepared {
+        rows: Some(new_rows(tables, order, named)),
+        reply: Entered::Accepted(accepted(tables, order, named)),
+    }
 }
 
 /// What an order that is rolled back shows.
-fn unwritten(tables: &Tables, order: &Order, named: &NamedRows) -> Result<Prepared, NoMemory>
+fn unwritten(tables: &Tables, order: &Order, named: &NamedRows) -> Prepared
     requires named { IsNamed tables.now.rows order.now named.now }
     requires back { is_rolled_back tables.now.rows order.now ≡ true }
-    ensures { IfOk result (IsPrepared tables.now.rows order.now) }
+    ensures { IsPrepared tables.now.rows order.now result }
 {
-    let reply = rolled_back(order, named)?;
-    let copy = reply.duplicate()?;
-    Ok(Prepared {
+    Prepared {
         rows: None,
-        reply: Entered::RolledBack(reply),
-        copy: Entered::RolledBack(copy),
-    })
+        reply: Entered::RolledBack(rolled_back(order, named)),
+    }
 }
 
 /// The refusal of an order, or what it writes and shows.
-fn worked_out(alloc: Global, tables: &Tables, order: &Order) -> Result<Prepared, Refusal>
+fn judged(tables: &Tables, order: &Order) -> Result<Prepared, Refusal>
     requires stocked { IsStocked tables.now.rows }
     ensures ok { IfOk result (IsPrepared tables.now.rows order.now) }
-    ensures err { IfErr result (λ refusal. option_or (order_refusal tables.now.rows order.now) (Some Refusal.NoMemory) ≡ Some refusal) }
+    ensures err { IfErr result (λ refusal. order_refusal tables.now.rows order.now ≡ Some refusal) }
 {
     let named = rows_of_order(tables, order)?;
     if has_unused_item(tables, order.lines.as_slice()) {
-        return match unwritten(tables, order, &named) {
-            Ok(prepared) => Ok(prepared),
-            Err(_) => Err(Refusal::NoMemory),
-        };
+        return Ok(unwritten(tables, order, &named));
     }
     if let Some(refusal) = range_refusal(tables, order, named.district.next_order) {
         return Err(refusal);
     }
-    match entering(alloc, tables, order, &named) {
-        Ok(prepared) => Ok(prepared),
-        Err(_) => Err(Refusal::NoMemory),
-    }
+    Ok(entering(tables, order, &named))
 }
 
 /// Tells every refusal and makes every growth of an order (2.4.2); no row changes.
@@ -98,7 +77,7 @@ fn worked_out(alloc: Global, tables: &Tables, order: &Order) -> Result<Prepared,
 /// unused item is rolled back (2.4.2.3). Any other is tested for its number and for its STOCK rows as they would be
 /// after it: `OrderNumbers`, `Count(StockOrders)`, `Count(RemoteOrders)`, `Total(StockYtd)`. Last comes `NoMemory`,
 /// where a growth is refused.
-pub fn prepare(alloc: Global, tables: &mut Tables, order: &Order) -> Result<Prepared, Refusal>
+pub fn prepare(tables: &mut Tables, order: &Order) -> Result<Prepared, Refusal>
     requires stocked { IsStocked tables.old.rows }
     ensures ok { IfOk result (IsPrepared tables.old.rows order.now) }
     ensures accepted { OnOk result (order_refusal tables.old.rows order.now ≡ None) }
@@ -106,28 +85,26 @@ pub fn prepare(alloc: Global, tables: &mut Tables, order: &Order) -> Result<Prep
     ensures same { tables.new.rows ≡ tables.old.rows }
     ensures err { IfErr result (λ refusal. option_or (order_refusal tables.old.rows order.now) (Some Refusal.NoMemory) ≡ Some refusal) }
 {
-    let prepared = worked_out(alloc, tables, order)?;
+    let prepared = judged(tables, order)?;
     match make_room(tables, &prepared.rows) {
         Ok(()) => Ok(prepared),
         Err(_) => Err(Refusal::NoMemory),
     }
 }
 
-/// Writes a prepared order (2.4.2.2), or nothing where it is rolled back; takes no memory. The reply comes with its
-/// copy.
-pub fn finish(tables: &mut Tables, prepared: Prepared) -> (Entered, Entered)
-    requires room { HasRoom tables.old.order_room prepared }
-    requires prepared { (order : Order) × IsPrepared tables.old.rows order prepared }
-    ensures rows { (order : Order) → IsPrepared tables.old.rows order prepared → tables.new.rows ≡ rows_after_order tables.old.rows order }
-    ensures reply { (order : Order) → IsPrepared tables.old.rows order prepared → result.0 ≡ order_reply tables.old.rows order }
-    ensures copy { (order : Order) → IsPrepared tables.old.rows order prepared → result.1 ≡ order_reply tables.old.rows order }
+/// Writes a prepared order (2.4.2.2), or nothing where it is rolled back, and gives its reply; takes no memory.
+pub fn finish(tables: &mut Tables, prepared: &Prepared) -> Entered
+    requires room { HasRoom tables.old.order_room prepared.now }
+    requires prepared { (order : Order) × IsPrepared tables.old.rows order prepared.now }
+    ensures rows { (order : Order) → IsPrepared tables.old.rows order prepared.now → tables.new.rows ≡ rows_after_order tables.old.rows order }
+    ensures reply { (order : Order) → IsPrepared tables.old.rows order prepared.now → result ≡ order_reply tables.old.rows order }
 {
-    write(tables, prepared.rows);
-    (prepared.reply, prepared.copy)
+    write(tables, &prepared.rows);
+    prepared.reply
 }
 
 /// One order: the refusals of [`prepare`], which leave all rows as they were, or the reply of [`finish`].
-pub fn enter(alloc: Global, tables: &mut Tables, order: &Order) -> Result<Entered, Refusal>
+pub fn enter(tables: &mut Tables, order: &Order) -> Result<Entered, Refusal>
     requires stocked { IsStocked tables.old.rows }
     ensures rows { OnOk result (tables.new.rows ≡ rows_after_order tables.old.rows order.now) }
     ensures accepted { OnOk result (order_refusal tables.old.rows order.now ≡ None) }
@@ -135,7 +112,8 @@ pub fn enter(alloc: Global, tables: &mut Tables, order: &Order) -> Result<Entere
     ensures refused { IfErr result (λ refusal. option_or (order_refusal tables.old.rows order.now) (Some Refusal.NoMemory) ≡ Some refusal) }
     ensures same { OnErr result (tables.new.rows ≡ tables.old.rows) }
 {
-    let prepared = prepare(alloc, tables, order)?;
-    let (reply, _) = finish(tables, prepared);
-    Ok(reply)
+    match prepare(tables, order) {
+        Ok(prepared) => Ok(finish(tables, &prepared)),
+        Err(refusal) => Err(refusal),
+    }
 }

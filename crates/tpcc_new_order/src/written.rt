@@ -1,5 +1,5 @@
 //! The rows that an order writes (2.4.2.2).
-ghost use Rattle.std.specs.Prelude.{◌≡◌, ◌==◌, ◌<◌, ◌≤◌, IfOk, OnOk, Some, None, false, length};
+ghost use Rattle.std.specs.Prelude.{◌≡◌, ◌==◌, ◌<◌, ◌≤◌, OnOk, Some, None, false, length};
 ghost use Rattle.std.specs.List.{list_all};
 ghost use Rattle.tpcc_rows.specs.declared.requests.Order.{Order};
 ghost use Rattle.tpcc_rows.specs.WellKeyed.{IsStocked};
@@ -10,19 +10,19 @@ ghost use Rattle.tpcc_new_order.specs.Prepares.{AreRowsOf, HasRoomForRows, with_
 
 use crate::lines::order_lines;
 use crate::named::NamedRows;
-use std::alloc::Global;
 use tpcc_money::NoMemory;
+use tpcc_rows::few::Few;
 use tpcc_rows::requests::{Line, Order};
 use tpcc_rows::rows::{OrderLineRow, OrderRow};
 use tpcc_tables::tables::Tables;
 
 /// The rows that an order writes.
-#[derive(Drop)]
+#[derive(Clone, Copy)]
 pub struct NewRows {
     /// ORDER, whose key is that of the NEW-ORDER row too.
     pub order: OrderRow,
     /// ORDER-LINE, numbered from 1.
-    pub lines: Vec<OrderLineRow>,
+    pub lines: Few<OrderLineRow, 15>,
 }
 
 /// Whether the warehouse supplies every line (O_ALL_LOCAL).
@@ -51,27 +51,21 @@ fn order_row(order: &Order, number: u32) -> OrderRow
 }
 
 /// The rows that an order writes.
-pub fn new_rows(
-    alloc: Global,
-    tables: &Tables,
-    order: &Order,
-    named: &NamedRows,
-) -> Result<NewRows, NoMemory>
+pub fn new_rows(tables: &Tables, order: &Order, named: &NamedRows) -> NewRows
     requires stocked { IsStocked tables.now.rows }
     requires named { IsNamed tables.now.rows order.now named.now }
     requires accepted { order_refusal tables.now.rows order.now ≡ None }
     requires entered { is_rolled_back tables.now.rows order.now ≡ false }
     requires servable { IsServable tables.now.rows order.now.lines }
-    ensures { IfOk result (λ new. AreRowsOf tables.now.rows order.now (Some new)) }
+    ensures { AreRowsOf tables.now.rows order.now (Some result) }
 {
     tables.well_keyed();
     let _moment = order.moment.seconds();
     let number = named.district.next_order;
-    let lines = order_lines(alloc, tables, order, number, order.lines.as_slice())?;
-    Ok(NewRows {
+    NewRows {
         order: order_row(order, number),
-        lines,
-    })
+        lines: order_lines(tables, order, number, order.lines.as_slice()),
+    }
 }
 
 /// Room for the rows, if there are any.
@@ -87,12 +81,12 @@ pub fn make_room(tables: &mut Tables, rows: &Option<NewRows>) -> Result<(), NoMe
 }
 
 /// Writes the rows, if there are any.
-pub fn write(tables: &mut Tables, rows: Option<NewRows>)
-    requires room { HasRoomForRows tables.old.order_room rows }
-    requires rows { (order : Order) × AreRowsOf tables.old.rows order rows }
-    ensures { tables.new.rows ≡ with_new_rows tables.old.rows rows }
+pub fn write(tables: &mut Tables, rows: &Option<NewRows>)
+    requires room { HasRoomForRows tables.old.order_room rows.now }
+    requires rows { (order : Order) × AreRowsOf tables.old.rows order rows.now }
+    ensures { tables.new.rows ≡ with_new_rows tables.old.rows rows.now }
 {
     if let Some(new) = rows {
-        tables.append_order(new.order, new.lines);
+        tables.append_order(new.order, new.lines.as_slice());
     }
 }

@@ -68,11 +68,11 @@ pub fn prepare(tables: &mut Tables, payment: &Payment) -> Result<Prepared, Refus
 }
 
 /// Writes a prepared payment and gives its reply; takes no memory.
-pub fn finish(tables: &mut Tables, prepared: Prepared) -> Paid
+pub fn finish(tables: &mut Tables, prepared: &Prepared) -> Paid
     requires room { 0 < tables.old.payment_room }
-    requires prepared { IsPayment tables.old.rows prepared.history prepared.information }
-    ensures rows { tables.new.rows ≡ with_payment tables.old.rows prepared.history prepared.information }
-    ensures reply { result ≡ prepared.reply }
+    requires prepared { IsPayment tables.old.rows prepared.now.history prepared.now.information }
+    ensures rows { tables.new.rows ≡ with_payment tables.old.rows prepared.now.history prepared.now.information }
+    ensures reply { result ≡ prepared.now.reply }
 {
     tables.pay(prepared.history, prepared.information);
     prepared.reply
@@ -87,5 +87,5 @@ pub fn pay(tables: &mut Tables, payment: &Payment) -> Result<Paid, Refusal>
     ensures same { OnErr result (tables.new.rows ≡ tables.old.rows) }
 {
     let prepared = prepare(tables, payment)?;
-    Ok(finish(tables, prepared))
+    Ok(finish(tables, &prepared))
 }

@@ -6,6 +6,7 @@
 //! `specs/Ranges.antt`; a row outside of them can be built but not loaded.
 ghost use Rattle.std.specs.Prelude.{◌≡◌};
 
+use crate::few::Blank;
 use crate::keys::{
     CustomerKey, DistrictKey, ItemKey, NewOrderKey, OrderKey, OrderLineKey, StockKey, WarehouseKey,
 };
@@ -115,6 +116,29 @@ pub struct OrderLineRow {
     pub amount: Cents,
     /// OL_DIST_INFO, exactly 24 bytes.
     pub district_information: Text<24>,
+}
+
+impl Blank for OrderLineRow {
+    ghost use Rattle.std.specs.Prelude.{[], None, pos};
+
+    ghost blank = { record {
+        order = 0; district = 0; warehouse = 0; number = 0; item = 0; supply = 0; delivered = None; quantity = 0; amount = pos 0; district_information = []
+    } };
+
+    fn blank() -> Self {
+        OrderLineRow {
+            order: 0,
+            district: 0,
+            warehouse: 0,
+            number: 0,
+            item: 0,
+            supply: 0,
+            delivered: None,
+            quantity: 0,
+            amount: Cents::new(0),
+            district_information: Text::empty(),
+        }
+    }
 }
 
 /// NEW-ORDER: an order that is not delivered yet.
