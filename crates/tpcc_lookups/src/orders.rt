@@ -1,14 +1,11 @@
 //! Order-Status (2.6): a customer and the customer's last order.
 ghost use Rattle.std.specs.Prelude.{◌≡◌, IfOk, IfErr, OnOk, Some, None, option_map, is_some, true};
-ghost use Rattle.std.specs.Option.{option_or};
 ghost use Rattle.tpcc_rows.specs.ChosenCustomer.{chosen_customer};
 ghost use Rattle.tpcc_rows.specs.Lookups.{last_order_number, shown_order, status_refusal, status_reply};
 ghost use Rattle.tpcc_rows.specs.Tables.{find_order};
 
 use crate::asked::asking_customer;
 use crate::lines::add_lines;
-use std::alloc::Global;
-use tpcc_money::NoMemory;
 use tpcc_rows::refusals::Refusal;
 use tpcc_rows::replies::{LastOrder, Status, StatusLines};
 use tpcc_rows::requests::StatusQuery;
@@ -16,81 +13,62 @@ use tpcc_rows::rows::CustomerRow;
 use tpcc_tables::tables::Tables;
 
 /// An order with its lines.
-fn shown(
-    alloc: Global,
-    tables: &Tables,
-    warehouse: u32,
-    district: u32,
-    order: u32,
-) -> Result<LastOrder, NoMemory>
+fn shown(tables: &Tables, warehouse: u32, district: u32, order: u32) -> LastOrder
     requires { is_some (find_order tables.now.rows warehouse district order) ≡ true }
-    ensures { IfOk result (λ last. last ≡ shown_order tables.now.rows warehouse district order) }
+    ensures { result ≡ shown_order tables.now.rows warehouse district order }
 {
     let row = tables.order(warehouse, district, order).unwrap();
-    let mut lines = Vec::new(alloc);
-    add_lines(tables, warehouse, district, order, &mut lines)?;
-    Ok(LastOrder {
+    let mut lines = StatusLines::empty();
+    add_lines(tables, warehouse, district, order, &mut lines);
+    LastOrder {
         order,
         entry_date: row.entry_date,
         carrier: row.carrier,
-        lines: StatusLines::new(lines),
-    })
+        lines,
+    }
 }
 
 #[tactic(auto, using(crate::proofs::LowLemmas::last_is_there))]
 /// A customer's last order, if there is one.
 fn last_order(
-    alloc: Global,
     tables: &Tables,
     warehouse: u32,
     district: u32,
     customer: u32,
-) -> Result<Option<LastOrder>, NoMemory>
-    ensures { IfOk result (λ order. order ≡ option_map (shown_order tables.now.rows warehouse district) (last_order_number tables.now.rows warehouse district customer)) }
+) -> Option<LastOrder>
+    ensures { result ≡ option_map (shown_order tables.now.rows warehouse district) (last_order_number tables.now.rows warehouse district customer) }
 {
     match tables.last_order(warehouse, district, customer) {
-        Some(order) => Ok(Some(shown(alloc, tables, warehouse, district, order)?)),
-        None => Ok(None),
+        Some(order) => Some(shown(tables, warehouse, district, order)),
+        None => None,
     }
 }
 
 #[tactic(auto, unfolding(tpcc_rows::specs::Lookups::status_reply))]
 /// What the terminal shows of a customer.
-fn status(
-    alloc: Global,
-    tables: &Tables,
-    query: &StatusQuery,
-    customer: &CustomerRow,
-) -> Result<Status, NoMemory>
+fn status(tables: &Tables, query: &StatusQuery, customer: &CustomerRow) -> Status
     requires { chosen_customer tables.now.rows query.now.warehouse query.now.district query.now.who ≡ Some customer.now }
-    ensures { IfOk result (λ status. status ≡ status_reply tables.now.rows query.now) }
+    ensures { result ≡ status_reply tables.now.rows query.now }
 {
-    let first = customer.first.duplicate()?;
-    let middle = customer.middle.duplicate()?;
-    let last = customer.last.duplicate()?;
-    let order = last_order(alloc, tables, query.warehouse, query.district, customer.id)?;
-    Ok(Status {
+    Status {
         warehouse: query.warehouse,
         district: query.district,
         customer: customer.id,
-        first,
-        middle,
-        last,
+        first: customer.first,
+        middle: customer.middle,
+        last: customer.last,
         balance: customer.balance,
-        order,
-    })
+        order: last_order(tables, query.warehouse, query.district, customer.id),
+    }
 }
 
 /// One Order-Status. The refusals are NoWarehouse, NoDistrict and NoCustomer, the first that
-/// applies, and then NoMemory.
-pub fn order_status(alloc: Global, tables: &Tables, query: &StatusQuery) -> Result<Status, Refusal>
+/// applies. Takes no memory.
+pub fn order_status(tables: &Tables, query: &StatusQuery) -> Result<Status, Refusal>
     ensures accepted { OnOk result (status_refusal tables.now.rows query.now ≡ None) }
     ensures reply { IfOk result (λ status. status ≡ status_reply tables.now.rows query.now) }
-    ensures refused { IfErr result (λ refusal. option_or (status_refusal tables.now.rows query.now) (Some Refusal.NoMemory) ≡ Some refusal) }
+    ensures refused { IfErr result (λ refusal. status_refusal tables.now.rows query.now ≡ Some refusal) }
 {
     let customer = asking_customer(tables, query)?;
-    match status(alloc, tables, query, customer) {
-        Ok(status) => Ok(status),
-        Err(_) => Err(Refusal::NoMemory),
-    }
+    Ok(status(tables, query, customer))
 }

@@ -1,6 +1,5 @@
 //! Stock-Level (2.8): how many of the items that a district ordered last are low in stock.
 ghost use Rattle.std.specs.Prelude.{◌≡◌, ◌≤◌, ◌+◌, ◌-◌, ◌<◌, ◌==◌, ◌&&◌, not, nat_lt, nat_le, IfOk, IfErr, OnOk, Some, None, length, drop, map, filter};
-ghost use Rattle.std.specs.Option.{option_or};
 ghost use Rattle.std.specs.List.{list_any};
 ghost use Rattle.tpcc_rows.specs.Lists.{distinct};
 ghost use Rattle.tpcc_rows.specs.Lookups.{is_low, recent_lines, low_stock, status_line, stock_refusal, stock_reply};
@@ -8,8 +7,7 @@ ghost use Rattle.tpcc_rows.specs.Tables.{order_lines_in};
 
 use crate::asked::asked_district;
 use crate::lines::add_lines;
-use std::alloc::Global;
-use tpcc_money::NoMemory;
+use tpcc_rows::few::Few;
 use tpcc_rows::refusals::Refusal;
 use tpcc_rows::replies::{Level, StatusLine};
 use tpcc_rows::requests::StockQuery;
@@ -18,21 +16,20 @@ use tpcc_tables::tables::Tables;
 #[tactic(auto, using(crate::proofs::LineLemmas::no_orders))]
 /// The lines of the 20 orders before the next one of a district.
 fn lines_before(
-    alloc: Global,
     tables: &Tables,
     warehouse: u32,
     district: u32,
     next: u32,
-) -> Result<Vec<StatusLine>, NoMemory>
-    ensures lines { IfOk result (λ lines. lines.items ≡ map status_line (filter (λ l. nat_le (next - 20) l.order && nat_lt l.order next) (order_lines_in tables.now.rows warehouse district))) }
-    ensures few { IfOk result (λ lines. length lines.items ≤ 300) }
+) -> Few<StatusLine, 300>
+    ensures lines { result ≡ map status_line (filter (λ l. nat_le (next - 20) l.order && nat_lt l.order next) (order_lines_in tables.now.rows warehouse district)) }
+    ensures few { length result ≤ 300 }
 {
     tables.well_keyed();
-    let mut lines = Vec::new(alloc);
+    let mut lines = Few::empty();
     for order in next.saturating_sub(20)..next {
-        add_lines(tables, warehouse, district, order, &mut lines)?;
+        add_lines(tables, warehouse, district, order, &mut lines);
     }
-    Ok(lines)
+    lines
 }
 
 #[tactic(auto, using(crate::proofs::LowLemmas::low_is))]
@@ -84,20 +81,18 @@ fn count_short(tables: &Tables, query: &StockQuery, lines: &[StatusLine]) -> u32
 }
 
 /// One Stock-Level. The refusals are NoWarehouse, NoDistrict and Threshold, the first that
-/// applies, and then NoMemory.
-pub fn stock_level(alloc: Global, tables: &Tables, query: &StockQuery) -> Result<Level, Refusal>
+/// applies. Takes no memory.
+pub fn stock_level(tables: &Tables, query: &StockQuery) -> Result<Level, Refusal>
     ensures accepted { OnOk result (stock_refusal tables.now.rows query.now ≡ None) }
     ensures reply { IfOk result (λ level. level ≡ stock_reply tables.now.rows query.now) }
-    ensures refused { IfErr result (λ refusal. option_or (stock_refusal tables.now.rows query.now) (Some Refusal.NoMemory) ≡ Some refusal) }
+    ensures refused { IfErr result (λ refusal. stock_refusal tables.now.rows query.now ≡ Some refusal) }
 {
     let next = asked_district(tables, query)?.next_order;
-    match lines_before(alloc, tables, query.warehouse, query.district, next) {
-        Ok(lines) => Ok(Level {
-            warehouse: query.warehouse,
-            district: query.district,
-            threshold: query.threshold,
-            low_stock: count_short(tables, query, lines.as_slice()),
-        }),
-        Err(_) => Err(Refusal::NoMemory),
-    }
+    let lines = lines_before(tables, query.warehouse, query.district, next);
+    Ok(Level {
+        warehouse: query.warehouse,
+        district: query.district,
+        threshold: query.threshold,
+        low_stock: count_short(tables, query, lines.as_slice()),
+    })
 }

@@ -6,7 +6,7 @@ pub loop-order-preserved : goal.loop-order-preserved
 loop-order-preserved c = record {
   least = omega arith;
   lines =
-      c.in_ok-add_lines.ensures.added
-      ∙ shown_order_next c.args.tables.now.rows c.args.warehouse c.args.district (c.args.next - 20) c.loop-order.order c.loop-order.lines.items c.well_keyed.ensures c.loop-order.invariant.least c.loop-order.invariant.lines;
-  few = omega (arith, c.in_ok-add_lines.ensures.few);
+      c.add_lines.ensures.added
+      ∙ shown_order_next c.args.tables.now.rows c.args.warehouse c.args.district (c.args.next - 20) c.loop-order.order c.loop-order.lines c.well_keyed.ensures c.loop-order.invariant.least c.loop-order.invariant.lines;
+  few = omega (arith, c.add_lines.ensures.few);
 }
