@@ -73,13 +73,13 @@ impl Fields {
         Ok(())
     }
 
-    pub fn put_text(&mut self, text: &Text) -> Result<(), NoMemory>
+    pub fn put_text<const N: usize>(&mut self, text: &Text<N>) -> Result<(), NoMemory>
         ensures { OnOk result (self.new ≡ self.old ++ text.now ∷ []) }
     {
         self.put(text.bytes())
     }
 
-    pub fn put_texts(&mut self, texts: &[Text]) -> Result<(), NoMemory>
+    pub fn put_texts<const N: usize>(&mut self, texts: &[Text<N>]) -> Result<(), NoMemory>
         ensures { OnOk result (self.new ≡ self.old ++ texts.now) }
     {
         for text in texts {

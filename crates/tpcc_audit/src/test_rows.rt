@@ -1,4 +1,6 @@
 //! Rows of the plain opening at the smallest scale.
+ghost use Rattle.std.specs.Prelude.{◌≤◌};
+
 use std::alloc::Global;
 use std::test::Fail;
 use tpcc_money::{Cents, Moment, Rate};
@@ -8,25 +10,27 @@ use tpcc_rows::{
 };
 use tpcc_tables::Tables;
 
-fn text(alloc: Global, bytes: &[u8]) -> Result<Text, Fail> {
-    Ok(Text::new(alloc, bytes, bytes.len())?)
+fn text<const N: usize>(bytes: &[u8]) -> Result<Text<N>, Fail>
+    requires { N ≤ 65535 }
+{
+    Ok(Text::new(bytes)?)
 }
 
-fn address(alloc: Global) -> Result<Address, Fail> {
+fn address() -> Result<Address, Fail> {
     Ok(Address {
-        street_1: text(alloc, b"MAINSTREET")?,
-        street_2: text(alloc, b"SIDESTREET")?,
-        city: text(alloc, b"CITYCENTRE")?,
-        state: text(alloc, b"AB")?,
-        zip: text(alloc, b"000111111")?,
+        street_1: text(b"MAINSTREET")?,
+        street_2: text(b"SIDESTREET")?,
+        city: text(b"CITYCENTRE")?,
+        state: text(b"AB")?,
+        zip: text(b"000111111")?,
     })
 }
 
 pub fn warehouse(alloc: Global, id: u32, name: &[u8]) -> Result<Row, Fail> {
     Ok(Row::Warehouse(WarehouseRow {
         id,
-        name: text(alloc, name)?,
-        address: address(alloc)?,
+        name: text(name)?,
+        address: address()?,
         tax: Rate::new(1000),
         ytd: Cents::new(100_000),
     }))
@@ -36,8 +40,8 @@ fn district(alloc: Global) -> Result<Row, Fail> {
     Ok(Row::District(DistrictRow {
         id: 1,
         warehouse: 1,
-        name: text(alloc, b"DIST01")?,
-        address: address(alloc)?,
+        name: text(b"DIST01")?,
+        address: address()?,
         tax: Rate::new(100),
         ytd: Cents::new(10_000),
         next_order: 11,
@@ -49,20 +53,20 @@ fn customer(alloc: Global, id: u32, first: &[u8], last: &[u8]) -> Result<Row, Fa
         id,
         district: 1,
         warehouse: 1,
-        first: text(alloc, first)?,
-        middle: text(alloc, b"OE")?,
-        last: text(alloc, last)?,
-        address: address(alloc)?,
-        phone: text(alloc, b"0000000000000001")?,
+        first: text(first)?,
+        middle: text(b"OE")?,
+        last: text(last)?,
+        address: address()?,
+        phone: text(b"0000000000000001")?,
         since: Moment::new(0),
-        credit: text(alloc, b"GC")?,
+        credit: text(b"GC")?,
         credit_limit: Cents::new(5_000_000),
         discount: Rate::new(100),
         balance: Cents::new(-1000),
         ytd_payment: Cents::new(1000),
         payment_count: 1,
         delivery_count: 0,
-        information: text(alloc, b"xxx")?,
+        information: text(b"xxx")?,
     }))
 }
 
@@ -75,7 +79,7 @@ fn history(alloc: Global, customer: u32) -> Result<Row, Fail> {
         warehouse: 1,
         date: Moment::new(60),
         amount: Cents::new(1000),
-        information: text(alloc, b"OPENINGPAYMENT")?,
+        information: text(b"OPENINGPAYMENT")?,
     }))
 }
 
@@ -103,7 +107,7 @@ fn line(alloc: Global, order: u32, delivered: Option<Moment>, amount: Cents) -> 
         delivered,
         quantity: 5,
         amount,
-        district_information: text(alloc, b"dddddddddddddddddddddd01")?,
+        district_information: text(b"dddddddddddddddddddddd01")?,
     }))
 }
 
@@ -111,24 +115,24 @@ fn item(alloc: Global) -> Result<Row, Fail> {
     Ok(Row::Item(ItemRow {
         id: 1,
         image: 1,
-        name: text(alloc, b"ITEMNAME000001")?,
+        name: text(b"ITEMNAME000001")?,
         price: Cents::new(100),
-        information: text(alloc, b"iiiiiiiiiiiiiiiiiiiiiiiiii")?,
+        information: text(b"iiiiiiiiiiiiiiiiiiiiiiiiii")?,
     }))
 }
 
 fn stock(alloc: Global) -> Result<Row, Fail> {
     let texts = [
-        text(alloc, b"dddddddddddddddddddddd01")?,
-        text(alloc, b"dddddddddddddddddddddd02")?,
-        text(alloc, b"dddddddddddddddddddddd03")?,
-        text(alloc, b"dddddddddddddddddddddd04")?,
-        text(alloc, b"dddddddddddddddddddddd05")?,
-        text(alloc, b"dddddddddddddddddddddd06")?,
-        text(alloc, b"dddddddddddddddddddddd07")?,
-        text(alloc, b"dddddddddddddddddddddd08")?,
-        text(alloc, b"dddddddddddddddddddddd09")?,
-        text(alloc, b"dddddddddddddddddddddd10")?,
+        text(b"dddddddddddddddddddddd01")?,
+        text(b"dddddddddddddddddddddd02")?,
+        text(b"dddddddddddddddddddddd03")?,
+        text(b"dddddddddddddddddddddd04")?,
+        text(b"dddddddddddddddddddddd05")?,
+        text(b"dddddddddddddddddddddd06")?,
+        text(b"dddddddddddddddddddddd07")?,
+        text(b"dddddddddddddddddddddd08")?,
+        text(b"dddddddddddddddddddddd09")?,
+        text(b"dddddddddddddddddddddd10")?,
     ];
     Ok(Row::Stock(StockRow {
         item: 1,
@@ -138,7 +142,7 @@ fn stock(alloc: Global) -> Result<Row, Fail> {
         ytd: 0,
         order_count: 0,
         remote_count: 0,
-        information: text(alloc, b"ssssssssssssssssssssssssss")?,
+        information: text(b"ssssssssssssssssssssssssss")?,
     }))
 }
 

@@ -21,15 +21,11 @@ use Rattle.tpcc_book.specs.declared.prepared.Prepared.{Prepared}
 use Rattle.tpcc_book.specs.declared.prepared.Prepared.TheVariants as ready
 use Rattle.tpcc_book.specs.Turn.{early, turn_refusal}
 
--- a reply and its copy
-abbrev pub AreCopies : {X : Type 0} → X → X → X → Type 0
-AreCopies reply shown stored = (shown ≡ reply) × (stored ≡ reply)
-
 -- what was prepared is the request's, at this state
 unfoldable pub IsReady : State → Request → Prepared → Type 0
-IsReady s request (ready.Payment prepared) = (payment : PaymentRequest) × (request ≡ ask.Payment payment) × IsPreparedPayment s.rows payment prepared.value
-IsReady s request (ready.NewOrder prepared) = (order : OrderRequest) × (request ≡ ask.NewOrder order) × IsPreparedOrder s.rows order prepared.value
-IsReady s request (ready.Status shown stored) = (query : StatusRequest) × (request ≡ ask.Status query) × AreCopies (status_reply s.rows query) shown.value stored.value
+IsReady s request (ready.Payment prepared) = (payment : PaymentRequest) × (request ≡ ask.Payment payment) × IsPreparedPayment s.rows payment prepared
+IsReady s request (ready.NewOrder prepared) = (order : OrderRequest) × (request ≡ ask.NewOrder order) × IsPreparedOrder s.rows order prepared
+IsReady s request (ready.Status shown) = (query : StatusRequest) × (request ≡ ask.Status query) × (shown ≡ status_reply s.rows query)
 IsReady s request (ready.Level shown) = (query : StockRequest) × (request ≡ ask.Stock query) × (shown ≡ stock_reply s.rows query)
 IsReady s request (ready.Ticket ticket) = (request ≡ ask.Delivery ticket) × (is_carrier ticket.carrier ≡ true)
 IsReady s request (ready.Run run) = (at : ℕ) × (request ≡ ask.Deliver at) × IsPreparedRun s.rows s.queue at run
@@ -50,8 +46,8 @@ room_in tables queue = record { order = tables.order_room; payment = tables.paym
 -- the room that it needs
 unfoldable pub HasRoom : Rooms → Prepared → Type 0
 HasRoom rooms (ready.Payment prepared) = 0 < rooms.payment
-HasRoom rooms (ready.NewOrder prepared) = HasRoomForOrder rooms.order prepared.value
-HasRoom rooms (ready.Status shown stored) = Unit {0}
+HasRoom rooms (ready.NewOrder prepared) = HasRoomForOrder rooms.order prepared
+HasRoom rooms (ready.Status shown) = Unit {0}
 HasRoom rooms (ready.Level shown) = Unit {0}
 HasRoom rooms (ready.Ticket ticket) = 0 < rooms.ticket
 HasRoom rooms (ready.Run run) = Unit {0}

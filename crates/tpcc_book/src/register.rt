@@ -26,7 +26,6 @@ pub struct Register {
     tables: Tables,
     queue: Queue,
     journal: Journal,
-    alloc: Global,
 }
 
 impl Model for Register {
@@ -53,7 +52,6 @@ impl Register {
             tables,
             queue: Queue::new(alloc),
             journal: Journal::new(alloc),
-            alloc,
         })
     }
 
@@ -146,7 +144,6 @@ impl Register {
         ensures err { IfErr result (λ e. Refuses self.old terminal number request.now None self.new e) }
     {
         let ready = make_ready(
-            self.alloc,
             &mut self.tables,
             &mut self.queue,
             &mut self.journal,

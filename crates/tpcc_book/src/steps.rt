@@ -8,7 +8,6 @@ ghost use Rattle.tpcc_book.specs.Ready.{CanFinish, IsReady, HasRoom, state_of, r
 ghost use Rattle.tpcc_book.specs.Turn.{journal_refusal, turn_refusal};
 
 use crate::prepared::{Prepared, finish, prepare};
-use std::alloc::Global;
 use tpcc_delivery::Queue;
 use tpcc_journal::Journal;
 use tpcc_rows::{Entry, Refusal, Reply, Request};
@@ -50,7 +49,6 @@ fn by_order(
 
 /// Tells the first refusal, and makes the growth of rows and tickets.
 fn decide(
-    alloc: Global,
     tables: &mut Tables,
     queue: &mut Queue,
     journal: &Journal,
@@ -64,7 +62,7 @@ fn decide(
     ensures ready { IfOk result (CanFinish (state_of tables.old queue.old) journal.now.entries terminal number request.now (room_in tables.new queue.new)) }
     ensures refused { IfErr result (λ r. option_or (turn_refusal (state_of tables.old queue.old) journal.now.entries terminal number request.now) (Some Refusal.NoMemory) ≡ Some r) }
 {
-    let prepared = prepare(alloc, tables, queue, request);
+    let prepared = prepare(tables, queue, request);
     by_order(journal_refusal(journal, terminal, number), prepared)
 }
 
@@ -96,9 +94,8 @@ pub(crate) struct Ready {
     pub copy: Request,
 }
 
-/// Tells the first refusal, and makes every growth and copy; nothing else changes.
+/// Tells the first refusal, makes every growth and copies the request; nothing else changes.
 pub(crate) fn make_ready(
-    alloc: Global,
     tables: &mut Tables,
     queue: &mut Queue,
     journal: &mut Journal,
@@ -115,7 +112,7 @@ pub(crate) fn make_ready(
     ensures room { OnOk result (0 < journal.new.room) }
     ensures refused { IfErr result (λ r. option_or (turn_refusal (state_of tables.old queue.old) journal.old.entries terminal number request.now) (Some Refusal.NoMemory) ≡ Some r) }
 {
-    let prepared = decide(alloc, tables, queue, journal, request, terminal, number)?;
+    let prepared = decide(tables, queue, journal, request, terminal, number)?;
     let copy = copied(request)?;
     make_room(journal)?;
     Ok(Ready { prepared, copy })
@@ -140,7 +137,8 @@ pub(crate) fn commit(
 {
     let Ready { prepared, copy } = ready;
     let place = journal.len() as u64;
-    let (reply, stored) = finish(tables, queue, prepared);
+    let reply = finish(tables, queue, &prepared);
+    let stored = reply;
     journal.append(Entry {
         terminal,
         number,

@@ -2,7 +2,7 @@
 use tpcc_rows::{Refusal, Reply, Request};
 
 /// A request with its outcome: a reply and the place of its entry in the journal, or a refusal and no place.
-#[derive(Debug, Drop)]
+#[derive(Drop)]
 pub struct Turned {
     pub request: Request,
     pub outcome: Result<Reply, Refusal>,

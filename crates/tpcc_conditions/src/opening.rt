@@ -1,4 +1,6 @@
 //! The plain opening (4.3.3) with one district, ten customers and fifty items.
+ghost use Rattle.std.specs.Prelude.{◌≤◌};
+
 use std::alloc::Global;
 use std::test::Fail;
 use tpcc_money::{Cents, Moment, Rate};
@@ -8,25 +10,27 @@ use tpcc_rows::{
 };
 use tpcc_tables::{LoadFault, Tables};
 
-fn text(alloc: Global, bytes: &[u8]) -> Result<Text, Fail> {
-    Ok(Text::new(alloc, bytes, 500)?)
+fn text<const N: usize>(bytes: &[u8]) -> Result<Text<N>, Fail>
+    requires { N ≤ 65535 }
+{
+    Ok(Text::new(bytes)?)
 }
 
-fn address(alloc: Global) -> Result<Address, Fail> {
+fn address() -> Result<Address, Fail> {
     Ok(Address {
-        street_1: text(alloc, b"MAINSTREET".as_slice())?,
-        street_2: text(alloc, b"SIDESTREET".as_slice())?,
-        city: text(alloc, b"CITYCENTRE".as_slice())?,
-        state: text(alloc, b"AB".as_slice())?,
-        zip: text(alloc, b"000111111".as_slice())?,
+        street_1: text(b"MAINSTREET".as_slice())?,
+        street_2: text(b"SIDESTREET".as_slice())?,
+        city: text(b"CITYCENTRE".as_slice())?,
+        state: text(b"AB".as_slice())?,
+        zip: text(b"000111111".as_slice())?,
     })
 }
 
 fn warehouse(alloc: Global, ytd: i64) -> Result<Row, Fail> {
     Ok(Row::Warehouse(WarehouseRow {
         id: 1,
-        name: text(alloc, b"WARE001".as_slice())?,
-        address: address(alloc)?,
+        name: text(b"WARE001".as_slice())?,
+        address: address()?,
         tax: Rate::new(1000),
         ytd: Cents::new(ytd),
     }))
@@ -36,8 +40,8 @@ fn district(alloc: Global, id: u32, ytd: i64, next_order: u32) -> Result<Row, Fa
     Ok(Row::District(DistrictRow {
         id,
         warehouse: 1,
-        name: text(alloc, b"DIST01".as_slice())?,
-        address: address(alloc)?,
+        name: text(b"DIST01".as_slice())?,
+        address: address()?,
         tax: Rate::new(100),
         ytd: Cents::new(ytd),
         next_order,
@@ -49,20 +53,20 @@ fn customer(alloc: Global, id: u32, balance: i64, ytd_payment: i64) -> Result<Ro
         id,
         district: 1,
         warehouse: 1,
-        first: text(alloc, b"FIRST".as_slice())?,
-        middle: text(alloc, b"OE".as_slice())?,
-        last: text(alloc, b"BARBARBAR".as_slice())?,
-        address: address(alloc)?,
-        phone: text(alloc, b"0000000000000001".as_slice())?,
+        first: text(b"FIRST".as_slice())?,
+        middle: text(b"OE".as_slice())?,
+        last: text(b"BARBARBAR".as_slice())?,
+        address: address()?,
+        phone: text(b"0000000000000001".as_slice())?,
         since: Moment::new(0),
-        credit: text(alloc, b"GC".as_slice())?,
+        credit: text(b"GC".as_slice())?,
         credit_limit: Cents::new(5_000_000),
         discount: Rate::new(0),
         balance: Cents::new(balance),
         ytd_payment: Cents::new(ytd_payment),
         payment_count: 1,
         delivery_count: 0,
-        information: text(alloc, b"".as_slice())?,
+        information: text(b"".as_slice())?,
     }))
 }
 
@@ -75,7 +79,7 @@ fn history(alloc: Global, customer: u32) -> Result<Row, Fail> {
         warehouse: 1,
         date: Moment::new(0),
         amount: Cents::new(1000),
-        information: text(alloc, b"OPENINGPAYMENT".as_slice())?,
+        information: text(b"OPENINGPAYMENT".as_slice())?,
     }))
 }
 
@@ -103,7 +107,7 @@ fn line(alloc: Global, order: u32, number: u32, waits: bool) -> Result<Row, Fail
         delivered: if waits { None } else { Some(Moment::new(0)) },
         quantity: 5,
         amount: Cents::new(if waits { i64::from(number) * 100 } else { 0 }),
-        district_information: text(alloc, b"dddddddddddddddddddddd01".as_slice())?,
+        district_information: text(b"dddddddddddddddddddddd01".as_slice())?,
     }))
 }
 
@@ -119,25 +123,25 @@ fn item(alloc: Global) -> Result<Row, Fail> {
     Ok(Row::Item(ItemRow {
         id: 1,
         image: 1,
-        name: text(alloc, b"ITEMNAME000001".as_slice())?,
+        name: text(b"ITEMNAME000001".as_slice())?,
         price: Cents::new(100),
-        information: text(alloc, b"iiiiiiiiiiiiiiiiiiiiiiiiii".as_slice())?,
+        information: text(b"iiiiiiiiiiiiiiiiiiiiiiiiii".as_slice())?,
     }))
 }
 
 fn stock(alloc: Global) -> Result<Row, Fail> {
     let information = b"dddddddddddddddddddddd01".as_slice();
     let texts = [
-        text(alloc, information)?,
-        text(alloc, information)?,
-        text(alloc, information)?,
-        text(alloc, information)?,
-        text(alloc, information)?,
-        text(alloc, information)?,
-        text(alloc, information)?,
-        text(alloc, information)?,
-        text(alloc, information)?,
-        text(alloc, information)?,
+        text(information)?,
+        text(information)?,
+        text(information)?,
+        text(information)?,
+        text(information)?,
+        text(information)?,
+        text(information)?,
+        text(information)?,
+        text(information)?,
+        text(information)?,
     ];
     Ok(Row::Stock(StockRow {
         item: 1,
@@ -147,7 +151,7 @@ fn stock(alloc: Global) -> Result<Row, Fail> {
         ytd: 0,
         order_count: 0,
         remote_count: 0,
-        information: text(alloc, b"ssssssssssssssssssssssssss".as_slice())?,
+        information: text(b"ssssssssssssssssssssssssss".as_slice())?,
     }))
 }
 

@@ -11,7 +11,7 @@ use tpcc_rows::{Delivery, DistrictDelivery, Refusal};
 use tpcc_tables::tables::Tables;
 
 /// A run that nothing refuses, with what it answers.
-#[derive(Clone, Copy, Debug, PartialEq, Eq)]
+#[derive(Clone, Copy, PartialEq, Eq)]
 pub struct PreparedRun {
     pub reply: Delivery,
 }

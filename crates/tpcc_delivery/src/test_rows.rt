@@ -1,4 +1,6 @@
 //! Rows of the plain opening for one warehouse: ten districts with customers, orders and waiting orders 8 to 10.
+ghost use Rattle.std.specs.Prelude.{◌≤◌};
+
 use std::alloc::Global;
 use std::test::Fail;
 use tpcc_money::{Cents, Moment, Rate};
@@ -8,25 +10,27 @@ use tpcc_rows::{
 };
 use tpcc_tables::Tables;
 
-fn text(alloc: Global, bytes: &[u8]) -> Result<Text, Fail> {
-    Ok(Text::new(alloc, bytes, bytes.len())?)
+fn text<const N: usize>(bytes: &[u8]) -> Result<Text<N>, Fail>
+    requires { N ≤ 65535 }
+{
+    Ok(Text::new(bytes)?)
 }
 
-fn address(alloc: Global) -> Result<Address, Fail> {
+fn address() -> Result<Address, Fail> {
     Ok(Address {
-        street_1: text(alloc, b"MAINSTREET")?,
-        street_2: text(alloc, b"SIDESTREET")?,
-        city: text(alloc, b"CITYCENTRE")?,
-        state: text(alloc, b"AB")?,
-        zip: text(alloc, b"000111111")?,
+        street_1: text(b"MAINSTREET")?,
+        street_2: text(b"SIDESTREET")?,
+        city: text(b"CITYCENTRE")?,
+        state: text(b"AB")?,
+        zip: text(b"000111111")?,
     })
 }
 
 fn warehouse(alloc: Global) -> Result<Row, Fail> {
     Ok(Row::Warehouse(WarehouseRow {
         id: 1,
-        name: text(alloc, b"WARE001")?,
-        address: address(alloc)?,
+        name: text(b"WARE001")?,
+        address: address()?,
         tax: Rate::new(1000),
         ytd: Cents::new(100_000),
     }))
@@ -36,8 +40,8 @@ fn district(alloc: Global, id: u32) -> Result<Row, Fail> {
     Ok(Row::District(DistrictRow {
         id,
         warehouse: 1,
-        name: text(alloc, b"DIST")?,
-        address: address(alloc)?,
+        name: text(b"DIST")?,
+        address: address()?,
         tax: Rate::new(100),
         ytd: Cents::new(10_000),
         next_order: 11,
@@ -56,20 +60,20 @@ fn customer(
         id,
         district,
         warehouse: 1,
-        first: text(alloc, b"FIRST")?,
-        middle: text(alloc, b"OE")?,
-        last: text(alloc, b"BARBARBAR")?,
-        address: address(alloc)?,
-        phone: text(alloc, b"0000000000000001")?,
+        first: text(b"FIRST")?,
+        middle: text(b"OE")?,
+        last: text(b"BARBARBAR")?,
+        address: address()?,
+        phone: text(b"0000000000000001")?,
         since: Moment::new(0),
-        credit: text(alloc, b"GC")?,
+        credit: text(b"GC")?,
         credit_limit: Cents::new(5_000_000),
         discount: Rate::new(100),
         balance: Cents::new(balance),
         ytd_payment: Cents::new(1000),
         payment_count: 1,
         delivery_count,
-        information: text(alloc, b"xxx")?,
+        information: text(b"xxx")?,
     }))
 }
 
@@ -98,7 +102,7 @@ fn line(alloc: Global, district: u32, order: u32, number: u32) -> Result<Row, Fa
         delivered: None,
         quantity: 5,
         amount: Cents::new(i64::from(number) * 100),
-        district_information: text(alloc, b"dddddddddddddddddddddd01")?,
+        district_information: text(b"dddddddddddddddddddddd01")?,
     }))
 }
 
@@ -106,24 +110,24 @@ fn item(alloc: Global, id: u32) -> Result<Row, Fail> {
     Ok(Row::Item(ItemRow {
         id,
         image: id,
-        name: text(alloc, b"ITEMNAME")?,
+        name: text(b"ITEMNAME")?,
         price: Cents::new(100),
-        information: text(alloc, b"iiiiiiiiiiiiiiiiiiiiiiiiii")?,
+        information: text(b"iiiiiiiiiiiiiiiiiiiiiiiiii")?,
     }))
 }
 
 fn stock(alloc: Global, item: u32) -> Result<Row, Fail> {
     let texts = [
-        text(alloc, b"dddddddddddddddddddddd01")?,
-        text(alloc, b"dddddddddddddddddddddd02")?,
-        text(alloc, b"dddddddddddddddddddddd03")?,
-        text(alloc, b"dddddddddddddddddddddd04")?,
-        text(alloc, b"dddddddddddddddddddddd05")?,
-        text(alloc, b"dddddddddddddddddddddd06")?,
-        text(alloc, b"dddddddddddddddddddddd07")?,
-        text(alloc, b"dddddddddddddddddddddd08")?,
-        text(alloc, b"dddddddddddddddddddddd09")?,
-        text(alloc, b"dddddddddddddddddddddd10")?,
+        text(b"dddddddddddddddddddddd01")?,
+        text(b"dddddddddddddddddddddd02")?,
+        text(b"dddddddddddddddddddddd03")?,
+        text(b"dddddddddddddddddddddd04")?,
+        text(b"dddddddddddddddddddddd05")?,
+        text(b"dddddddddddddddddddddd06")?,
+        text(b"dddddddddddddddddddddd07")?,
+        text(b"dddddddddddddddddddddd08")?,
+        text(b"dddddddddddddddddddddd09")?,
+        text(b"dddddddddddddddddddddd10")?,
     ];
     Ok(Row::Stock(StockRow {
         item,
@@ -133,7 +137,7 @@ fn stock(alloc: Global, item: u32) -> Result<Row, Fail> {
         ytd: 0,
         order_count: 0,
         remote_count: 0,
-        information: text(alloc, b"ssssssssssssssssssssssssss")?,
+        information: text(b"ssssssssssssssssssssssssss")?,
     }))
 }
 

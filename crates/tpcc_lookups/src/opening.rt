@@ -1,4 +1,6 @@
 //! Rows of the plain opening (4.3.3) for one district, and tables of them.
+ghost use Rattle.std.specs.Prelude.{◌≤◌};
+
 use std::alloc::Global;
 use std::test::Fail;
 use tpcc_money::{Cents, Moment, Rate};
@@ -17,27 +19,31 @@ pub struct Scale {
     pub delivered: u32,
 }
 
-pub fn text(alloc: Global, bytes: &[u8]) -> Result<Text, Fail> {
-    Ok(Text::new(alloc, bytes, 500)?)
+pub fn text<const N: usize>(bytes: &[u8]) -> Result<Text<N>, Fail>
+    requires { N ≤ 65535 }
+{
+    Ok(Text::new(bytes)?)
 }
 
 /// A text, and a number in decimal with leading zeros in so many places.
-fn numbered(alloc: Global, text: &[u8], places: u32, number: u32) -> Result<Text, Fail> {
+fn numbered<const N: usize>(alloc: Global, text: &[u8], places: u32, number: u32) -> Result<Text<N>, Fail>
+    requires { N ≤ 65535 }
+{
     let mut bytes = Vec::from_slice(alloc, text)?;
     for place in 0..places {
         let power = 10u32.saturating_pow(places.saturating_sub(place).saturating_sub(1));
         bytes.push(b'0' + (number / power.max(1) % 10) as u8)?;
     }
-    Ok(Text::new(alloc, bytes.as_slice(), 500)?)
+    Ok(Text::new(bytes.as_slice())?)
 }
 
-fn address(alloc: Global) -> Result<Address, Fail> {
+fn address() -> Result<Address, Fail> {
     Ok(Address {
-        street_1: text(alloc, b"MAINSTREET".as_slice())?,
-        street_2: text(alloc, b"SIDESTREET".as_slice())?,
-        city: text(alloc, b"CITYCENTRE".as_slice())?,
-        state: text(alloc, b"AB".as_slice())?,
-        zip: text(alloc, b"000111111".as_slice())?,
+        street_1: text(b"MAINSTREET".as_slice())?,
+        street_2: text(b"SIDESTREET".as_slice())?,
+        city: text(b"CITYCENTRE".as_slice())?,
+        state: text(b"AB".as_slice())?,
+        zip: text(b"000111111".as_slice())?,
     })
 }
 
@@ -45,7 +51,7 @@ pub fn warehouse(alloc: Global, id: u32) -> Result<Row, Fail> {
     Ok(Row::Warehouse(WarehouseRow {
         id,
         name: numbered(alloc, b"WARE".as_slice(), 3, id)?,
-        address: address(alloc)?,
+        address: address()?,
         tax: Rate::new(1000),
         ytd: Cents::new(100_000),
     }))
@@ -56,7 +62,7 @@ pub fn district(alloc: Global, next_order: u32) -> Result<Row, Fail> {
         id: 1,
         warehouse: 1,
         name: numbered(alloc, b"DIST".as_slice(), 2, 1)?,
-        address: address(alloc)?,
+        address: address()?,
         tax: Rate::new(100),
         ytd: Cents::new(10_000),
         next_order,
@@ -77,19 +83,19 @@ pub fn customer(alloc: Global, id: u32) -> Result<Row, Fail> {
         district: 1,
         warehouse: 1,
         first: numbered(alloc, b"FIRST".as_slice(), 4, 9999u32.saturating_sub(id))?,
-        middle: text(alloc, b"OE".as_slice())?,
-        last: text(alloc, last_name(id))?,
-        address: address(alloc)?,
+        middle: text(b"OE".as_slice())?,
+        last: text(last_name(id))?,
+        address: address()?,
         phone: numbered(alloc, b"000000000000".as_slice(), 4, id)?,
         since: Moment::new(0),
-        credit: text(alloc, b"GC".as_slice())?,
+        credit: text(b"GC".as_slice())?,
         credit_limit: Cents::new(5_000_000),
         discount: Rate::new(0),
         balance: Cents::new(-1000),
         ytd_payment: Cents::new(1000),
         payment_count: 1,
         delivery_count: 0,
-        information: text(alloc, b"".as_slice())?,
+        information: text(b"".as_slice())?,
     }))
 }
 
@@ -128,7 +134,7 @@ pub fn line(
         delivered: if waits { None } else { Some(Moment::new(0)) },
         quantity: 5,
         amount: Cents::new(if waits { i64::from(number) * 100 } else { 0 }),
-        district_information: text(alloc, b"dddddddddddddddddddddd01".as_slice())?,
+        district_information: text(b"dddddddddddddddddddddd01".as_slice())?,
     }))
 }
 
@@ -138,7 +144,7 @@ pub fn item(alloc: Global, id: u32) -> Result<Row, Fail> {
         image: id,
         name: numbered(alloc, b"ITEMNAME".as_slice(), 6, id)?,
         price: Cents::new(99 + i64::from(id)),
-        information: text(alloc, b"iiiiiiiiiiiiiiiiiiiiiiiiii".as_slice())?,
+        information: text(b"iiiiiiiiiiiiiiiiiiiiiiiiii".as_slice())?,
     }))
 }
 
@@ -163,7 +169,7 @@ pub fn stock(alloc: Global, warehouse: u32, item: u32, quantity: u32) -> Result<
         ytd: 0,
         order_count: 0,
         remote_count: 0,
-        information: text(alloc, b"ssssssssssssssssssssssssss".as_slice())?,
+        information: text(b"ssssssssssssssssssssssssss".as_slice())?,
     }))
 }
 

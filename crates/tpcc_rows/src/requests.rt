@@ -7,6 +7,7 @@ ghost use Rattle.tpcc_rows.specs.Moments.{has_moment_in_range};
 ghost use Rattle.tpcc_rows.specs.Replay.{paid_by_request};
 ghost use Rattle.std.specs.Cmp.Lexicographic.{pointwise, lists_equiv, lists_per};
 
+use crate::few::Blank;
 use crate::text::Text;
 use std::marker::Model;
 use tpcc_money::{Cents, Moment, NoMemory};
@@ -27,6 +28,18 @@ pub struct Line {
     pub supply: u32,
     /// OL_QUANTITY, 1 to 10.
     pub quantity: u32,
+}
+
+impl Blank for Line {
+    ghost blank = { record { item = 0; supply = 0; quantity = 0 } };
+
+    fn blank() -> Self {
+        Line {
+            item: 0,
+            supply: 0,
+            quantity: 0,
+        }
+    }
 }
 
 /// The lines of a new order, seen as their list.

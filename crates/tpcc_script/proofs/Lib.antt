@@ -8,3 +8,4 @@ pub mod Parting
 pub mod Ordering
 pub mod EmptyBook
 pub mod Sessions
+pub mod Names

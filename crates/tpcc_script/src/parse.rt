@@ -14,7 +14,7 @@ use tpcc_money::NoMemory;
 use tpcc_rows::{Line, Lines, Order, Payment, Request, StatusQuery, StockQuery, Ticket};
 
 #[tactic(auto, unfolding(crate::specs::Script::payment_of))]
-fn payment(alloc: Global, words: &[&[u8]]) -> Result<Request, ParseFault>
+fn payment(words: &[&[u8]]) -> Result<Request, ParseFault>
     ensures { Gives (λ r. r) result (payment_of (map (λ w. w.now) words.now)) }
 {
     let [w, d, c_w, c_d, c, h, at] = words else {
@@ -24,7 +24,7 @@ fn payment(alloc: Global, words: &[&[u8]]) -> Result<Request, ParseFault>
     let district = number(d)?;
     let customer_warehouse = number(c_w)?;
     let customer_district = number(c_d)?;
-    let who = customer(alloc, c)?;
+    let who = customer(c)?;
     let amount = amount(h)?;
     let moment = moment(at)?;
     Ok(Request::Payment(Payment {
@@ -56,7 +56,7 @@ fn stock(words: &[&[u8]]) -> Result<Request, ParseFault>
 }
 
 #[tactic(auto, unfolding(crate::specs::Script::status_of))]
-fn status(alloc: Global, words: &[&[u8]]) -> Result<Request, ParseFault>
+fn status(words: &[&[u8]]) -> Result<Request, ParseFault>
     ensures { Gives (λ r. r) result (status_of (map (λ w. w.now) words.now)) }
 {
     let [w, d, c] = words else {
@@ -64,7 +64,7 @@ fn status(alloc: Global, words: &[&[u8]]) -> Result<Request, ParseFault>
     };
     let warehouse = number(w)?;
     let district = number(d)?;
-    let who = customer(alloc, c)?;
+    let who = customer(c)?;
     Ok(Request::Status(StatusQuery {
         warehouse,
         district,
@@ -191,9 +191,9 @@ fn call(alloc: Global, words: &[&[u8]]) -> Result<Call, ParseFault>
     if is_word(name, b"new-order") {
         ask(order(alloc, words))
     } else if is_word(name, b"payment") {
-        ask(payment(alloc, words))
+        ask(payment(words))
     } else if is_word(name, b"status") {
-        ask(status(alloc, words))
+        ask(status(words))
     } else if is_word(name, b"stock") {
         ask(stock(words))
     } else if is_word(name, b"delivery") {

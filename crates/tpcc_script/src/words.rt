@@ -103,14 +103,11 @@ fn is_last_name(word: &[u8]) -> bool
     0 < word.len() && word.len() <= 16 && are_capitals(word)
 }
 
-pub fn customer(alloc: Global, word: &[u8]) -> Result<Who, ParseFault>
+pub fn customer(word: &[u8]) -> Result<Who, ParseFault>
     ensures { Gives (λ w. w) result (customer_of word.now) }
 {
     if is_last_name(word) {
-        return match Text::new(alloc, word, 16) {
-            Ok(name) => Ok(Who::Name(name)),
-            Err(_) => Err(ParseFault::NoMemory),
-        };
+        return Ok(Who::Name(Text::of(word)));
     }
     let number = number(word)?;
     Ok(Who::Number(number))

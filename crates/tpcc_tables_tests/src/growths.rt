@@ -22,18 +22,17 @@ fn small_opening(rt: &(impl Abort + AllocGlobal)) -> Tables {
 fn of_a_payment(rt: HostRuntime) {
     let mut tables = small_opening(&rt);
     let payment = payment(Who::Name(text(&rt, b"BARBARBAR")), 100);
-    let reply = match pay(rt.alloc(), &mut tables, &payment) {
+    let reply = match pay(&mut tables, &payment) {
         Ok(reply) => reply,
         Err(refusal) => {
             assert_eq!(rt; refusal, Refusal::NoMemory);
             assert_eq!(rt; tables.count(Table::History), 0);
             let customer = tables.customer(1, 1, 10).expect(&rt, "customer");
             assert_eq!(rt; customer.balance, Cents::new(-1000));
-            pay(rt.alloc(), &mut tables, &payment).expect(&rt, "the payment again")
+            pay(&mut tables, &payment).expect(&rt, "the payment again")
         }
     };
     assert_eq!(rt; reply.balance, Cents::new(-1100));
     // In one step of the proof: at the end of the scope each text of the reply would be several.
-    drop(reply);
     assert_eq!(rt; tables.count(Table::History), 1);
 }

@@ -1,5 +1,7 @@
 //! Rows of the plain opening for one warehouse, one district, ten customers and fifty items. Want of memory ends the
 //! test at once: an `Err` in its place would let go of half a row on a path of its own, and each such path is proved.
+ghost use Rattle.std.specs.Prelude.{◌≤◌};
+
 use std::alloc::AllocGlobal;
 use std::process::Abort;
 use tpcc_money::{Cents, Moment, Rate};
@@ -9,18 +11,34 @@ use tpcc_rows::{
 };
 use tpcc_tables::{LoadFault, Tables};
 
-pub fn text(rt: &(impl Abort + AllocGlobal), bytes: &[u8]) -> Text {
-    Text::new(rt.alloc(), bytes, bytes.len()).expect(rt, "a text")
+pub fn text<const N: usize>(rt: &impl Abort, bytes: &[u8]) -> Text<N>
+    requires { N ≤ 65535 }
+{
+    Text::new(bytes).expect(rt, "a text")
 }
 
 /// A prefix and a number in decimal with leading zeros in so many places.
-fn numbered(rt: &(impl Abort + AllocGlobal), prefix: &str, places: usize, number: u32) -> Text {
+fn numbered<const N: usize>(
+    rt: &(impl Abort + AllocGlobal),
+    prefix: &str,
+    places: usize,
+    number: u32,
+) -> Text<N>
+    requires { N ≤ 65535 }
+{
     let padded = format!(in rt.alloc(); "{prefix}{number:0places$}");
     text(rt, padded.expect(rt, "a number").as_bytes())
 }
 
 /// So many times one letter, behind a text.
-fn repeated(rt: &(impl Abort + AllocGlobal), front: &[u8], letter: u8, times: u32) -> Text {
+fn repeated<const N: usize>(
+    rt: &(impl Abort + AllocGlobal),
+    front: &[u8],
+    letter: u8,
+    times: u32,
+) -> Text<N>
+    requires { N ≤ 65535 }
+{
     let mut bytes = Vec::from_slice(rt.alloc(), front).expect(rt, "the front");
     for _ in 0..times {
         bytes.push(letter).expect(rt, "a letter");
@@ -166,7 +184,7 @@ pub fn item(rt: &(impl Abort + AllocGlobal), id: u32) -> Row {
 }
 
 /// S_DIST_01 to S_DIST_10.
-fn district_texts(rt: &(impl Abort + AllocGlobal)) -> [Text; 10] {
+fn district_texts(rt: &(impl Abort + AllocGlobal)) -> [Text<24>; 10] {
     [
         repeated(rt, b"01", b'd', 22),
         repeated(rt, b"02", b'd', 22),

@@ -1,5 +1,4 @@
-//! Payments on the opening. A test lets a reply go by `drop`, which is one step of its proof: at the end of the scope
-//! each text of the reply would be several.
+//! Payments on the opening.
 use crate::opening::{opened, text};
 use std::alloc::AllocGlobal;
 use std::process::Abort;
@@ -27,11 +26,11 @@ fn paid(
     payment: &Payment,
 ) -> Result<Paid, Refusal> {
     let before = tables.count(Table::History);
-    match pay(rt.alloc(), tables, payment) {
+    match pay(tables, payment) {
         Ok(reply) => Ok(reply),
         Err(Refusal::NoMemory) => {
             assert_eq!(rt; tables.count(Table::History), before);
-            pay(rt.alloc(), tables, payment)
+            pay(tables, payment)
         }
         Err(refusal) => Err(refusal),
     }
@@ -73,7 +72,6 @@ fn by_number(rt: HostRuntime) {
     let mut tables = opened(&rt, 10_000);
     let reply = paid(&rt, &mut tables, &payment(Who::Number(1), 100)).expect(&rt, "a payment");
     shows_customer(&rt, &reply, 1, b"FIRST9998", Rate::new(100));
-    drop(reply);
     assert_eq!(rt; warehouse_total(&rt, &tables), Cents::new(100_100));
     assert_eq!(rt; district_total(&rt, &tables), Cents::new(10_100));
     assert_eq!(rt; balance(&rt, &tables), Cents::new(-1100));
@@ -114,7 +112,6 @@ fn by_last_name(rt: HostRuntime) {
     let name = Who::Name(text(&rt, b"BARBARBAR"));
     let reply = paid(&rt, &mut tables, &payment(name, 100)).expect(&rt, "a payment");
     shows_customer(&rt, &reply, 7, b"FIRST9992", Rate::new(700));
-    drop(reply);
     let nobody = Who::Name(text(&rt, b"EINGEINGEING"));
     let request = payment(nobody, 100);
     assert_eq!(rt;
@@ -160,7 +157,6 @@ fn of_bad_credit(rt: HostRuntime) {
     assert_eq!(rt; last.balance, Cents::new(-2300));
     let notes = noted(&rt, 13, 292);
     shows_notes(&rt, &last, notes.as_slice());
-    drop(last);
     keeps_notes(&rt, &tables, notes.as_slice());
 }
 

@@ -3,29 +3,32 @@ ghost use Rattle.std.specs.Prelude.{◌≡◌, ◌<◌, IfOk, OnErr, OnOk, lengt
 ghost use Rattle.tpcc_draws.specs.Draws.{answers};
 ghost use Rattle.tpcc_terminal.specs.Terminals.{undealt, dealt};
 
-use std::alloc::Global;
 use tpcc_draws::{Card, Stream};
 use tpcc_money::NoMemory;
 
 #[tactic(auto, using(crate::proofs::Decks::some_cards))]
 // Shuffles a new deck where no card is left.
-fn renew(alloc: Global, cards: &mut Vec<Card>, stream: &mut Stream) -> Result<(), NoMemory>
+fn renew(cards: &mut Vec<Card>, stream: &mut Stream) -> Result<(), NoMemory>
     ensures renewed { OnOk result ((cards.new.items, answers stream.new) ≡ undealt cards.old.items (answers stream.old)) }
     ensures some { OnOk result (0 < length cards.new.items) }
     ensures refused { OnErr result ((cards.new ≡ cards.old) × (stream.new ≡ stream.old)) }
 {
-    if cards.is_empty() {
-        *cards = stream.deck(alloc)?;
+    if !cards.is_empty() {
+        return Ok(());
     }
+    if cards.reserve(23).is_err() {
+        return Err(NoMemory);
+    }
+    cards.extend_from_slice(&stream.deck()).unwrap();
     Ok(())
 }
 
 /// The next card of the deck, or the first one of a new deck. Refused only for want of memory,
 /// with cards and stream as they were.
-pub fn deal(alloc: Global, cards: &mut Vec<Card>, stream: &mut Stream) -> Result<Card, NoMemory>
+pub fn deal(cards: &mut Vec<Card>, stream: &mut Stream) -> Result<Card, NoMemory>
     ensures dealt { IfOk result (λ card. (card, cards.new.items, answers stream.new) ≡ dealt cards.old.items (answers stream.old)) }
     ensures refused { OnErr result ((cards.new ≡ cards.old) × (stream.new ≡ stream.old)) }
 {
-    renew(alloc, cards, stream)?;
+    renew(cards, stream)?;
     Ok(cards.remove(0))
 }

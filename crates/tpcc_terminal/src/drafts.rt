@@ -7,7 +7,9 @@ use std::alloc::Global;
 use std::marker::Model;
 use tpcc_draws::last_name;
 use tpcc_money::{Cents, Moment, NoMemory};
-use tpcc_rows::{Lines, Order, Payment, Request, StatusQuery, StockQuery, Ticket, Who};
+use tpcc_rows::{
+    Few, Line, Lines, Order, Payment, Request, StatusQuery, StockQuery, Ticket, Who,
+};
 
 /// The number of a last name (4.3.2.3), 0 to 999, seen as that number.
 #[derive(Clone, Copy)]
@@ -52,22 +54,22 @@ pub enum DrawnCustomer {
 }
 
 impl DrawnCustomer {
-    fn who(self, alloc: Global) -> Result<Who, NoMemory>
-        ensures who { IfOk result (λ who. who ≡ who_of self) }
+    fn who(self) -> Who
+        ensures who { result ≡ who_of self }
     {
         match self {
-            DrawnCustomer::Name(name) => Ok(Who::Name(last_name(alloc, name.get())?)),
-            DrawnCustomer::Number(number) => Ok(Who::Number(number)),
+            DrawnCustomer::Name(name) => Who::Name(last_name(name.get())),
+            DrawnCustomer::Number(number) => Who::Number(number),
         }
     }
 }
 
 /// Of a New-Order (2.4.1).
-#[derive(Drop)]
+#[derive(Clone, Copy)]
 pub struct OrderDraft {
     pub district: u32,
     pub customer: u32,
-    pub lines: Lines,
+    pub lines: Few<Line, 15>,
 }
 
 /// Of a Payment (2.5.1): the district that is paid, the one of the customer who pays, and H_AMOUNT in cents.
@@ -88,7 +90,7 @@ pub struct StatusDraft {
 }
 
 /// Of any card: a Delivery draws its carrier (2.7.1.2), a Stock-Level its threshold (2.8.1.2).
-#[derive(Drop)]
+#[derive(Clone, Copy)]
 pub enum Draft {
     NewOrder(OrderDraft),
     Payment(PaymentDraft),
@@ -98,17 +100,18 @@ pub enum Draft {
 }
 
 impl Draft {
-    /// The request of a terminal at home there, at that moment. Refused only for want of memory.
+    /// The request of a terminal at home there, at that moment. Refused only for want of memory, which
+    /// the lines of a New-Order alone take.
     pub fn request(&self, alloc: Global, home: Home, moment: Moment) -> Result<Request, NoMemory>
         ensures request { IfOk result (λ request. request ≡ request_of home moment self.now) }
     {
         match self {
-            Draft::NewOrder(order) => Ok(Request::NewOrder(order.request(home, moment)?)),
-            Draft::Payment(payment) => Ok(Request::Payment(payment.request(alloc, home, moment)?)),
+            Draft::NewOrder(order) => Ok(Request::NewOrder(order.request(alloc, home, moment)?)),
+            Draft::Payment(payment) => Ok(Request::Payment(payment.request(home, moment))),
             Draft::OrderStatus(status) => Ok(Request::Status(StatusQuery {
                 warehouse: home.warehouse,
                 district: status.district,
-                who: status.customer.who(alloc)?,
+                who: status.customer.who(),
             })),
             Draft::Delivery(carrier) => Ok(Request::Delivery(Ticket {
                 warehouse: home.warehouse,
@@ -125,33 +128,34 @@ impl Draft {
 }
 
 impl OrderDraft {
-    fn request(&self, home: Home, moment: Moment) -> Result<Order, NoMemory>
+    fn request(&self, alloc: Global, home: Home, moment: Moment) -> Result<Order, NoMemory>
         ensures order { IfOk result (λ order. order ≡ order_of home moment self.now) }
     {
-        let lines = self.lines.duplicate()?;
-        Ok(Order {
-            warehouse: home.warehouse,
-            district: self.district,
-            customer: self.customer,
-            moment,
-            lines,
-        })
+        match Vec::from_slice(alloc, self.lines.as_slice()) {
+            Ok(lines) => Ok(Order {
+                warehouse: home.warehouse,
+                district: self.district,
+                customer: self.customer,
+                moment,
+                lines: Lines::new(lines),
+            }),
+            Err(_) => Err(NoMemory),
+        }
     }
 }
 
 impl PaymentDraft {
-    fn request(&self, alloc: Global, home: Home, moment: Moment) -> Result<Payment, NoMemory>
-        ensures payment { IfOk result (λ payment. payment ≡ payment_of home moment self.now) }
+    fn request(&self, home: Home, moment: Moment) -> Payment
+        ensures payment { result ≡ payment_of home moment self.now }
     {
-        let who = self.customer.who(alloc)?;
-        Ok(Payment {
+        Payment {
             warehouse: home.warehouse,
             district: self.district,
             customer_warehouse: self.customer_warehouse,
             customer_district: self.customer_district,
-            who,
+            who: self.customer.who(),
             amount: Cents::new(i64::from(self.cents)),
             moment,
-        })
+        }
     }
 }

@@ -1,12 +1,12 @@
 //! The draws of each card, in their order.
-ghost use Rattle.std.specs.Prelude.{◌≡◌, ◌+◌, ◌==◌, ◌&&◌, [], ◌<◌, ◌≤◌, vec_capacity};
+ghost use Rattle.std.specs.Prelude.{◌≡◌, ◌+◌, ◌==◌, ◌&&◌, ◌<◌, ◌≤◌};
 ghost use Rattle.tpcc_draws.specs.Draws.{answers};
 ghost use Rattle.tpcc_terminal.specs.Cards.{other_warehouse, supplier, drawn_line, drawn_lines, drawn_customer, payer, drawn_order, drawn_payment, drawn_status, drawn};
 
 use crate::drafts::{Draft, DrawnCustomer, NameNumber, OrderDraft, PaymentDraft, StatusDraft};
 use crate::home::Home;
 use tpcc_draws::{Card, Stream};
-use tpcc_rows::{DistrictKey, Line, Lines};
+use tpcc_rows::{DistrictKey, Few, Line};
 
 #[tactic(auto, unfolding(crate::specs::Cards::other_warehouse))]
 fn other_warehouse(stream: &mut Stream, home: &Home) -> u32
@@ -56,31 +56,27 @@ fn is_last(number: u32, count: u32, is_unused: bool) -> bool
     is_unused && number + 1 == count
 }
 
-fn lines(stream: &mut Stream, home: &Home, count: u32, is_unused: bool, room: Vec<Line>) -> Lines
+fn lines(stream: &mut Stream, home: &Home, count: u32, is_unused: bool) -> Few<Line, 15>
     requires few { count ≤ 15 }
-    requires empty { room.items ≡ [] }
-    requires room { 15 ≤ vec_capacity room }
     ensures drawn { (result, answers stream.new) ≡ drawn_lines home.now count is_unused count (answers stream.old) }
 {
-    let mut lines = room;
+    let mut lines = Few::empty();
     for number in 0..count {
         let line = line(stream, home, is_last(number, count, is_unused));
-        lines.push(line).unwrap();
+        lines.push(line);
     }
-    Lines::new(lines)
+    lines
 }
 
 #[tactic(auto, unfolding(crate::specs::Cards::drawn_order))]
-fn order(stream: &mut Stream, home: &Home, room: Vec<Line>) -> OrderDraft
-    requires empty { room.items ≡ [] }
-    requires room { 15 ≤ vec_capacity room }
+fn order(stream: &mut Stream, home: &Home) -> OrderDraft
     ensures drawn { (result, answers stream.new) ≡ drawn_order home.now (answers stream.old) }
 {
     let district = stream.between(1, 10);
     let customer = stream.nurand(1023, 259, 1, home.scale.customers());
     let count = stream.between(5, 15);
     let percent = stream.between(1, 100);
-    let lines = lines(stream, home, count, percent == 1, room);
+    let lines = lines(stream, home, count, percent == 1);
     OrderDraft {
         district,
         customer,
@@ -145,15 +141,13 @@ fn status(stream: &mut Stream, home: &Home) -> StatusDraft
     StatusDraft { district, customer }
 }
 
-/// The draws of a card, with room for the lines of an order; takes no memory.
+/// The draws of a card.
 #[tactic(auto, unfolding(crate::specs::Cards::drawn))]
-pub fn draw(stream: &mut Stream, home: &Home, card: Card, room: Vec<Line>) -> Draft
-    requires empty { room.items ≡ [] }
-    requires room { 15 ≤ vec_capacity room }
+pub fn draw(stream: &mut Stream, home: &Home, card: Card) -> Draft
     ensures drawn { (result, answers stream.new) ≡ drawn home.now card (answers stream.old) }
 {
     match card {
-        Card::NewOrder => Draft::NewOrder(order(stream, home, room)),
+        Card::NewOrder => Draft::NewOrder(order(stream, home)),
         Card::Payment => Draft::Payment(payment(stream, home)),
         Card::OrderStatus => Draft::OrderStatus(status(stream, home)),
         Card::Delivery => Draft::Delivery(stream.between(1, 10)),

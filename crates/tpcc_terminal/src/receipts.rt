@@ -9,7 +9,7 @@ use tpcc_money::NoMemory;
 use tpcc_rows::{Reply, Request};
 
 /// What a terminal keeps of an accepted request, to be settled with the journal at the end.
-#[derive(Debug, Drop, PartialEq, Eq)]
+#[derive(Drop, PartialEq, Eq)]
 pub struct Receipt {
     /// The terminal of the purse that was handed in.
     pub terminal: u32,
@@ -74,13 +74,12 @@ pub(crate) fn keep<P: Numbered>(
         return Err(NoMemory);
     }
     let request = answer.request().duplicate()?;
-    let reply = reply.duplicate()?;
     receipts.push_reserved(Receipt {
         terminal: answer.purse().terminal(),
         number: answer.purse().entries().saturating_sub(1),
         place,
         request,
-        reply,
+        reply: *reply,
     });
     Ok(())
 }

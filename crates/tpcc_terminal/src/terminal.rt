@@ -1,5 +1,5 @@
 //! A terminal.
-ghost use Rattle.std.specs.Prelude.{◌≡◌, ◌≤◌, ◌++◌, [], IfOk, OnOk, OnErr, vec_capacity};
+ghost use Rattle.std.specs.Prelude.{◌≡◌, ◌≤◌, ◌++◌, IfOk, OnOk, OnErr};
 ghost use Rattle.tpcc_terminal.specs.Receipts.{receipts_of};
 ghost use Rattle.tpcc_terminal.specs.Terminals.{IsStarted, IsAsked};
 
@@ -14,7 +14,7 @@ use tpcc_book::Answer;
 use tpcc_draws::{Card, Stream};
 use tpcc_money::{Moment, NoMemory};
 use tpcc_population::Scale;
-use tpcc_rows::{Line, Request};
+use tpcc_rows::Request;
 
 /// One terminal: it asks what its cards say, and keeps receipts of what was accepted (5.2.4.2). The
 /// draws of the next card are made ahead, so that a refused [`Terminal::next`] has changed nothing.
@@ -49,10 +49,9 @@ impl Terminal {
     {
         let home = Home::of(number, scale);
         let mut stream = Stream::of(seed, 10, u64::from(number));
-        let room = line_room(alloc)?;
         let mut cards = Vec::new(alloc);
-        let card = deal(alloc, &mut cards, &mut stream)?;
-        let draft = draw(&mut stream, &home, card, room);
+        let card = deal(&mut cards, &mut stream)?;
+        let draft = draw(&mut stream, &home, card);
         Ok(Terminal {
             alloc,
             number,
@@ -71,10 +70,9 @@ impl Terminal {
         ensures refused { OnErr result (self.new ≡ self.old) }
     {
         let home = Home::of(self.number, self.scale);
-        let room = line_room(self.alloc)?;
         let request = self.draft.request(self.alloc, home, moment)?;
-        let card = deal(self.alloc, &mut self.cards, &mut self.stream)?;
-        self.draft = draw(&mut self.stream, &home, card, room);
+        let card = deal(&mut self.cards, &mut self.stream)?;
+        self.draft = draw(&mut self.stream, &home, card);
         Ok(request)
     }
 
@@ -92,16 +90,5 @@ impl Terminal {
         ensures receipts { result.items ≡ self.receipts }
     {
         self.receipts
-    }
-}
-
-// Room for the lines of any order.
-fn line_room(alloc: Global) -> Result<Vec<Line>, NoMemory>
-    ensures empty { IfOk result (λ room. room.items ≡ []) }
-    ensures room { IfOk result (λ room. 15 ≤ vec_capacity room) }
-{
-    match Vec::with_capacity(alloc, 15) {
-        Ok(room) => Ok(room),
-        Err(_) => Err(NoMemory),
     }
 }

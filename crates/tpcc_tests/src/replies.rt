@@ -1,20 +1,18 @@
 //! Replies built by hand, and the lists of their lines.
-use crate::rows::{address, full_name, text};
-use std::alloc::AllocGlobal;
-use std::process::Abort;
-use std::test::Fail;
+use crate::requests::ticket;
+use crate::rows::address;
 use tpcc_money::{Cents, Moment, Rate};
 use tpcc_rows::{
-    AcceptedOrder, Brand, EnteredLine, EnteredLines, LastOrder, Paid, RolledBackOrder, Status,
-    StatusLine, StatusLines,
+    AcceptedOrder, Brand, Delivery, DistrictDelivery, Entered, EnteredLine, EnteredLines,
+    LastOrder, Paid, Reply, RolledBackOrder, Status, StatusLine, StatusLines, Text,
 };
 
-fn entered_line(rt: &(impl Abort + AllocGlobal), number: u32) -> EnteredLine {
+fn entered_line(number: u32) -> EnteredLine {
     EnteredLine {
         number,
         supply: 1,
         item: 20,
-        name: text(rt, b"ITEMNAME000020"),
+        name: Text::of(b"ITEMNAME000020"),
         quantity: 10,
         stock: 20,
         brand: Brand::Original,
@@ -23,18 +21,20 @@ fn entered_line(rt: &(impl Abort + AllocGlobal), number: u32) -> EnteredLine {
     }
 }
 
-fn entered_lines(rt: &(impl Abort + AllocGlobal)) -> EnteredLines {
-    let lines = vec![in rt.alloc(); entered_line(rt, 1), entered_line(rt, 2)];
-    EnteredLines::new(lines.expect(rt, "two lines"))
+fn entered_lines() -> EnteredLines {
+    let mut lines = EnteredLines::empty();
+    lines.push(entered_line(1));
+    lines.push(entered_line(2));
+    lines
 }
 
-pub fn accepted(rt: &(impl Abort + AllocGlobal)) -> AcceptedOrder {
+pub fn accepted() -> AcceptedOrder {
     AcceptedOrder {
         warehouse: 1,
         district: 1,
         customer: 1,
-        last: text(rt, b"BARBARBAR"),
-        credit: text(rt, b"GC"),
+        last: Text::of(b"BARBARBAR"),
+        credit: Text::of(b"GC"),
         discount: Rate::new(100),
         order: 11,
         line_count: 2,
@@ -42,23 +42,22 @@ pub fn accepted(rt: &(impl Abort + AllocGlobal)) -> AcceptedOrder {
         district_tax: Rate::new(100),
         entry_date: Moment::new(0),
         total: Cents::new(5495),
-        lines: entered_lines(rt),
+        lines: entered_lines(),
     }
 }
 
-pub fn rolled_back(rt: &(impl Abort + AllocGlobal)) -> RolledBackOrder {
+pub fn rolled_back() -> RolledBackOrder {
     RolledBackOrder {
         warehouse: 1,
         district: 1,
         customer: 1,
-        last: text(rt, b"BARBARBAR"),
-        credit: text(rt, b"GC"),
+        last: Text::of(b"BARBARBAR"),
+        credit: Text::of(b"GC"),
         order: 11,
     }
 }
 
-pub fn paid(rt: &(impl Abort + AllocGlobal)) -> Paid {
-    let (first, middle, last) = full_name(rt, b"FIRST9989");
+pub fn paid() -> Paid {
     Paid {
         warehouse: 1,
         district: 1,
@@ -67,19 +66,19 @@ pub fn paid(rt: &(impl Abort + AllocGlobal)) -> Paid {
         customer: 10,
         amount: Cents::new(100),
         date: Moment::new(0),
-        warehouse_address: address(rt),
-        district_address: address(rt),
-        first,
-        middle,
-        last,
-        customer_address: address(rt),
-        phone: text(rt, b"0000000000000010"),
+        warehouse_address: address(),
+        district_address: address(),
+        first: Text::of(b"FIRST9989"),
+        middle: Text::of(b"OE"),
+        last: Text::of(b"BARBARBAR"),
+        customer_address: address(),
+        phone: Text::of(b"0000000000000010"),
         since: Moment::new(0),
-        credit: text(rt, b"BC"),
+        credit: Text::of(b"BC"),
         credit_limit: Cents::new(5_000_000),
         discount: Rate::new(1000),
         balance: Cents::new(-1100),
-        information: Some(text(rt, b"10 1 1 1 1 1.00 xxx")),
+        information: Some(Text::of(b"10 1 1 1 1 1.00 xxx")),
     }
 }
 
@@ -93,48 +92,77 @@ fn status_line(item: u32) -> StatusLine {
     }
 }
 
-pub fn status(rt: &(impl Abort + AllocGlobal)) -> Status {
-    let lines = Vec::from_array(rt.alloc(), [1, 2, 3, 4, 5].map(status_line));
-    let (first, middle, last) = full_name(rt, b"FIRST9998");
+pub fn status() -> Status {
     Status {
         warehouse: 1,
         district: 1,
         customer: 1,
-        first,
-        middle,
-        last,
+        first: Text::of(b"FIRST9998"),
+        middle: Text::of(b"OE"),
+        last: Text::of(b"BARBARBAR"),
         balance: Cents::new(-1000),
         order: Some(LastOrder {
             order: 1,
             entry_date: Moment::new(0),
             carrier: Some(1),
-            lines: StatusLines::new(lines.expect(rt, "five lines")),
+            lines: status_lines(),
         }),
     }
 }
 
+fn status_lines() -> StatusLines {
+    let mut lines = StatusLines::empty();
+    lines.push(status_line(5));
+    lines.push(status_line(1));
+    lines.push(status_line(5));
+    lines
+}
+
+fn district_delivery() -> DistrictDelivery {
+    DistrictDelivery {
+        ticket: ticket(),
+        at: Moment::new(120),
+        district: 1,
+        order: Some(8),
+    }
+}
+
+fn replies() -> [Reply; 6] {
+    [
+        Reply::Entered(Entered::Accepted(accepted())),
+        Reply::Entered(Entered::RolledBack(rolled_back())),
+        Reply::Paid(paid()),
+        Reply::Status(status()),
+        Reply::Queued(ticket()),
+        Reply::Delivery(Delivery::District(district_delivery())),
+    ]
+}
+
+/// A copy takes no memory, and replies are equal where all that they hold is.
 #[test]
-fn entered_lines_in_their_order(rt: HostRuntime) -> Result<(), Fail> {
-    let lines = entered_lines(&rt);
-    assert_eq!(rt; lines.as_slice().len(), 2);
+fn replies_equal_their_copies_alone(rt: HostRuntime) {
+    let copies = replies();
+    for (place, reply) in replies().iter().enumerate() {
+        for (other, copy) in copies.iter().enumerate() {
+            assert_eq!(rt; reply == copy, place == other);
+        }
+    }
+}
+
+#[test]
+fn entered_lines_in_their_order(rt: HostRuntime) {
+    let lines = entered_lines();
+    assert_eq!(rt; lines.len(), 2);
     for (line, number) in lines.as_slice().iter().zip([1u32, 2]) {
         assert_eq!(rt; line.number, number);
         assert_eq!(rt; line.name.bytes(), b"ITEMNAME000020".as_slice());
         assert_eq!(rt; line.amount, Cents::new(1190));
     }
-    Ok(())
 }
 
 #[test]
-fn status_lines_in_their_order(rt: HostRuntime) -> Result<(), Fail> {
-    let mut given = Vec::new(rt.alloc());
-    given.push(status_line(5))?;
-    given.push(status_line(1))?;
-    given.push(status_line(5))?;
-    let lines = StatusLines::new(given);
-    assert_eq!(rt;
-        lines.as_slice(),
-        [status_line(5), status_line(1), status_line(5)].as_slice()
-    );
-    Ok(())
+fn status_lines_in_their_order(rt: HostRuntime) {
+    let lines = status_lines();
+    let given = [status_line(5), status_line(1), status_line(5)];
+    assert!(rt; lines.as_slice() == given.as_slice());
 }

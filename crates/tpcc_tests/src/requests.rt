@@ -1,10 +1,9 @@
 //! Requests built by hand: their lines, and what each kind pays.
-use crate::rows::text;
 use std::alloc::AllocGlobal;
 use std::process::Abort;
 use std::test::Fail;
-use tpcc_money::{Cents, Moment};
-use tpcc_rows::{Line, Lines, Order, Payment, Request, StatusQuery, StockQuery, Ticket, Who};
+use tpcc_money::{Cents, Moment, NoMemory};
+use tpcc_rows::{Line, Lines, Order, Payment, Request, StatusQuery, StockQuery, Text, Ticket, Who};
 
 fn line(item: u32) -> Line {
     Line {
@@ -68,7 +67,7 @@ fn lines_in_their_order(rt: HostRuntime) -> Result<(), Fail> {
     given.push(line(26))?;
     given.push(line(20))?;
     let lines = Lines::new(given);
-    assert_eq!(rt; lines.as_slice(), [line(20), line(26), line(20)].as_slice());
+    assert!(rt; lines.as_slice() == [line(20), line(26), line(20)].as_slice());
     assert_eq!(rt; Lines::new(Vec::new(rt.alloc())).as_slice().len(), 0);
     Ok(())
 }
@@ -80,7 +79,7 @@ fn cents_paid(request: Request) -> i64 {
 
 #[test]
 fn a_payment_pays_its_amount(rt: HostRuntime) {
-    let name = Who::Name(text(&rt, b"BARBARBAR"));
+    let name = Who::Name(Text::of(b"BARBARBAR"));
     assert_eq!(rt; cents_paid(Request::Payment(payment(Who::Number(1)))), 100);
     assert_eq!(rt; cents_paid(Request::Payment(payment(name))), 100);
 }
@@ -92,4 +91,22 @@ fn other_requests_pay_nothing(rt: HostRuntime) {
     assert_eq!(rt; cents_paid(Request::Stock(stock_query())), 0);
     assert_eq!(rt; cents_paid(Request::Delivery(ticket())), 0);
     assert_eq!(rt; cents_paid(Request::Deliver(Moment::new(120))), 0);
+}
+
+/// Whether a copy of a request equals it.
+fn is_copied(source: Request) -> Result<bool, NoMemory> {
+    let copy = source.duplicate()?;
+    Ok(copy == source)
+}
+
+#[test]
+fn copies_equal_their_source(rt: HostRuntime) -> Result<(), Fail> {
+    let name = Who::Name(Text::of(b"BARBARBAR"));
+    assert!(rt; is_copied(Request::NewOrder(new_order_request(&rt)))?);
+    assert!(rt; is_copied(Request::Payment(payment(name)))?);
+    assert!(rt; is_copied(Request::Status(status_query()))?);
+    assert!(rt; is_copied(Request::Stock(stock_query()))?);
+    assert!(rt; is_copied(Request::Delivery(ticket()))?);
+    assert!(rt; is_copied(Request::Deliver(Moment::new(120)))?);
+    Ok(())
 }

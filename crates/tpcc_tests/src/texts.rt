@@ -1,39 +1,45 @@
-//! Texts: their faults in order, a copy that equals its source, and texts of bytes that are tested already.
-use std::test::Fail;
+//! Texts: their faults in order, and texts that grow.
+use std::process::Abort;
 use tpcc_rows::text::are_plain;
 use tpcc_rows::{Text, TextFault};
 
-#[test]
-fn faults_in_order(rt: HostRuntime) -> Result<(), Fail> {
-    let cases: [(&[u8], usize, Result<(), TextFault>); 8] = [
-        (b"", 0, Ok(())),
-        (b"x", 0, Err(TextFault::TooLong)),
-        (b"0123456789ABCDEF", 16, Ok(())),
-        (b"0123456789ABCDEFG", 16, Err(TextFault::TooLong)),
-        (b"a \x7e", 3, Ok(())),
-        (b"a\x1f", 3, Err(TextFault::NotAscii)),
-        (b"\x7f", 3, Err(TextFault::NotAscii)),
-        (b"\x7f\x7f\x7f\x7f", 3, Err(TextFault::TooLong)),
-    ];
-    for (bytes, bound, expected) in cases {
-        let text = Text::new(rt.alloc(), bytes, bound);
-        match text {
-            Ok(text) => {
-                assert_eq!(rt; expected, Ok(()));
-                assert_eq!(rt; text.bytes(), bytes);
-                assert_eq!(rt; text.len(), bytes.len());
-                assert_eq!(rt; text.is_empty(), bytes.is_empty());
-                let copy = text.duplicate()?;
-                assert!(rt; copy == text);
-            }
-            Err(fault) => assert_eq!(rt; expected, Err(fault)),
+/// Makes a text of at most three bytes and tells its fault, or that it is the bytes.
+fn of_three(rt: &impl Abort, bytes: &[u8]) -> Option<TextFault> {
+    match Text::<3>::new(bytes) {
+        Ok(text) => {
+            assert_eq!(rt; text.bytes(), bytes);
+            assert_eq!(rt; text.len(), bytes.len());
+            assert_eq!(rt; text.is_empty(), bytes.is_empty());
+            None
         }
+        Err(fault) => Some(fault),
     }
-    Ok(())
 }
 
 #[test]
-fn plain_bytes(rt: HostRuntime) -> Result<(), Fail> {
+fn faults_in_order(rt: HostRuntime) {
+    let cases: [(&[u8], Option<TextFault>); 7] = [
+        (b"", None),
+        (b"abc", None),
+        (b"a \x7e", None),
+        (b"abcd", Some(TextFault::TooLong)),
+        (b"a\x1f", Some(TextFault::NotAscii)),
+        (b"\x7f", Some(TextFault::NotAscii)),
+        (b"\x7f\x7f\x7f\x7f", Some(TextFault::TooLong)),
+    ];
+    for (bytes, expected) in cases {
+        assert_eq!(rt; of_three(&rt, bytes), expected);
+    }
+}
+
+#[test]
+fn no_byte_fits_in_none(rt: HostRuntime) {
+    assert!(rt; Text::<0>::new(b"").is_ok());
+    assert_eq!(rt; Text::<0>::new(b"x").err(), Some(TextFault::TooLong));
+}
+
+#[test]
+fn plain_bytes(rt: HostRuntime) {
     let cases: [(&[u8], bool); 7] = [
         (b"", true),
         (b" ", true),
@@ -46,18 +52,33 @@ fn plain_bytes(rt: HostRuntime) -> Result<(), Fail> {
     for (bytes, plain) in cases {
         assert_eq!(rt; are_plain(bytes), plain);
     }
-    Ok(())
 }
 
 #[test]
-fn of_bytes_that_are_plain(rt: HostRuntime) -> Result<(), Fail> {
-    let bytes = Vec::from_slice(rt.alloc(), b"BARBARBAR")?;
-    let plain = are_plain(bytes.as_slice());
-    assert!(rt; plain);
-    if plain {
-        let text = Text::of(bytes);
-        assert_eq!(rt; text.bytes(), b"BARBARBAR".as_slice());
-        assert_eq!(rt; text.len(), 9);
-    }
-    Ok(())
+fn a_text_grows_to_its_bound(rt: HostRuntime) {
+    let mut text = Text::<12>::empty();
+    text.extend(b"AB");
+    text.push(b'C');
+    text.extend_padded(3, 7);
+    assert_eq!(rt; text.bytes(), b"ABC007".as_slice());
+    text.fill(b"xyz");
+    text.fill(b"0123456789");
+    assert_eq!(rt; text.bytes(), b"ABC007xyz012".as_slice());
+}
+
+#[test]
+fn numbers_in_decimal(rt: HostRuntime) {
+    let mut text = Text::<30>::empty();
+    text.extend_number(0);
+    text.extend_number(4_294_967_295);
+    assert_eq!(rt; text.bytes(), b"04294967295".as_slice());
+}
+
+#[test]
+fn texts_are_equal_by_all_their_bytes(rt: HostRuntime) {
+    let one: Text<16> = Text::of(b"BAR");
+    let longer: Text<16> = Text::of(b"BARBAR");
+    let copy = one;
+    assert!(rt; one == copy);
+    assert!(rt; one != longer);
 }

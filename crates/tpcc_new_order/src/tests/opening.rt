@@ -1,4 +1,6 @@
 //! Rows of the plain opening: ten customers and a hundred items to a warehouse, and of them the few that orders name.
+ghost use Rattle.std.specs.Prelude.{◌≤◌};
+
 use std::alloc::Global;
 use std::test::Fail;
 use tpcc_money::{Cents, Moment, Rate};
@@ -8,31 +10,39 @@ use tpcc_rows::text::Text;
 use tpcc_tables::LoadFault;
 use tpcc_tables::tables::Tables;
 
-fn text(alloc: Global, bytes: &[u8]) -> Result<Text, Fail> {
-    Ok(Text::new(alloc, bytes, bytes.len())?)
+fn text<const N: usize>(bytes: &[u8]) -> Result<Text<N>, Fail>
+    requires { N ≤ 65535 }
+{
+    Ok(Text::new(bytes)?)
 }
 
 /// A text, and a number in decimal with leading zeros in so many places.
-fn numbered(alloc: Global, text: &[u8], places: u32, number: u32) -> Result<Text, Fail> {
+fn numbered<const N: usize>(alloc: Global, text: &[u8], places: u32, number: u32) -> Result<Text<N>, Fail>
+    requires { N ≤ 65535 }
+{
     let mut bytes = Vec::from_slice(alloc, text)?;
     for place in 0..places {
         let power = 10u32.saturating_pow(places.saturating_sub(place).saturating_sub(1));
         bytes.push(b'0' + (number / power.max(1) % 10) as u8)?;
     }
-    Ok(Text::new(alloc, bytes.as_slice(), 500)?)
+    Ok(Text::new(bytes.as_slice())?)
 }
 
 /// So many times one letter, behind a text.
-fn repeated(alloc: Global, text: &[u8], letter: u8, times: u32) -> Result<Text, Fail> {
+fn repeated<const N: usize>(alloc: Global, text: &[u8], letter: u8, times: u32) -> Result<Text<N>, Fail>
+    requires { N ≤ 65535 }
+{
     let mut bytes = Vec::from_slice(alloc, text)?;
     for _ in 0..times {
         bytes.push(letter)?;
     }
-    Ok(Text::new(alloc, bytes.as_slice(), 500)?)
+    Ok(Text::new(bytes.as_slice())?)
 }
 
 /// 26 bytes, with ORIGINAL at the left or without.
-fn information(alloc: Global, letter: u8, is_original: bool) -> Result<Text, Fail> {
+fn information<const N: usize>(alloc: Global, letter: u8, is_original: bool) -> Result<Text<N>, Fail>
+    requires { N ≤ 65535 }
+{
     if is_original {
         repeated(alloc, b"ORIGINAL".as_slice(), letter, 18)
     } else {
@@ -40,12 +50,12 @@ fn information(alloc: Global, letter: u8, is_original: bool) -> Result<Text, Fai
     }
 }
 
-fn address(alloc: Global) -> Result<Address, Fail> {
-    let street_1 = text(alloc, b"MAINSTREET".as_slice())?;
-    let street_2 = text(alloc, b"SIDESTREET".as_slice())?;
-    let city = text(alloc, b"CITYCENTRE".as_slice())?;
-    let state = text(alloc, b"AB".as_slice())?;
-    let zip = text(alloc, b"000111111".as_slice())?;
+fn address() -> Result<Address, Fail> {
+    let street_1 = text(b"MAINSTREET".as_slice())?;
+    let street_2 = text(b"SIDESTREET".as_slice())?;
+    let city = text(b"CITYCENTRE".as_slice())?;
+    let state = text(b"AB".as_slice())?;
+    let zip = text(b"000111111".as_slice())?;
     Ok(Address {
         street_1,
         street_2,
@@ -57,7 +67,7 @@ fn address(alloc: Global) -> Result<Address, Fail> {
 
 fn warehouse(alloc: Global, id: u32) -> Result<Row, Fail> {
     let name = numbered(alloc, b"WARE".as_slice(), 3, id)?;
-    let address = address(alloc)?;
+    let address = address()?;
     Ok(Row::Warehouse(WarehouseRow {
         id,
         name,
@@ -68,8 +78,8 @@ fn warehouse(alloc: Global, id: u32) -> Result<Row, Fail> {
 }
 
 fn district(alloc: Global, next_order: u32) -> Result<Row, Fail> {
-    let name = text(alloc, b"DIST01".as_slice())?;
-    let address = address(alloc)?;
+    let name = text(b"DIST01".as_slice())?;
+    let address = address()?;
     Ok(Row::District(DistrictRow {
         id: 1,
         warehouse: 1,
@@ -82,12 +92,12 @@ fn district(alloc: Global, next_order: u32) -> Result<Row, Fail> {
 }
 
 fn customer(alloc: Global) -> Result<Row, Fail> {
-    let first = text(alloc, b"FIRST9998".as_slice())?;
-    let middle = text(alloc, b"OE".as_slice())?;
-    let last = text(alloc, b"BARBARBAR".as_slice())?;
-    let address = address(alloc)?;
-    let phone = text(alloc, b"0000000000000001".as_slice())?;
-    let credit = text(alloc, b"GC".as_slice())?;
+    let first = text(b"FIRST9998".as_slice())?;
+    let middle = text(b"OE".as_slice())?;
+    let last = text(b"BARBARBAR".as_slice())?;
+    let address = address()?;
+    let phone = text(b"0000000000000001".as_slice())?;
+    let credit = text(b"GC".as_slice())?;
     let information = repeated(alloc, b"".as_slice(), b'x', 300)?;
     Ok(Row::Customer(CustomerRow {
         id: 1,
@@ -122,7 +132,7 @@ fn item(alloc: Global, id: u32) -> Result<Row, Fail> {
     }))
 }
 
-fn district_texts(alloc: Global) -> Result<[Text; 10], Fail> {
+fn district_texts(alloc: Global) -> Result<[Text<24>; 10], Fail> {
     let d1 = repeated(alloc, b"01".as_slice(), b'd', 22)?;
     let d2 = repeated(alloc, b"02".as_slice(), b'd', 22)?;
     let d3 = repeated(alloc, b"03".as_slice(), b'd', 22)?;
