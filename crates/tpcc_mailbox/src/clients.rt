@@ -42,12 +42,16 @@ impl<J, A: Answers<J>> Mailboxes<J, A> {
         ensures mailbox { IfOk result (λ r. idle_mailbox r.0 ≡ waiting_mailbox waiting) }
         ensures closed { IfOk result (λ r. idle_saw_closed r.0 ≡ waiting_saw_closed waiting) }
     {
+        let shared = &self.table.shared;
+        // A plain load first: a failed exchange would take the cache line from the server at work.
+        if shared.peek(waiting.mailbox) != 3 {
+            return Err(waiting);
+        }
         let Waiting {
             mut seat,
             mailbox,
             letter,
         } = waiting;
-        let shared = &self.table.shared;
         if shared.compare_exchange::<Collecting>(&mut seat, mailbox, 3, 0) != 3 {
             return Err(Waiting {
                 seat,

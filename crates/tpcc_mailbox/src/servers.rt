@@ -27,6 +27,10 @@ impl<J, A: Answers<J>> Mailboxes<J, A> {
             return None;
         }
         let shared = &self.table.shared;
+        // A plain load first: a failed exchange would take the cache line from the client or the server there.
+        if shared.peek(k) != 1 {
+            return None;
+        }
         if shared.compare_exchange::<Taking>(&mut serving.seat, k, 1, 2) != 1 {
             return None;
         }
