@@ -1,5 +1,5 @@
 -- The rule of the table: what each mailbox is in, and what each seat knows of it. Words: 0 free, 1 posted, 2 taken, 3 answered.
-use Rattle.std.specs.Prelude.{◌≡◌, ℕ, ◌+◌, ◌-◌, ◌^◌, ◌<◌, ◌≤◌, Bool, true, false, List, [], ◌∷◌, ◌++◌, map, length, slice_index, Option, Some, None}
+use Rattle.std.specs.Prelude.{◌≡◌, ℕ, ◌+◌, ◌-◌, ◌*◌, ◌^◌, ◌<◌, ◌≤◌, Bool, true, false, List, [], ◌∷◌, ◌++◌, map, length, slice_index, Option, Some, None}
 use mathlib.Core.Option.{some}
 use mathlib.Core.Option as maybe
 use lib.ListN.{get_elem?}
@@ -16,6 +16,15 @@ use Rattle.tpcc_mailbox.specs.declared.rule.View.{View}
 -- what get_elem? finds of a slot: no slot, a slot that is out, or one that is at identity
 abbrev pub Found : Type 0 → Type 0 → Type 0
 Found J A = maybe.Option (maybe.Option (Option (Mail J A)))
+
+-- Where the word of a mailbox stands in the table's block, and behind the last mailbox the closed flag. One word in 16
+-- is used: so no two share a cache line or a pair of lines, and none shares one with what lies beside the block.
+abbrev pub word_of : ℕ → ℕ
+word_of k = 16 * k + 8
+
+-- how many words the block of n mailboxes has
+abbrev pub words_of : ℕ → ℕ
+words_of n = 16 * (n + 1)
 
 module _ {J : Type 0} where
   -- the view of a seat of one role
@@ -125,7 +134,7 @@ module _ {J : Type 0} (n : ℕ) (words : List ℕ) (phase : ℕ → Phase J) (cl
   Knows i q (Opening m) = (k : ℕ) → m ≤ k → k < n → (phase k ≡ Fresh) × (client k ≡ i)
   Knows i q (Client k p) = k < n → (phase k ≡ p) × (client k ≡ i) × (place k ≡ q)
   Knows i q (Server d) = Unit {0}
-  Knows i q (Holder d k j) = (k < n) × (phase k ≡ Sent j) × (slice_index words k ≡ 2) × (server k ≡ i)
+  Knows i q (Holder d k j) = (k < n) × (phase k ≡ Sent j) × (slice_index words (word_of k) ≡ 2) × (server k ≡ i)
 
 module _ {J : Type 0} where
   -- some role of the seat i holds the letter of mailbox k
@@ -173,15 +182,15 @@ pub record Ruled {J A : Type 0} (fits : J → A → Type 0) (s : State (Option (
   pub place : ℕ → ℕ
   pub server : ℕ → ℕ
   -- a word for each mailbox and the closed flag, and a slot for each mailbox
-  pub word_count : length s.words ≡ n + 1
+  pub word_count : length s.words ≡ words_of n
   pub slot_count : length s.homes ≡ n
   -- each mailbox is as its phase says
-  pub mailboxes : (k : ℕ) → k < n → MailboxOk fits (phase k) (slice_index s.words k) (get_elem? s.homes k)
+  pub mailboxes : (k : ℕ) → k < n → MailboxOk fits (phase k) (slice_index s.words (word_of k)) (get_elem? s.homes k)
   -- a letter that is taken is held by a seat
-  pub holders : (k : ℕ) → k < n → slice_index s.words k ≡ 2 → IsHeld k (server k) s.views
+  pub holders : (k : ℕ) → k < n → slice_index s.words (word_of k) ≡ 2 → IsHeld k (server k) s.views
   -- what each seat knows is so
   pub seats : (i : ℕ) (v : View J) → get_elem? s.views i ≡ some v → (q : ℕ) (r : Role J) → get_elem? v.roles q ≡ some r → Knows n s.words phase client place server i q r
   -- a seat that has closed or has seen it finds the flag up
-  pub closings : (i : ℕ) (v : View J) → get_elem? s.views i ≡ some v → v.closed ≡ true → slice_index s.words n ≡ 1
+  pub closings : (i : ℕ) (v : View J) → get_elem? s.views i ≡ some v → v.closed ≡ true → slice_index s.words (word_of n) ≡ 1
   -- no share of the right to serve is lost or made
   pub shared : Whole s.views

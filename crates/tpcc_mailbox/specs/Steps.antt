@@ -7,7 +7,7 @@ use Rattle.tpcc_mailbox.specs.declared.rule.Phase.TheVariants.{Fresh, Free, Sent
 use Rattle.tpcc_mailbox.specs.declared.rule.Role.{Role}
 use Rattle.tpcc_mailbox.specs.declared.rule.Role.TheVariants.{Client, Server, Holder}
 use Rattle.tpcc_mailbox.specs.declared.rule.View.{View}
-use Rattle.tpcc_mailbox.specs.Rule.{view_with, spent}
+use Rattle.tpcc_mailbox.specs.Rule.{view_with, spent, word_of}
 
 -- what a seat knows and which slots it has in hand
 abbrev pub SeatState : Type 0 → Type 0 → Type 0
@@ -25,10 +25,10 @@ module _ {J A : Type 0} where
   abbrev pub PostStep : WordStep J A → SeatState J A → ℕ → SeatState J A → Type 0
   PostStep st m w m' = (k : ℕ) (j : J) → m.0.roles ≡ Client k Free ∷ [] → m.1 ≡ (k, Some (Letter j)) ∷ [] → m' ≡ with_role m (Client k (Sent j)) []
 
-  -- a server with an empty hand has some letter in it where the word was 1, and the slot with the letter; else all stays
+  -- a server with an empty hand has some letter of the mailbox in it where the word was 1, and the slot with the letter; else all stays
   abbrev pub TakeStep : WordStep J A → SeatState J A → ℕ → SeatState J A → Type 0
   TakeStep st m w m' = (d : ℕ) → m.0.roles ≡ Server d ∷ []
-      → (w ≡ 1 → (j : J) × (m' ≡ with_role m (Holder d st.word j) ((st.word, Some (Letter j)) ∷ m.1))) × (w ≢ 1 → m' ≡ m)
+      → (w ≡ 1 → (k : ℕ) → st.word ≡ word_of k → (j : J) × (m' ≡ with_role m (Holder d k j) ((k, Some (Letter j)) ∷ m.1))) × (w ≢ 1 → m' ≡ m)
 
   -- the server's hand is empty, and the slot is given
   abbrev pub AnswerStep : WordStep J A → SeatState J A → ℕ → SeatState J A → Type 0

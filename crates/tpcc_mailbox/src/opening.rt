@@ -4,7 +4,7 @@ ghost use Rattle.tpcc_mailbox.specs.Tokens.{identity, mailbox_count, AreNewIdles
 
 use crate::answers::Answers;
 use crate::steps::{FirstCollecting, MakingClient, MakingServer};
-use crate::table::{MailboxSeat, MailboxTable, Mailboxes};
+use crate::table::{MailboxSeat, MailboxTable, Mailboxes, word_count, word_index};
 use crate::tokens::{Idle, Serving};
 use atomic_table::Table;
 use std::alloc::{AllocError, Global};
@@ -28,8 +28,8 @@ impl<J, A: Answers<J>> Mailboxes<J, A> {
         ensures open { IfOk result (λ r. serving_saw_closed r.2 ≡ false) }
     {
         // Each mailbox starts as answered with an empty slot, which its client then collects.
-        let mut words = Vec::from_elem(alloc, 3u64, n + 1)?;
-        words[n] = 0;
+        let mut words = Vec::from_elem(alloc, 3u64, word_count(n))?;
+        words[word_index(n)] = 0;
         let mut idles = Vec::with_capacity(alloc, n)?;
         let (table, mut first): (MailboxTable<J, A>, MailboxSeat<J, A>) = Table::vacant(
             alloc,
@@ -41,7 +41,7 @@ impl<J, A: Answers<J>> Mailboxes<J, A> {
             let mut seat = table.shared.split_seat::<MakingClient>(&mut first);
             table
                 .shared
-                .compare_exchange::<FirstCollecting>(&mut seat, k, 3, 0);
+                .compare_exchange::<FirstCollecting>(&mut seat, word_index(k), 3, 0);
             idles.push_reserved(Idle { seat, mailbox: k });
         }
         let seat = table.shared.split_seat::<MakingServer>(&mut first);

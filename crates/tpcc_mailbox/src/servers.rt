@@ -5,7 +5,7 @@ ghost use Rattle.tpcc_mailbox.specs.Tokens.{identity, mailbox_count, serving_ori
 use crate::answers::Answers;
 use crate::rule::Mail;
 use crate::steps::{Answering, Closing, Reading, SplittingServer, Taking};
-use crate::table::Mailboxes;
+use crate::table::{Mailboxes, word_index};
 use crate::tokens::{Serving, Taken};
 use std::snapshot::Snapshot;
 
@@ -28,10 +28,11 @@ impl<J, A: Answers<J>> Mailboxes<J, A> {
         }
         let shared = &self.table.shared;
         // A plain load first: a failed exchange would take the cache line from the client or the server there.
-        if shared.peek(k) != 1 {
+        let word = word_index(k);
+        if shared.peek(word) != 1 {
             return None;
         }
-        if shared.compare_exchange::<Taking>(&mut serving.seat, k, 1, 2) != 1 {
+        if shared.compare_exchange::<Taking>(&mut serving.seat, word, 1, 2) != 1 {
             return None;
         }
         let found = shared.exchange(&mut serving.seat, k, None);
@@ -60,7 +61,7 @@ impl<J, A: Answers<J>> Mailboxes<J, A> {
         let shared = &self.table.shared;
         let was = shared.exchange(&mut serving.seat, mailbox, Some(Mail::Reply(answer)));
         let None = was else { unreachable!() };
-        shared.compare_exchange::<Answering>(&mut serving.seat, mailbox, 2, 3);
+        shared.compare_exchange::<Answering>(&mut serving.seat, word_index(mailbox), 2, 3);
     }
 
     /// Closes the mailboxes, which may be closed already. It raises a flag and stops nothing: letters
@@ -74,7 +75,7 @@ impl<J, A: Answers<J>> Mailboxes<J, A> {
     {
         self.table
             .shared
-            .store::<Closing>(&mut serving.seat, self.count, 1);
+            .store::<Closing>(&mut serving.seat, word_index(self.count), 1);
     }
 
     /// Whether the mailboxes are closed. True is answered only where the flag was read as up, and always
@@ -89,7 +90,7 @@ impl<J, A: Answers<J>> Mailboxes<J, A> {
     {
         self.table
             .shared
-            .load::<Reading>(&mut serving.seat, self.count)
+            .load::<Reading>(&mut serving.seat, word_index(self.count))
             == 1
     }
 }

@@ -17,7 +17,7 @@ pub split_seat-seat-requires : goal.split_seat-seat-requires
 split_seat-seat-requires g c = (search rules, search rules, deals (λ j a. g.A.Answers.fits (g.A.Answers.label j) a) _ _ c.loop-k.k (ap (λ v. v.roles) c.loop-k.invariant.1))
 
 pub compare_exchange-requires : goal.compare_exchange-requires
-compare_exchange-requires g c = let is = c.split_seat-seat.ensures.4 in (search rules, search rules, first_collects (λ j a. g.A.Answers.fits (g.A.Answers.label j) a) _ _ _ c.loop-k.k (search rules) (ap (λ m. m.0.roles) is ∙ ap (λ v. (next_client v).roles) c.loop-k.invariant.1) (ap (λ m. m.1) is))
+compare_exchange-requires g c = let is = c.split_seat-seat.ensures.4 in (search rules, search rules, rw c.word_index-in-loop-k.ensures (first_collects (λ j a. g.A.Answers.fits (g.A.Answers.label j) a) _ _ _ c.loop-k.k (search rules) (ap (λ m. m.0.roles) is ∙ ap (λ v. (next_client v).roles) c.loop-k.invariant.1) (ap (λ m. m.1) is)))
 
 pub invariant_of-push_reserved : goal.invariant_of-push_reserved
 invariant_of-push_reserved g c = let is = c.split_seat-seat.ensures.4 in let did = c.compare_exchange.ensures.2 c.loop-k.k (ap (λ m. m.0.roles) is ∙ ap (λ v. (next_client v).roles) c.loop-k.invariant.1) (ap (λ m. m.1) is) in record {
