@@ -28,12 +28,12 @@ words_of n = 16 * (n + 1)
 
 module _ {J : Type 0} where
   -- the view of a seat of one role
-  abbrev pub view_with : Role J → Bool → View J
-  view_with r c = record { roles = r ∷ []; closed = c }
+  abbrev pub view_with : Role J → Bool → List ℕ → View J
+  view_with r c ks = record { roles = r ∷ []; closed = c; answered = ks }
 
   -- the first seat: it opens all mailboxes and has the whole right to serve
   abbrev pub opener : View J
-  opener = view_with (Opening 0) false
+  opener = view_with (Opening 0) false []
 
   -- how often a server's right was split
   abbrev pub splits_in : List (Role J) → ℕ
@@ -68,12 +68,12 @@ module _ {J : Type 0} where
   halved (Holder d k j) = Holder (d + 1) k j
   halved r = r
 
-  -- a server's right is cut in two halves: what it has in hand stays, and the new server's hand is empty
+  -- a server's right is cut in two halves: what it has in hand stays, and the new server's hand is empty and has answered nothing
   abbrev pub half : View J → View J
-  half v = record { roles = map halved v.roles; closed = v.closed }
+  half v = record { roles = map halved v.roles; closed = v.closed; answered = v.answered }
 
   abbrev pub other_half : View J → View J
-  other_half v = view_with (Server (splits_of v + 1)) v.closed
+  other_half v = view_with (Server (splits_of v + 1)) v.closed []
 
   -- the first mailbox that the opener has not opened yet
   abbrev pub opening_in : List (Role J) → ℕ
@@ -82,24 +82,24 @@ module _ {J : Type 0} where
 
   -- the opener gives the next mailbox to a client
   abbrev pub opener_after : View J → View J
-  opener_after v = view_with (Opening (opening_in v.roles + 1)) v.closed
+  opener_after v = view_with (Opening (opening_in v.roles + 1)) v.closed v.answered
 
   abbrev pub next_client : View J → View J
-  next_client v = view_with (Client (opening_in v.roles) Fresh) v.closed
+  next_client v = view_with (Client (opening_in v.roles) Fresh) v.closed []
 
   -- the opener ends, and gives its right to serve away
   abbrev pub ended : View J → View J
-  ended v = record { roles = []; closed = v.closed }
+  ended v = record { roles = []; closed = v.closed; answered = v.answered }
 
   abbrev pub first_server : View J → View J
-  first_server v = view_with (Server 0) v.closed
+  first_server v = view_with (Server 0) v.closed []
 
   -- a seat takes in what another knows, and the other is left with nothing
   abbrev pub gathered : View J → View J → View J
-  gathered v w = record { roles = v.roles ++ w.roles; closed = v.closed }
+  gathered v w = record { roles = v.roles ++ w.roles; closed = v.closed; answered = v.answered }
 
   abbrev pub spent : View J
-  spent = record { roles = []; closed = false }
+  spent = record { roles = []; closed = false; answered = [] }
 
 module _ {J A : Type 0} where
   -- a server has the slot of the letter in its hand
@@ -109,7 +109,7 @@ module _ {J A : Type 0} where
 
   -- the seat with this role, and these slots in hand
   abbrev pub seat_with : Seat (Option (Mail J A)) (View J) → Role J → List (ℕ × Option (Mail J A)) → Seat (Option (Mail J A)) (View J)
-  seat_with s r slots = record s { me = (view_with r s.me.0.closed, slots) }
+  seat_with s r slots = record s { me = (view_with r s.me.0.closed s.me.0.answered, slots) }
 
   -- the seat of a server
   abbrev pub server_seat : Seat (Option (Mail J A)) (View J) → ℕ → Option (ℕ × J) → Seat (Option (Mail J A)) (View J)

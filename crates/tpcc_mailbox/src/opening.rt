@@ -1,6 +1,6 @@
 //! Mailboxes that are made.
-ghost use Rattle.std.specs.Prelude.{◌≡◌, ◌+◌, ◌<◌, ◌≤◌, false, vec_len, All, IfOk, None};
-ghost use Rattle.tpcc_mailbox.specs.Tokens.{identity, mailbox_count, AreNewIdles, idle_origin, serving_origin, serving_hand, serving_splits, serving_saw_closed};
+ghost use Rattle.std.specs.Prelude.{◌≡◌, ◌+◌, ◌<◌, ◌≤◌, false, [], vec_len, All, IfOk, None};
+ghost use Rattle.tpcc_mailbox.specs.Tokens.{identity, mailbox_count, AreNewIdles, idle_origin, serving_origin, serving_hand, serving_splits, serving_answered, serving_saw_closed};
 
 use crate::answers::Answers;
 use crate::steps::{FirstCollecting, MakingClient, MakingServer};
@@ -26,6 +26,7 @@ impl<J, A: Answers<J>> Mailboxes<J, A> {
         ensures origin { IfOk result (λ r. serving_origin r.2 ≡ identity r.0) }
         // The first server has the whole right to serve.
         ensures serving { IfOk result (λ r. (serving_hand r.2 ≡ None) × (serving_splits r.2 ≡ 0)) }
+        ensures answered { IfOk result (λ r. serving_answered r.2 ≡ []) }
         ensures open { IfOk result (λ r. serving_saw_closed r.2 ≡ false) }
     {
         // Each mailbox starts as answered with an empty slot, which its client then collects.

@@ -38,11 +38,13 @@ pub enum Role<J> {
     Holder(u64, u64, J),
 }
 
-/// What a seat knows: its roles, behind one another where other seats were joined into it, and whether
-/// it has closed the mailboxes or seen them closed. No value of it is made.
+/// What a seat knows: its roles, behind one another where other seats were joined into it, whether it has
+/// closed the mailboxes or seen them closed, and the mailboxes whose letters it answered. No value of it
+/// is made.
 pub struct View<J> {
     pub roles: LinkedList<Role<J>>,
     pub closed: bool,
+    pub answered: LinkedList<u64>,
 }
 
 /// The rule by which words, slots and views stand to one another.

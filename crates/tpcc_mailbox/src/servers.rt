@@ -1,6 +1,6 @@
 //! What a server does.
-ghost use Rattle.std.specs.Prelude.{◌≡◌, ◌+◌, ◌<◌, ◌≤◌, true, IfSome, IfNone, Some, None};
-ghost use Rattle.tpcc_mailbox.specs.Tokens.{identity, mailbox_count, serving_origin, serving_hand, serving_splits, serving_saw_closed, taken_mailbox, taken_letter};
+ghost use Rattle.std.specs.Prelude.{◌≡◌, ◌+◌, ◌<◌, ◌≤◌, [], ◌∷◌, ◌++◌, true, IfSome, IfNone, Some, None};
+ghost use Rattle.tpcc_mailbox.specs.Tokens.{identity, mailbox_count, serving_origin, serving_hand, serving_splits, serving_answered, serving_saw_closed, taken_mailbox, taken_letter};
 
 use crate::answers::Answers;
 use crate::rule::Mail;
@@ -22,6 +22,7 @@ impl<J, A: Answers<J>> Mailboxes<J, A> {
         ensures none { IfNone result (serving.new ≡ serving.old) }
         ensures closed { serving_saw_closed serving.new ≡ serving_saw_closed serving.old }
         ensures splits { serving_splits serving.new ≡ serving_splits serving.old }
+        ensures answered { serving_answered serving.new ≡ serving_answered serving.old }
     {
         if k >= self.count {
             return None;
@@ -56,6 +57,7 @@ impl<J, A: Answers<J>> Mailboxes<J, A> {
         ensures free { serving_hand serving.new ≡ None }
         ensures closed { serving_saw_closed serving.new ≡ serving_saw_closed serving.old }
         ensures splits { serving_splits serving.new ≡ serving_splits serving.old }
+        ensures answered { serving_answered serving.new ≡ serving_answered serving.old ++ taken_mailbox taken ∷ [] }
     {
         let Taken { mailbox, letter: _ } = taken;
         let shared = &self.table.shared;
@@ -72,6 +74,7 @@ impl<J, A: Answers<J>> Mailboxes<J, A> {
         ensures closed { serving_saw_closed serving.new ≡ true }
         ensures hand { serving_hand serving.new ≡ serving_hand serving.old }
         ensures splits { serving_splits serving.new ≡ serving_splits serving.old }
+        ensures answered { serving_answered serving.new ≡ serving_answered serving.old }
     {
         self.table
             .shared
@@ -87,6 +90,7 @@ impl<J, A: Answers<J>> Mailboxes<J, A> {
         ensures again { serving_saw_closed serving.old ≡ true → result ≡ true }
         ensures hand { serving_hand serving.new ≡ serving_hand serving.old }
         ensures splits { serving_splits serving.new ≡ serving_splits serving.old }
+        ensures answered { serving_answered serving.new ≡ serving_answered serving.old }
     {
         self.table
             .shared
@@ -106,6 +110,9 @@ impl<J, A: Answers<J>> Serving<J, A> {
         // Each has half the share of the right to serve that this one had.
         ensures splits { (serving_splits self.new ≡ serving_splits self.old + 1)
             × (serving_splits result ≡ serving_splits self.old + 1) }
+        // The new one has answered nothing.
+        ensures answered { (serving_answered self.new ≡ serving_answered self.old)
+            × (serving_answered result ≡ []) }
         ensures closed { (serving_saw_closed self.new ≡ serving_saw_closed self.old)
             × (serving_saw_closed result ≡ serving_saw_closed self.old) }
     {

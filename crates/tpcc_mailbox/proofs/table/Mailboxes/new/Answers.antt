@@ -62,3 +62,6 @@ returns-clause-serving g c = let is = ap (λ m. m.0) c.split_seat-seat-2.ensures
 
 pub returns-clause-open : goal.returns-clause-open
 returns-clause-open g c = ap (λ m. m.0.closed) c.split_seat-seat-2.ensures.4 ∙ ap (λ v. (first_server v).closed) c.loop-k.invariant.1
+
+pub returns-clause-answered : goal.returns-clause-answered
+returns-clause-answered g c = ap (λ m. m.0.answered) c.split_seat-seat-2.ensures.4 ∙ ap (λ v. (first_server v).answered) c.loop-k.invariant.1

@@ -38,3 +38,6 @@ returns-clause-closed g c = let was = free_server _ c.args.serving.now.serves c.
 
 pub returns-clause-splits : goal.returns-clause-splits
 returns-clause-splits g c = let was = free_server _ c.args.serving.now.serves c.requires.free in let got = (c.compare_exchange.ensures.2 _ was.0).0 (search rules) c.args.k c.word_index-word.ensures in search rules
+
+pub returns-clause-answered : goal.returns-clause-answered
+returns-clause-answered g c = let was = free_server _ c.args.serving.now.serves c.requires.free in let got = (c.compare_exchange.ensures.2 _ was.0).0 (search rules) c.args.k c.word_index-word.ensures in search rules
