@@ -1,5 +1,5 @@
 -- The rule of the table: what each mailbox is in, and what each seat knows of it. Words: 0 free, 1 posted, 2 taken, 3 answered.
-use Rattle.std.specs.Prelude.{◌≡◌, ℕ, ◌+◌, ◌-◌, ◌^◌, ◌<◌, ◌≤◌, Bool, true, false, List, [], ◌∷◌, ◌++◌, map, length, slice_index, Option, Some, None}
+use Rattle.std.specs.Prelude.{◌≡◌, ℕ, ◌+◌, ◌-◌, ◌*◌, ◌^◌, ◌<◌, ◌≤◌, Bool, true, false, List, [], ◌∷◌, ◌++◌, map, length, slice_index, Option, Some, None}
 use mathlib.Core.Option.{some}
 use mathlib.Core.Option as maybe
 use lib.ListN.{get_elem?}
@@ -17,14 +17,23 @@ use Rattle.tpcc_mailbox.specs.declared.rule.View.{View}
 abbrev pub Found : Type 0 → Type 0 → Type 0
 Found J A = maybe.Option (maybe.Option (Option (Mail J A)))
 
+-- Where the word of a mailbox stands in the table's block, and behind the last mailbox the closed flag. One word in 16
+-- is used: so no two share a cache line or a pair of lines, and none shares one with what lies beside the block.
+abbrev pub word_of : ℕ → ℕ
+word_of k = 16 * k + 8
+
+-- how many words the block of n mailboxes has
+abbrev pub words_of : ℕ → ℕ
+words_of n = 16 * (n + 1)
+
 module _ {J : Type 0} where
   -- the view of a seat of one role
-  abbrev pub view_with : Role J → Bool → View J
-  view_with r c = record { roles = r ∷ []; closed = c }
+  abbrev pub view_with : Role J → Bool → List ℕ → View J
+  view_with r c ks = record { roles = r ∷ []; closed = c; answered = ks }
 
   -- the first seat: it opens all mailboxes and has the whole right to serve
   abbrev pub opener : View J
-  opener = view_with (Opening 0) false
+  opener = view_with (Opening 0) false []
 
   -- how often a server's right was split
   abbrev pub splits_in : List (Role J) → ℕ
@@ -59,12 +68,12 @@ module _ {J : Type 0} where
   halved (Holder d k j) = Holder (d + 1) k j
   halved r = r
 
-  -- a server's right is cut in two halves: what it has in hand stays, and the new server's hand is empty
+  -- a server's right is cut in two halves: what it has in hand stays, and the new server's hand is empty and has answered nothing
   abbrev pub half : View J → View J
-  half v = record { roles = map halved v.roles; closed = v.closed }
+  half v = record { roles = map halved v.roles; closed = v.closed; answered = v.answered }
 
   abbrev pub other_half : View J → View J
-  other_half v = view_with (Server (splits_of v + 1)) v.closed
+  other_half v = view_with (Server (splits_of v + 1)) v.closed []
 
   -- the first mailbox that the opener has not opened yet
   abbrev pub opening_in : List (Role J) → ℕ
@@ -73,24 +82,24 @@ module _ {J : Type 0} where
 
   -- the opener gives the next mailbox to a client
   abbrev pub opener_after : View J → View J
-  opener_after v = view_with (Opening (opening_in v.roles + 1)) v.closed
+  opener_after v = view_with (Opening (opening_in v.roles + 1)) v.closed v.answered
 
   abbrev pub next_client : View J → View J
-  next_client v = view_with (Client (opening_in v.roles) Fresh) v.closed
+  next_client v = view_with (Client (opening_in v.roles) Fresh) v.closed []
 
   -- the opener ends, and gives its right to serve away
   abbrev pub ended : View J → View J
-  ended v = record { roles = []; closed = v.closed }
+  ended v = record { roles = []; closed = v.closed; answered = v.answered }
 
   abbrev pub first_server : View J → View J
-  first_server v = view_with (Server 0) v.closed
+  first_server v = view_with (Server 0) v.closed []
 
   -- a seat takes in what another knows, and the other is left with nothing
   abbrev pub gathered : View J → View J → View J
-  gathered v w = record { roles = v.roles ++ w.roles; closed = v.closed }
+  gathered v w = record { roles = v.roles ++ w.roles; closed = v.closed; answered = v.answered }
 
   abbrev pub spent : View J
-  spent = record { roles = []; closed = false }
+  spent = record { roles = []; closed = false; answered = [] }
 
 module _ {J A : Type 0} where
   -- a server has the slot of the letter in its hand
@@ -100,7 +109,7 @@ module _ {J A : Type 0} where
 
   -- the seat with this role, and these slots in hand
   abbrev pub seat_with : Seat (Option (Mail J A)) (View J) → Role J → List (ℕ × Option (Mail J A)) → Seat (Option (Mail J A)) (View J)
-  seat_with s r slots = record s { me = (view_with r s.me.0.closed, slots) }
+  seat_with s r slots = record s { me = (view_with r s.me.0.closed s.me.0.answered, slots) }
 
   -- the seat of a server
   abbrev pub server_seat : Seat (Option (Mail J A)) (View J) → ℕ → Option (ℕ × J) → Seat (Option (Mail J A)) (View J)
@@ -125,7 +134,7 @@ module _ {J : Type 0} (n : ℕ) (words : List ℕ) (phase : ℕ → Phase J) (cl
   Knows i q (Opening m) = (k : ℕ) → m ≤ k → k < n → (phase k ≡ Fresh) × (client k ≡ i)
   Knows i q (Client k p) = k < n → (phase k ≡ p) × (client k ≡ i) × (place k ≡ q)
   Knows i q (Server d) = Unit {0}
-  Knows i q (Holder d k j) = (k < n) × (phase k ≡ Sent j) × (slice_index words k ≡ 2) × (server k ≡ i)
+  Knows i q (Holder d k j) = (k < n) × (phase k ≡ Sent j) × (slice_index words (word_of k) ≡ 2) × (server k ≡ i)
 
 module _ {J : Type 0} where
   -- some role of the seat i holds the letter of mailbox k
@@ -173,15 +182,15 @@ pub record Ruled {J A : Type 0} (fits : J → A → Type 0) (s : State (Option (
   pub place : ℕ → ℕ
   pub server : ℕ → ℕ
   -- a word for each mailbox and the closed flag, and a slot for each mailbox
-  pub word_count : length s.words ≡ n + 1
+  pub word_count : length s.words ≡ words_of n
   pub slot_count : length s.homes ≡ n
   -- each mailbox is as its phase says
-  pub mailboxes : (k : ℕ) → k < n → MailboxOk fits (phase k) (slice_index s.words k) (get_elem? s.homes k)
+  pub mailboxes : (k : ℕ) → k < n → MailboxOk fits (phase k) (slice_index s.words (word_of k)) (get_elem? s.homes k)
   -- a letter that is taken is held by a seat
-  pub holders : (k : ℕ) → k < n → slice_index s.words k ≡ 2 → IsHeld k (server k) s.views
+  pub holders : (k : ℕ) → k < n → slice_index s.words (word_of k) ≡ 2 → IsHeld k (server k) s.views
   -- what each seat knows is so
   pub seats : (i : ℕ) (v : View J) → get_elem? s.views i ≡ some v → (q : ℕ) (r : Role J) → get_elem? v.roles q ≡ some r → Knows n s.words phase client place server i q r
   -- a seat that has closed or has seen it finds the flag up
-  pub closings : (i : ℕ) (v : View J) → get_elem? s.views i ≡ some v → v.closed ≡ true → slice_index s.words n ≡ 1
+  pub closings : (i : ℕ) (v : View J) → get_elem? s.views i ≡ some v → v.closed ≡ true → slice_index s.words (word_of n) ≡ 1
   -- no share of the right to serve is lost or made
   pub shared : Whole s.views

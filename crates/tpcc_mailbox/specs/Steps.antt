@@ -1,5 +1,5 @@
 -- What each step tells the seat that makes it: the word before, and what the seat knows and has in hand before and after.
-use Rattle.std.specs.Prelude.{◌≡◌, ◌≢◌, ℕ, Bool, true, nat_eq, List, [], ◌∷◌, Option, Some, None}
+use Rattle.std.specs.Prelude.{◌≡◌, ◌≢◌, ℕ, Bool, true, nat_eq, List, [], ◌∷◌, ◌++◌, Option, Some, None}
 use Rattle.atomic_table.specs.Table.{Me, Step, rest}
 use Rattle.tpcc_mailbox.specs.declared.rule.Mail.{Mail}
 use Rattle.tpcc_mailbox.specs.declared.rule.Mail.TheVariants.{Letter, Reply}
@@ -7,7 +7,7 @@ use Rattle.tpcc_mailbox.specs.declared.rule.Phase.TheVariants.{Fresh, Free, Sent
 use Rattle.tpcc_mailbox.specs.declared.rule.Role.{Role}
 use Rattle.tpcc_mailbox.specs.declared.rule.Role.TheVariants.{Client, Server, Holder}
 use Rattle.tpcc_mailbox.specs.declared.rule.View.{View}
-use Rattle.tpcc_mailbox.specs.Rule.{view_with, spent}
+use Rattle.tpcc_mailbox.specs.Rule.{view_with, spent, word_of}
 
 -- what a seat knows and which slots it has in hand
 abbrev pub SeatState : Type 0 → Type 0 → Type 0
@@ -17,22 +17,22 @@ abbrev pub WordStep : Type 0 → Type 0 → Type 0
 WordStep J A = Step (Option (Mail J A))
 
 module _ {J A : Type 0} where
-  -- the seat in the role r, with these slots in hand and the flag as before
+  -- the seat in the role r, with these slots in hand and all else as before
   abbrev pub with_role : SeatState J A → Role J → List (ℕ × Option (Mail J A)) → SeatState J A
-  with_role m r slots = (view_with r m.0.closed, slots)
+  with_role m r slots = (view_with r m.0.closed m.0.answered, slots)
 
   -- a free client with a letter in its slot has sent that letter, and the slot is given
   abbrev pub PostStep : WordStep J A → SeatState J A → ℕ → SeatState J A → Type 0
   PostStep st m w m' = (k : ℕ) (j : J) → m.0.roles ≡ Client k Free ∷ [] → m.1 ≡ (k, Some (Letter j)) ∷ [] → m' ≡ with_role m (Client k (Sent j)) []
 
-  -- a server with an empty hand has some letter in it where the word was 1, and the slot with the letter; else all stays
+  -- a server with an empty hand has some letter of the mailbox in it where the word was 1, and the slot with the letter; else all stays
   abbrev pub TakeStep : WordStep J A → SeatState J A → ℕ → SeatState J A → Type 0
   TakeStep st m w m' = (d : ℕ) → m.0.roles ≡ Server d ∷ []
-      → (w ≡ 1 → (j : J) × (m' ≡ with_role m (Holder d st.word j) ((st.word, Some (Letter j)) ∷ m.1))) × (w ≢ 1 → m' ≡ m)
+      → (w ≡ 1 → (k : ℕ) → st.word ≡ word_of k → (j : J) × (m' ≡ with_role m (Holder d k j) ((k, Some (Letter j)) ∷ m.1))) × (w ≢ 1 → m' ≡ m)
 
-  -- the server's hand is empty, and the slot is given
+  -- the server's hand is empty, the slot is given, and the mailbox is one more that the server answered
   abbrev pub AnswerStep : WordStep J A → SeatState J A → ℕ → SeatState J A → Type 0
-  AnswerStep st m w m' = (d k : ℕ) (j : J) (y : Option (Mail J A)) → m.0.roles ≡ Holder d k j ∷ [] → m.1 ≡ (k, y) ∷ [] → m' ≡ with_role m (Server d) []
+  AnswerStep st m w m' = (d k : ℕ) (j : J) (y : Option (Mail J A)) → m.0.roles ≡ Holder d k j ∷ [] → m.1 ≡ (k, y) ∷ [] → m' ≡ (view_with (Server d) m.0.closed (m.0.answered ++ k ∷ []), [])
 
   -- a client finds an answer that fits the letter that it sent where the word was 3, and is free again; else all stays
   abbrev pub CollectStep : (J → A → Type 0) → WordStep J A → SeatState J A → ℕ → SeatState J A → Type 0
@@ -41,7 +41,7 @@ module _ {J A : Type 0} where
 
   -- the seat with another flag
   abbrev pub with_flag : SeatState J A → Bool → SeatState J A
-  with_flag m c = (record { roles = m.0.roles; closed = c }, m.1)
+  with_flag m c = (record { roles = m.0.roles; closed = c; answered = m.0.answered }, m.1)
 
   -- the seat has closed
   abbrev pub CloseStep : WordStep J A → SeatState J A → ℕ → SeatState J A → Type 0

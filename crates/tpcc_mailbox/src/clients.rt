@@ -5,7 +5,7 @@ ghost use Rattle.tpcc_mailbox.specs.Tokens.{identity, idle_origin, idle_mailbox,
 use crate::answers::Answers;
 use crate::rule::Mail;
 use crate::steps::{Collecting, Posting, Reading};
-use crate::table::Mailboxes;
+use crate::table::{Mailboxes, word_index};
 use crate::tokens::{Idle, Waiting};
 use std::snapshot::Snapshot;
 
@@ -23,7 +23,7 @@ impl<J, A: Answers<J>> Mailboxes<J, A> {
         let kept = Snapshot::of(&letter);
         let was = shared.exchange(&mut seat, mailbox, Some(Mail::Letter(letter)));
         let None = was else { unreachable!() };
-        shared.compare_exchange::<Posting>(&mut seat, mailbox, 0, 1);
+        shared.compare_exchange::<Posting>(&mut seat, word_index(mailbox), 0, 1);
         Waiting {
             seat,
             mailbox,
@@ -42,13 +42,18 @@ impl<J, A: Answers<J>> Mailboxes<J, A> {
         ensures mailbox { IfOk result (λ r. idle_mailbox r.0 ≡ waiting_mailbox waiting) }
         ensures closed { IfOk result (λ r. idle_saw_closed r.0 ≡ waiting_saw_closed waiting) }
     {
+        let shared = &self.table.shared;
+        // A plain load first: a failed exchange would take the cache line from the server at work.
+        let word = word_index(waiting.mailbox);
+        if shared.peek(word) != 3 {
+            return Err(waiting);
+        }
         let Waiting {
             mut seat,
             mailbox,
             letter,
         } = waiting;
-        let shared = &self.table.shared;
-        if shared.compare_exchange::<Collecting>(&mut seat, mailbox, 3, 0) != 3 {
+        if shared.compare_exchange::<Collecting>(&mut seat, word, 3, 0) != 3 {
             return Err(Waiting {
                 seat,
                 mailbox,
@@ -74,7 +79,7 @@ impl<J, A: Answers<J>> Mailboxes<J, A> {
     {
         self.table
             .shared
-            .load::<Reading>(&mut waiting.seat, self.count)
+            .load::<Reading>(&mut waiting.seat, word_index(self.count))
             == 1
     }
 }

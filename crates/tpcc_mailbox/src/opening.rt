@@ -1,13 +1,14 @@
 //! Mailboxes that are made.
-ghost use Rattle.std.specs.Prelude.{◌≡◌, ◌+◌, ◌<◌, ◌≤◌, false, vec_len, All, IfOk, None};
-ghost use Rattle.tpcc_mailbox.specs.Tokens.{identity, mailbox_count, AreNewIdles, idle_origin, serving_origin, serving_hand, serving_splits, serving_saw_closed};
+ghost use Rattle.std.specs.Prelude.{◌≡◌, ◌+◌, ◌<◌, ◌≤◌, false, [], vec_len, All, IfOk, None};
+ghost use Rattle.tpcc_mailbox.specs.Tokens.{identity, mailbox_count, AreNewIdles, idle_origin, serving_origin, serving_hand, serving_splits, serving_answered, serving_saw_closed};
 
 use crate::answers::Answers;
 use crate::steps::{FirstCollecting, MakingClient, MakingServer};
-use crate::table::{MailboxSeat, MailboxTable, Mailboxes};
+use crate::table::{MailboxSeat, MailboxTable, Mailboxes, word_count, word_index};
 use crate::tokens::{Idle, Serving};
 use atomic_table::Table;
 use std::alloc::{AllocError, Global};
+use tpcc_money::NoMemory;
 
 impl<J, A: Answers<J>> Mailboxes<J, A> {
     /// Makes `n` free mailboxes, 1 to 1,000, with the token of each in order and the first server.
@@ -15,7 +16,7 @@ impl<J, A: Answers<J>> Mailboxes<J, A> {
     pub fn new(
         alloc: Global,
         n: usize,
-    ) -> Result<(Mailboxes<J, A>, Vec<Idle<J, A>>, Serving<J, A>), AllocError>
+    ) -> Result<(Mailboxes<J, A>, Vec<Idle<J, A>>, Serving<J, A>), NoMemory>
         requires count { (1 ≤ n) × (n ≤ 1000) }
         ensures count { IfOk result (λ r. mailbox_count r.0 ≡ n) }
         ensures one_each { IfOk result (λ r. vec_len r.1 ≡ n) }
@@ -25,23 +26,31 @@ impl<J, A: Answers<J>> Mailboxes<J, A> {
         ensures origin { IfOk result (λ r. serving_origin r.2 ≡ identity r.0) }
         // The first server has the whole right to serve.
         ensures serving { IfOk result (λ r. (serving_hand r.2 ≡ None) × (serving_splits r.2 ≡ 0)) }
+        ensures answered { IfOk result (λ r. serving_answered r.2 ≡ []) }
         ensures open { IfOk result (λ r. serving_saw_closed r.2 ≡ false) }
     {
         // Each mailbox starts as answered with an empty slot, which its client then collects.
-        let mut words = Vec::from_elem(alloc, 3u64, n + 1)?;
-        words[n] = 0;
-        let mut idles = Vec::with_capacity(alloc, n)?;
-        let (table, mut first): (MailboxTable<J, A>, MailboxSeat<J, A>) = Table::vacant(
+        let Ok(mut words) = Vec::from_elem(alloc, 3u64, word_count(n)) else {
+            return Err(NoMemory);
+        };
+        words[word_index(n)] = 0;
+        let Ok(mut idles) = Vec::with_capacity(alloc, n) else {
+            return Err(NoMemory);
+        };
+        let opened: Result<(MailboxTable<J, A>, MailboxSeat<J, A>), AllocError> = Table::vacant(
             alloc,
             words.as_slice(),
             n,
             &(),
-        )?;
+        );
+        let Ok((table, mut first)) = opened else {
+            return Err(NoMemory);
+        };
         for k in 0..n {
             let mut seat = table.shared.split_seat::<MakingClient>(&mut first);
             table
                 .shared
-                .compare_exchange::<FirstCollecting>(&mut seat, k, 3, 0);
+                .compare_exchange::<FirstCollecting>(&mut seat, word_index(k), 3, 0);
             idles.push_reserved(Idle { seat, mailbox: k });
         }
         let seat = table.shared.split_seat::<MakingServer>(&mut first);

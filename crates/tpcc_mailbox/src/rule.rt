@@ -1,7 +1,8 @@
 //! The rule of the table that clients and servers share.
 //!
-//! Word k is the state of mailbox k: 0 free, 1 posted, 2 taken, 3 answered. The last word is 1 once the
-//! mailboxes are closed, before that 0. Slot k holds what lies in mailbox k. The slot of a free mailbox is
+//! Each mailbox has a word, its state: 0 free, 1 posted, 2 taken, 3 answered. One more word is 1 once the
+//! mailboxes are closed, before that 0. Where they stand `word_of` of `specs/Rule.antt` says; the words
+//! between them are used by nobody. Slot k holds what lies in mailbox k. The slot of a free mailbox is
 //! with the seat of its client, that of a taken one with the seat of the server that took the letter.
 
 use crate::answers::Answers;
@@ -37,11 +38,13 @@ pub enum Role<J> {
     Holder(u64, u64, J),
 }
 
-/// What a seat knows: its roles, behind one another where other seats were joined into it, and whether
-/// it has closed the mailboxes or seen them closed. No value of it is made.
+/// What a seat knows: its roles, behind one another where other seats were joined into it, whether it has
+/// closed the mailboxes or seen them closed, and the mailboxes whose letters it answered. No value of it
+/// is made.
 pub struct View<J> {
     pub roles: LinkedList<Role<J>>,
     pub closed: bool,
+    pub answered: LinkedList<u64>,
 }
 
 /// The rule by which words, slots and views stand to one another.

@@ -1,11 +1,11 @@
 //! What a server does.
-ghost use Rattle.std.specs.Prelude.{◌≡◌, ◌+◌, ◌<◌, ◌≤◌, true, IfSome, IfNone, Some, None};
-ghost use Rattle.tpcc_mailbox.specs.Tokens.{identity, mailbox_count, serving_origin, serving_hand, serving_splits, serving_saw_closed, taken_mailbox, taken_letter};
+ghost use Rattle.std.specs.Prelude.{◌≡◌, ◌+◌, ◌<◌, ◌≤◌, [], ◌∷◌, ◌++◌, true, IfSome, IfNone, Some, None};
+ghost use Rattle.tpcc_mailbox.specs.Tokens.{identity, mailbox_count, serving_origin, serving_hand, serving_splits, serving_answered, serving_saw_closed, taken_mailbox, taken_letter};
 
 use crate::answers::Answers;
 use crate::rule::Mail;
 use crate::steps::{Answering, Closing, Reading, SplittingServer, Taking};
-use crate::table::Mailboxes;
+use crate::table::{Mailboxes, word_index};
 use crate::tokens::{Serving, Taken};
 use std::snapshot::Snapshot;
 
@@ -22,12 +22,18 @@ impl<J, A: Answers<J>> Mailboxes<J, A> {
         ensures none { IfNone result (serving.new ≡ serving.old) }
         ensures closed { serving_saw_closed serving.new ≡ serving_saw_closed serving.old }
         ensures splits { serving_splits serving.new ≡ serving_splits serving.old }
+        ensures answered { serving_answered serving.new ≡ serving_answered serving.old }
     {
         if k >= self.count {
             return None;
         }
         let shared = &self.table.shared;
-        if shared.compare_exchange::<Taking>(&mut serving.seat, k, 1, 2) != 1 {
+        // A plain load first: a failed exchange would take the cache line from the client or the server there.
+        let word = word_index(k);
+        if shared.peek(word) != 1 {
+            return None;
+        }
+        if shared.compare_exchange::<Taking>(&mut serving.seat, word, 1, 2) != 1 {
             return None;
         }
         let found = shared.exchange(&mut serving.seat, k, None);
@@ -51,12 +57,13 @@ impl<J, A: Answers<J>> Mailboxes<J, A> {
         ensures free { serving_hand serving.new ≡ None }
         ensures closed { serving_saw_closed serving.new ≡ serving_saw_closed serving.old }
         ensures splits { serving_splits serving.new ≡ serving_splits serving.old }
+        ensures answered { serving_answered serving.new ≡ serving_answered serving.old ++ taken_mailbox taken ∷ [] }
     {
         let Taken { mailbox, letter: _ } = taken;
         let shared = &self.table.shared;
         let was = shared.exchange(&mut serving.seat, mailbox, Some(Mail::Reply(answer)));
         let None = was else { unreachable!() };
-        shared.compare_exchange::<Answering>(&mut serving.seat, mailbox, 2, 3);
+        shared.compare_exchange::<Answering>(&mut serving.seat, word_index(mailbox), 2, 3);
     }
 
     /// Closes the mailboxes, which may be closed already. It raises a flag and stops nothing: letters
@@ -67,10 +74,11 @@ impl<J, A: Answers<J>> Mailboxes<J, A> {
         ensures closed { serving_saw_closed serving.new ≡ true }
         ensures hand { serving_hand serving.new ≡ serving_hand serving.old }
         ensures splits { serving_splits serving.new ≡ serving_splits serving.old }
+        ensures answered { serving_answered serving.new ≡ serving_answered serving.old }
     {
         self.table
             .shared
-            .store::<Closing>(&mut serving.seat, self.count, 1);
+            .store::<Closing>(&mut serving.seat, word_index(self.count), 1);
     }
 
     /// Whether the mailboxes are closed. True is answered only where the flag was read as up, and always
@@ -82,10 +90,11 @@ impl<J, A: Answers<J>> Mailboxes<J, A> {
         ensures again { serving_saw_closed serving.old ≡ true → result ≡ true }
         ensures hand { serving_hand serving.new ≡ serving_hand serving.old }
         ensures splits { serving_splits serving.new ≡ serving_splits serving.old }
+        ensures answered { serving_answered serving.new ≡ serving_answered serving.old }
     {
         self.table
             .shared
-            .load::<Reading>(&mut serving.seat, self.count)
+            .load::<Reading>(&mut serving.seat, word_index(self.count))
             == 1
     }
 }
@@ -101,6 +110,9 @@ impl<J, A: Answers<J>> Serving<J, A> {
         // Each has half the share of the right to serve that this one had.
         ensures splits { (serving_splits self.new ≡ serving_splits self.old + 1)
             × (serving_splits result ≡ serving_splits self.old + 1) }
+        // The new one has answered nothing.
+        ensures answered { (serving_answered self.new ≡ serving_answered self.old)
+            × (serving_answered result ≡ []) }
         ensures closed { (serving_saw_closed self.new ≡ serving_saw_closed self.old)
             × (serving_saw_closed result ≡ serving_saw_closed self.old) }
     {

@@ -1,5 +1,6 @@
 //! The mailboxes as threads share them.
-ghost use Rattle.std.specs.Prelude.{◌≡◌, ◌+◌};
+ghost use Rattle.std.specs.Prelude.{◌≡◌, ◌≤◌};
+ghost use Rattle.tpcc_mailbox.specs.Rule.{word_of, words_of};
 
 use crate::answers::Answers;
 use crate::rule::{Mail, MailboxRule, View};
@@ -20,5 +21,25 @@ pub struct Mailboxes<J, A: Answers<J>> {
     pub(crate) count: usize,
     pub(crate) alloc: Global,
     ghost sized: { (table.shared.table_id.slots ≡ count)
-        × (table.shared.table_id.words ≡ count + 1) },
+        × (table.shared.table_id.words ≡ words_of count)
+        × (count ≤ 1000) },
+}
+
+// One word in so many is used, so that threads at different mailboxes share no cache line.
+const APART: usize = 16;
+
+// Where the word of a mailbox stands, and behind the last mailbox the closed flag.
+pub(crate) fn word_index(mailbox: usize) -> usize
+    requires { mailbox ≤ 1000 }
+    ensures { result ≡ word_of mailbox }
+{
+    APART * mailbox + APART / 2
+}
+
+// How many words so many mailboxes take.
+pub(crate) fn word_count(mailboxes: usize) -> usize
+    requires { mailboxes ≤ 1000 }
+    ensures { result ≡ words_of mailboxes }
+{
+    APART * (mailboxes + 1)
 }

@@ -17,3 +17,26 @@ impl Answers<u64> for Served {
 
     ghost use Rattle.std.specs.Prelude.{◌≡◌};
 }
+
+// A letter that carries something, which goes on into its answer.
+#[derive(Drop)]
+pub(crate) struct Errand {
+    pub number: u64,
+    pub purse: Vec<u64>,
+}
+
+#[derive(Drop)]
+pub(crate) struct Parcel {
+    pub number: u64,
+    pub purse: Vec<u64>,
+}
+
+impl Answers<Errand> for Parcel {
+    type Label = Errand;
+
+    ghost label = { λ j. j };
+
+    ghost fits = { λ j a. (a.number ≡ j.number) × (a.purse ≡ j.purse) };
+
+    ghost use Rattle.std.specs.Prelude.{◌≡◌};
+}

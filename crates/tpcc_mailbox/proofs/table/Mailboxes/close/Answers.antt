@@ -5,7 +5,7 @@ use Rattle.tpcc_mailbox.proofs.Flags.{shuts}
 use Rattle.tpcc_mailbox.proofs.table.Mailboxes.close.Goals as goal
 
 pub store-requires : goal.store-requires
-store-requires g c = (search rules, search rules, shuts (λ j a. g.A.Answers.fits (g.A.Answers.label j) a) _ _ _ _ (search rules))
+store-requires g c = (search rules, search rules, rw c.word_index.ensures (shuts (λ j a. g.A.Answers.fits (g.A.Answers.label j) a) _ _ _ _ (search rules)))
 
 pub invariant_of-serving : goal.invariant_of-serving
 invariant_of-serving g c = let did = c.store.ensures.2 in record {

@@ -5,7 +5,7 @@ use Rattle.tpcc_mailbox.proofs.Keeps.{collects, filled, is_seat_with}
 use Rattle.tpcc_mailbox.proofs.table.Mailboxes.collect.Goals as goal
 
 pub compare_exchange-requires : goal.compare_exchange-requires
-compare_exchange-requires g c = (search rules, search rules, collects (λ j a. g.A.Answers.fits (g.A.Answers.label j) a) _ _ _ _ c.args.waiting.letter.value (search rules) (ap (λ s. s.me.0.roles) c.args.waiting.sent))
+compare_exchange-requires g c = (search rules, search rules, rw c.word_index-word.ensures (collects (λ j a. g.A.Answers.fits (g.A.Answers.label j) a) _ _ _ _ c.args.waiting.letter.value (search rules) (ap (λ s. s.me.0.roles) c.args.waiting.sent)))
 
 pub invariant_of-result : goal.invariant_of-result
 invariant_of-result g c = let same = (c.compare_exchange.ensures.2 _ _ (ap (λ s. s.me.0.roles) c.args.waiting.sent)).1 (search rules) in record {

@@ -5,7 +5,7 @@ use Rattle.tpcc_mailbox.proofs.Flags.{looks}
 use Rattle.tpcc_mailbox.proofs.table.Mailboxes.is_closed.Goals as goal
 
 pub load-requires : goal.load-requires
-load-requires g c = (search rules, search rules, looks (λ j a. g.A.Answers.fits (g.A.Answers.label j) a) _ _ _ _ (search rules))
+load-requires g c = (search rules, search rules, rw c.word_index.ensures (looks (λ j a. g.A.Answers.fits (g.A.Answers.label j) a) _ _ _ _ (search rules)))
 
 pub invariant_of-serving : goal.invariant_of-serving
 invariant_of-serving g c = let did = c.load.ensures.2.0 in record {

@@ -7,17 +7,17 @@ use Rattle.tpcc_mailbox.proofs.Keeps.{first_collects, is_seat_with, seated_serve
 use Rattle.tpcc_mailbox.proofs.Splits.{deals, starts}
 use Rattle.tpcc_mailbox.proofs.table.Mailboxes.new.Goals as goal
 
-pub vacant-requires : goal.vacant-requires
-vacant-requires g c = let words = first_words c.args.n c.as_slice.result.now (first_of (search rules, grind (arith, common_steps))) in begins (λ j a. g.A.Answers.fits (g.A.Answers.label j) a) c.args.n c.as_slice.result.now words.0 words.1
+pub vacant-opened-requires : goal.vacant-opened-requires
+vacant-opened-requires g c = let words = first_words c.args.n c.as_slice.result.now (first_of (search rules, grind (arith, common_steps))) in begins (λ j a. g.A.Answers.fits (g.A.Answers.label j) a) c.args.n c.as_slice.result.now words.0 words.1
 
 pub loop-k-init : goal.loop-k-init
-loop-k-init g c = (search rules, ap (λ m. m.0) c.in_ok-table.ensures.4, search rules, search rules, new_none _ _ c.in_ok-idles.ensures.items)
+loop-k-init g c = (search rules, ap (λ m. m.0) c.in-Ok-opened.ensures.4, search rules, search rules, new_none _ _ c.in-Ok-with_capacity.ensures.items)
 
 pub split_seat-seat-requires : goal.split_seat-seat-requires
 split_seat-seat-requires g c = (search rules, search rules, deals (λ j a. g.A.Answers.fits (g.A.Answers.label j) a) _ _ c.loop-k.k (ap (λ v. v.roles) c.loop-k.invariant.1))
 
 pub compare_exchange-requires : goal.compare_exchange-requires
-compare_exchange-requires g c = let is = c.split_seat-seat.ensures.4 in (search rules, search rules, first_collects (λ j a. g.A.Answers.fits (g.A.Answers.label j) a) _ _ _ c.loop-k.k (search rules) (ap (λ m. m.0.roles) is ∙ ap (λ v. (next_client v).roles) c.loop-k.invariant.1) (ap (λ m. m.1) is))
+compare_exchange-requires g c = let is = c.split_seat-seat.ensures.4 in (search rules, search rules, rw c.word_index-in-loop-k.ensures (first_collects (λ j a. g.A.Answers.fits (g.A.Answers.label j) a) _ _ _ c.loop-k.k (search rules) (ap (λ m. m.0.roles) is ∙ ap (λ v. (next_client v).roles) c.loop-k.invariant.1) (ap (λ m. m.1) is)))
 
 pub invariant_of-push_reserved : goal.invariant_of-push_reserved
 invariant_of-push_reserved g c = let is = c.split_seat-seat.ensures.4 in let did = c.compare_exchange.ensures.2 c.loop-k.k (ap (λ m. m.0.roles) is ∙ ap (λ v. (next_client v).roles) c.loop-k.invariant.1) (ap (λ m. m.1) is) in record {
@@ -52,7 +52,7 @@ pub returns-clause-one_each : goal.returns-clause-one_each
 returns-clause-one_each g c = grind (arith, common_steps)
 
 pub returns-clause-idles : goal.returns-clause-idles
-returns-clause-idles g c = all_to (λ x. x.seat.table_id ≡ c.in_ok-table.table.shared.table_id) c.loop-k.idles.items (λ k x e. (c.loop-k.invariant.4 k x e).0)
+returns-clause-idles g c = all_to (λ x. x.seat.table_id ≡ c.in-Ok-opened.table.shared.table_id) c.loop-k.idles.items (λ k x e. (c.loop-k.invariant.4 k x e).0)
 
 pub returns-clause-numbers : goal.returns-clause-numbers
 returns-clause-numbers g c = c.loop-k.invariant.4
@@ -62,3 +62,6 @@ returns-clause-serving g c = let is = ap (λ m. m.0) c.split_seat-seat-2.ensures
 
 pub returns-clause-open : goal.returns-clause-open
 returns-clause-open g c = ap (λ m. m.0.closed) c.split_seat-seat-2.ensures.4 ∙ ap (λ v. (first_server v).closed) c.loop-k.invariant.1
+
+pub returns-clause-answered : goal.returns-clause-answered
+returns-clause-answered g c = ap (λ m. m.0.answered) c.split_seat-seat-2.ensures.4 ∙ ap (λ v. (first_server v).answered) c.loop-k.invariant.1

@@ -5,7 +5,7 @@ use Rattle.tpcc_mailbox.specs.Tokens.{client_origin}
 use Rattle.tpcc_mailbox.specs.Roles.{client_role, server_role}
 use Rattle.tpcc_mailbox.proofs.Sorting.{all_from}
 use Rattle.tpcc_mailbox.proofs.Joins.{enters}
-use Rattle.tpcc_mailbox.proofs.Settles.{apart_of, each_gives, held_in_hand}
+use Rattle.tpcc_mailbox.proofs.Settles.{apart_of, each_gives, in_hand_held, held_in_hand}
 use Rattle.tpcc_mailbox.proofs.table.Mailboxes.reclaim.Goals as goal
 
 pub gather_clients-requires-clause-own : goal.gather_clients-requires-clause-own
@@ -38,6 +38,14 @@ pub returns-clause-held : goal.returns-clause-held
 returns-clause-held g c =
     let are = c.gather_servings.ensures.roles ∙ ap (λ l. l ++ map server_role c.args.servings.items) (c.gather_clients.ensures.roles ∙ ap (λ m. m.0.roles ++ map client_role c.args.clients.items) c.load_new_seat-all.ensures.2) in
     held_in_hand (λ j a. g.A.Answers.fits (g.A.Answers.label j) a) _ (slots_items c.close_with.result.slots) _ _ c.close_with.ensures.values.2 c.args.clients.items c.args.servings.items are c.gather_clients.new.places.items c.unload.new.lefts.items c.pick_out.new.lefts.items
+    c.gather_clients.ensures.places
+    (λ i k e. let near = c.gather_clients.ensures.within i k e in let n = c.close_with.ensures.counts.1 in let m = slots_counts c.close_with.result.slots in let s = c.args.self.sized in (first_of (search rules, grind (arith, common_steps))))
+    c.unload.ensures.each (search rules) c.pick_out.ensures.each
+
+pub returns-clause-in_hand : goal.returns-clause-in_hand
+returns-clause-in_hand g c =
+    let are = c.gather_servings.ensures.roles ∙ ap (λ l. l ++ map server_role c.args.servings.items) (c.gather_clients.ensures.roles ∙ ap (λ m. m.0.roles ++ map client_role c.args.clients.items) c.load_new_seat-all.ensures.2) in
+    in_hand_held (λ j a. g.A.Answers.fits (g.A.Answers.label j) a) _ (slots_items c.close_with.result.slots) _ _ c.close_with.ensures.values.2 c.args.clients.items c.args.servings.items are c.gather_clients.new.places.items c.unload.new.lefts.items c.pick_out.new.lefts.items
     c.gather_clients.ensures.places
     (λ i k e. let near = c.gather_clients.ensures.within i k e in let n = c.close_with.ensures.counts.1 in let m = slots_counts c.close_with.result.slots in let s = c.args.self.sized in (first_of (search rules, grind (arith, common_steps))))
     c.unload.ensures.each (search rules) c.pick_out.ensures.each

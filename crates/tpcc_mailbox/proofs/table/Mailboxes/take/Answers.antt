@@ -6,7 +6,7 @@ use Rattle.tpcc_mailbox.proofs.Keeps.{takes_letter, filled, free_server, seated_
 use Rattle.tpcc_mailbox.proofs.table.Mailboxes.take.Goals as goal
 
 pub compare_exchange-requires : goal.compare_exchange-requires
-compare_exchange-requires g c = let was = free_server _ c.args.serving.now.serves c.requires.free in (search rules, search rules, takes_letter (λ j a. g.A.Answers.fits (g.A.Answers.label j) a) _ _ _ _ _ (search rules) was.0)
+compare_exchange-requires g c = let was = free_server _ c.args.serving.now.serves c.requires.free in (search rules, search rules, rw c.word_index-word.ensures (takes_letter (λ j a. g.A.Answers.fits (g.A.Answers.label j) a) _ _ _ _ _ (search rules) was.0))
 
 pub invariant_of-serving : goal.invariant_of-serving
 invariant_of-serving g c = let was = free_server _ c.args.serving.now.serves c.requires.free in let same = (c.compare_exchange.ensures.2 _ was.0).1 (search rules) in record {
@@ -16,13 +16,28 @@ invariant_of-serving g c = let was = free_server _ c.args.serving.now.serves c.r
 }
 
 pub exchange-found-requires : goal.exchange-found-requires
-exchange-found-requires g c = let was = free_server _ c.args.serving.now.serves c.requires.free in let got = (c.compare_exchange.ensures.2 _ was.0).0 (search rules) in
+exchange-found-requires g c = let was = free_server _ c.args.serving.now.serves c.requires.free in let got = (c.compare_exchange.ensures.2 _ was.0).0 (search rules) c.args.k c.word_index-word.ensures in
     (search rules, (Some (Letter got.0), ap (λ m. m.1) got.1 ∙ ap (λ l. (c.args.k, Some (Letter got.0)) ∷ rest l) (sym (ap (λ m. m.1) got.1))))
 
 pub invariant_of-serving-2 : goal.invariant_of-serving-2
-invariant_of-serving-2 g c = let was = free_server _ c.args.serving.now.serves c.requires.free in let got = (c.compare_exchange.ensures.2 _ was.0).0 (search rules) in
+invariant_of-serving-2 g c = let was = free_server _ c.args.serving.now.serves c.requires.free in let got = (c.compare_exchange.ensures.2 _ was.0).0 (search rules) c.args.k c.word_index-word.ensures in
     let took = filled _ _ _ _ (Some (Letter got.0)) _ (ap (λ m. m.0.roles) got.1) (ap (λ m. m.1) got.1 ∙ ap (λ l. (c.args.k, Some (Letter got.0)) ∷ l) was.1) c.exchange-found.ensures.3 in record {
       sized = search rules;
       inside = subst (λ l. hand_bound (hand_in l) ≤ c.exchange-found.new.seat.table_id.slots) (sym took.0) (search rules);
       serves = seated_holder _ _ _ _ took.0 took.1;
     }
+
+pub unreachable-requires : goal.unreachable-requires
+unreachable-requires g c = let was = free_server _ c.args.serving.now.serves c.requires.free in let got = (c.compare_exchange.ensures.2 _ was.0).0 (search rules) c.args.k c.word_index-word.ensures in search rules
+
+pub returns-clause-hand : goal.returns-clause-hand
+returns-clause-hand g c = let was = free_server _ c.args.serving.now.serves c.requires.free in let got = (c.compare_exchange.ensures.2 _ was.0).0 (search rules) c.args.k c.word_index-word.ensures in search rules
+
+pub returns-clause-closed : goal.returns-clause-closed
+returns-clause-closed g c = let was = free_server _ c.args.serving.now.serves c.requires.free in let got = (c.compare_exchange.ensures.2 _ was.0).0 (search rules) c.args.k c.word_index-word.ensures in search rules
+
+pub returns-clause-splits : goal.returns-clause-splits
+returns-clause-splits g c = let was = free_server _ c.args.serving.now.serves c.requires.free in let got = (c.compare_exchange.ensures.2 _ was.0).0 (search rules) c.args.k c.word_index-word.ensures in search rules
+
+pub returns-clause-answered : goal.returns-clause-answered
+returns-clause-answered g c = let was = free_server _ c.args.serving.now.serves c.requires.free in let got = (c.compare_exchange.ensures.2 _ was.0).0 (search rules) c.args.k c.word_index-word.ensures in search rules
