@@ -1,6 +1,4 @@
 //! Rows of the plain opening at the smallest scale.
-ghost use Rattle.std.specs.Prelude.{◌≤◌};
-
 use std::alloc::Global;
 use std::test::Fail;
 use tpcc_money::{Cents, Moment, Rate};
@@ -10,68 +8,62 @@ use tpcc_rows::{
 };
 use tpcc_tables::Tables;
 
-fn text<const N: usize>(bytes: &[u8]) -> Result<Text<N>, Fail>
-    requires { N ≤ 65535 }
-{
-    Ok(Text::new(bytes)?)
+fn address() -> Address {
+    Address {
+        street_1: Text::of(b"MAINSTREET"),
+        street_2: Text::of(b"SIDESTREET"),
+        city: Text::of(b"CITYCENTRE"),
+        state: Text::of(b"AB"),
+        zip: Text::of(b"000111111"),
+    }
 }
 
-fn address() -> Result<Address, Fail> {
-    Ok(Address {
-        street_1: text(b"MAINSTREET")?,
-        street_2: text(b"SIDESTREET")?,
-        city: text(b"CITYCENTRE")?,
-        state: text(b"AB")?,
-        zip: text(b"000111111")?,
+pub fn warehouse(id: u32, name: Text<10>) -> Row {
+    Row::Warehouse(WarehouseRow {
+        id,
+        name,
+        address: address(),
+        tax: Rate::new(1000),
+        ytd: Cents::new(100_000),
     })
 }
 
-pub fn warehouse(alloc: Global, id: u32, name: &[u8]) -> Result<Row, Fail> {
-    Ok(Row::Warehouse(WarehouseRow {
-        id,
-        name: text(name)?,
-        address: address()?,
-        tax: Rate::new(1000),
-        ytd: Cents::new(100_000),
-    }))
-}
-
-fn district(alloc: Global) -> Result<Row, Fail> {
-    Ok(Row::District(DistrictRow {
+fn district() -> Row {
+    Row::District(DistrictRow {
         id: 1,
         warehouse: 1,
-        name: text(b"DIST01")?,
-        address: address()?,
+        name: Text::of(b"DIST01"),
+        address: address(),
         tax: Rate::new(100),
         ytd: Cents::new(10_000),
         next_order: 11,
-    }))
+    })
 }
 
-fn customer(alloc: Global, id: u32, first: &[u8], last: &[u8]) -> Result<Row, Fail> {
-    Ok(Row::Customer(CustomerRow {
+fn customer(id: u32, first: Text<16>, last: Text<16>) -> Row {
+    Row::Customer(CustomerRow {
         id,
         district: 1,
         warehouse: 1,
-        first: text(first)?,
-        middle: text(b"OE")?,
-        last: text(last)?,
-        address: address()?,
-        phone: text(b"0000000000000001")?,
+        first,
+        middle: Text::of(b"OE"),
+        last,
+        address: address(),
+        phone: Text::of(b"0000000000000001"),
         since: Moment::new(0),
-        credit: text(b"GC")?,
+        credit: Text::of(b"GC"),
         credit_limit: Cents::new(5_000_000),
         discount: Rate::new(100),
         balance: Cents::new(-1000),
         ytd_payment: Cents::new(1000),
         payment_count: 1,
         delivery_count: 0,
-        information: text(b"xxx")?,
-    }))
+        information: Text::of(b"xxx"),
+    })
 }
 
-fn history(alloc: Global, customer: u32) -> Result<Row, Fail> {
-    Ok(Row::History(HistoryRow {
+fn history(customer: u32) -> Row {
+    Row::History(HistoryRow {
         customer,
         customer_district: 1,
         customer_warehouse: 1,
@@ -79,8 +71,8 @@ fn history(alloc: Global, customer: u32) -> Result<Row, Fail> {
         warehouse: 1,
         date: Moment::new(60),
         amount: Cents::new(1000),
-        information: text(b"OPENINGPAYMENT")?,
-    }))
+        information: Text::of(b"OPENINGPAYMENT"),
+    })
 }
 
 fn order(id: u32, carrier: Option<u32>, all_local: bool) -> Row {
@@ -96,8 +88,8 @@ fn order(id: u32, carrier: Option<u32>, all_local: bool) -> Row {
     })
 }
 
-fn line(alloc: Global, order: u32, delivered: Option<Moment>, amount: Cents) -> Result<Row, Fail> {
-    Ok(Row::OrderLine(OrderLineRow {
+fn line(order: u32, delivered: Option<Moment>, amount: Cents) -> Row {
+    Row::OrderLine(OrderLineRow {
         order,
         district: 1,
         warehouse: 1,
@@ -107,34 +99,34 @@ fn line(alloc: Global, order: u32, delivered: Option<Moment>, amount: Cents) -> 
         delivered,
         quantity: 5,
         amount,
-        district_information: text(b"dddddddddddddddddddddd01")?,
-    }))
+        district_information: Text::of(b"dddddddddddddddddddddd01"),
+    })
 }
 
-fn item(alloc: Global) -> Result<Row, Fail> {
-    Ok(Row::Item(ItemRow {
+fn item() -> Row {
+    Row::Item(ItemRow {
         id: 1,
         image: 1,
-        name: text(b"ITEMNAME000001")?,
+        name: Text::of(b"ITEMNAME000001"),
         price: Cents::new(100),
-        information: text(b"iiiiiiiiiiiiiiiiiiiiiiiiii")?,
-    }))
+        information: Text::of(b"iiiiiiiiiiiiiiiiiiiiiiiiii"),
+    })
 }
 
-fn stock(alloc: Global) -> Result<Row, Fail> {
+fn stock() -> Row {
     let texts = [
-        text(b"dddddddddddddddddddddd01")?,
-        text(b"dddddddddddddddddddddd02")?,
-        text(b"dddddddddddddddddddddd03")?,
-        text(b"dddddddddddddddddddddd04")?,
-        text(b"dddddddddddddddddddddd05")?,
-        text(b"dddddddddddddddddddddd06")?,
-        text(b"dddddddddddddddddddddd07")?,
-        text(b"dddddddddddddddddddddd08")?,
-        text(b"dddddddddddddddddddddd09")?,
-        text(b"dddddddddddddddddddddd10")?,
+        Text::of(b"dddddddddddddddddddddd01"),
+        Text::of(b"dddddddddddddddddddddd02"),
+        Text::of(b"dddddddddddddddddddddd03"),
+        Text::of(b"dddddddddddddddddddddd04"),
+        Text::of(b"dddddddddddddddddddddd05"),
+        Text::of(b"dddddddddddddddddddddd06"),
+        Text::of(b"dddddddddddddddddddddd07"),
+        Text::of(b"dddddddddddddddddddddd08"),
+        Text::of(b"dddddddddddddddddddddd09"),
+        Text::of(b"dddddddddddddddddddddd10"),
     ];
-    Ok(Row::Stock(StockRow {
+    Row::Stock(StockRow {
         item: 1,
         warehouse: 1,
         quantity: 11,
@@ -142,8 +134,8 @@ fn stock(alloc: Global) -> Result<Row, Fail> {
         ytd: 0,
         order_count: 0,
         remote_count: 0,
-        information: text(b"ssssssssssssssssssssssssss")?,
-    }))
+        information: Text::of(b"ssssssssssssssssssssssssss"),
+    })
 }
 
 pub fn put(tables: &mut Tables, row: Row) -> Result<(), Fail> {
@@ -156,24 +148,24 @@ pub fn put(tables: &mut Tables, row: Row) -> Result<(), Fail> {
 /// Tables with some rows in each of the nine, loaded out of the keys' order.
 pub fn opened(alloc: Global) -> Result<Tables, Fail> {
     let mut tables = Tables::empty(alloc);
-    put(&mut tables, warehouse(alloc, 2, b"WARE002")?)?;
-    put(&mut tables, warehouse(alloc, 1, b"WARE001")?)?;
-    put(&mut tables, district(alloc)?)?;
+    put(&mut tables, warehouse(2, Text::of(b"WARE002")))?;
+    put(&mut tables, warehouse(1, Text::of(b"WARE001")))?;
+    put(&mut tables, district())?;
     put(
         &mut tables,
-        customer(alloc, 2, b"FIRST9997", b"BARBAROUGHT")?,
+        customer(2, Text::of(b"FIRST9997"), Text::of(b"BARBAROUGHT")),
     )?;
-    put(&mut tables, customer(alloc, 1, b"FIRST9998", b"BARBARBAR")?)?;
-    put(&mut tables, history(alloc, 2)?)?;
-    put(&mut tables, history(alloc, 1)?)?;
-    put(&mut tables, item(alloc)?)?;
-    put(&mut tables, stock(alloc)?)?;
+    put(&mut tables, customer(1, Text::of(b"FIRST9998"), Text::of(b"BARBARBAR")))?;
+    put(&mut tables, history(2))?;
+    put(&mut tables, history(1))?;
+    put(&mut tables, item())?;
+    put(&mut tables, stock())?;
     put(&mut tables, order(8, None, false))?;
     put(&mut tables, order(1, Some(1), true))?;
-    put(&mut tables, line(alloc, 8, None, Cents::new(100))?)?;
+    put(&mut tables, line(8, None, Cents::new(100)))?;
     put(
         &mut tables,
-        line(alloc, 1, Some(Moment::new(0)), Cents::new(0))?,
+        line(1, Some(Moment::new(0)), Cents::new(0)),
     )?;
     put(
         &mut tables,

@@ -6,7 +6,7 @@ use crate::test_rows::{opened, put, warehouse};
 use std::alloc::Global;
 use std::io::{self, ErrorKind, Write};
 use std::test::Fail;
-use tpcc_rows::Table;
+use tpcc_rows::{Table, Text};
 use tpcc_tables::Tables;
 
 /// Keeps some bytes and then fails. It is interrupted before each write.
@@ -153,8 +153,8 @@ fn records_of_each_table(rt: HostRuntime) -> Result<(), Fail> {
 #[test]
 fn commas_and_quotes_within_a_text(rt: HostRuntime) -> Result<(), Fail> {
     let mut tables = Tables::empty(rt.alloc());
-    put(&mut tables, warehouse(rt.alloc(), 1, b"A,B \"C\"")?)?;
-    put(&mut tables, warehouse(rt.alloc(), 2, b"")?)?;
+    put(&mut tables, warehouse(1, Text::of(b"A,B \"C\"")))?;
+    put(&mut tables, warehouse(2, Text::empty()))?;
     let text = dumped(rt.alloc(), &tables, Table::Warehouse)?;
     let head = head(Table::Warehouse).as_bytes();
     let records = text.as_slice().strip_prefix(head).ok_or("head")?;

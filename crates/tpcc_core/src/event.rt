@@ -3,7 +3,7 @@
 use tpcc_rows::Request;
 
 /// One atomic step of one actor. Terminals and servers are numbered from 1.
-#[derive(Debug, Drop)]
+#[derive(Drop)]
 pub enum Event {
     /// A terminal posts a request with its purse.
     Post { terminal: u32, request: Request },

@@ -48,7 +48,7 @@ fn each_kind_of_line(rt: HostRuntime) -> Result<(), Fail> {
     let named = StatusQuery {
         warehouse: 1,
         district: 1,
-        who: Who::Name(Text::new(alloc, b"BARBARBAR", 16)?),
+        who: Who::Name(Text::of(b"BARBARBAR")),
     };
     let stock = StockQuery {
         warehouse: 1,
@@ -60,7 +60,7 @@ fn each_kind_of_line(rt: HostRuntime) -> Result<(), Fail> {
         carrier: 3,
         queued: Moment::new(60),
     };
-    let longest = Who::Name(Text::new(alloc, b"ABCDEFGHIJKLMNOP", 16)?);
+    let longest = Who::Name(Text::of(b"ABCDEFGHIJKLMNOP"));
     for (line, call) in [
         (
             "new-order 1 2 3 0 20:1:10 4294967295:2:0",

@@ -7,9 +7,7 @@ use std::alloc::Global;
 use std::marker::Model;
 use tpcc_draws::last_name;
 use tpcc_money::{Cents, Moment, NoMemory};
-use tpcc_rows::{
-    Few, Line, Lines, Order, Payment, Request, StatusQuery, StockQuery, Ticket, Who,
-};
+use tpcc_rows::{Few, Line, Lines, Order, Payment, Request, StatusQuery, StockQuery, Ticket, Who};
 
 /// The number of a last name (4.3.2.3), 0 to 999, seen as that number.
 #[derive(Clone, Copy)]

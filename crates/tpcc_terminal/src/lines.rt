@@ -66,7 +66,11 @@ impl Screen {
         }
     }
 
-    pub(crate) fn put_text<const N: usize>(&mut self, name: &[u8], text: &Text<N>) -> Result<(), NoMemory>
+    pub(crate) fn put_text<const N: usize>(
+        &mut self,
+        name: &[u8],
+        text: &Text<N>,
+    ) -> Result<(), NoMemory>
         ensures { OnOk result (Adds self.old self.new (name.now ++ text.now)) }
     {
         self.put(name)?;

@@ -56,7 +56,10 @@ fn put_customer_line(screen: &mut Screen, paid: &Paid) -> Result<(), NoMemory>
     screen.put(b"\n")
 }
 
-fn put_information_line(screen: &mut Screen, information: &Option<Text<200>>) -> Result<(), NoMemory>
+fn put_information_line(
+    screen: &mut Screen,
+    information: &Option<Text<200>>,
+) -> Result<(), NoMemory>
     ensures { OnOk result (Adds screen.old screen.new (screens.information_line information.now)) }
 {
     let Some(first) = information else {

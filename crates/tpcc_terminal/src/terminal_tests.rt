@@ -28,10 +28,6 @@ fn behind(terminal: &mut Terminal, others: u32) -> Result<Request, NoMemory> {
     terminal.next(moment())
 }
 
-fn name(alloc: Global, bytes: &[u8]) -> Result<Who, Fail> {
-    Ok(Who::Name(Text::new(alloc, bytes, 16)?))
-}
-
 /// A payment in district and customer's district (warehouse, district).
 fn payment(
     home: u32,
@@ -81,9 +77,9 @@ fn order(
 fn first_cards_of_terminal_1(rt: HostRuntime) -> Result<(), Fail> {
     let alloc = rt.alloc();
     let mut terminal = terminal(alloc, 1, 1, 1)?;
-    let expected = payment(1, 6, 1, 6, name(alloc, b"BARBARATION")?, 487_691);
+    let expected = payment(1, 6, 1, 6, Who::Name(Text::of(b"BARBARATION")), 487_691);
     assert_eq!(rt; terminal.next(moment())?, expected);
-    let expected = payment(1, 9, 1, 9, name(alloc, b"BARBARANTI")?, 147_587);
+    let expected = payment(1, 9, 1, 9, Who::Name(Text::of(b"BARBARANTI")), 147_587);
     assert_eq!(rt; terminal.next(moment())?, expected);
     let lines = [
         (35, 1, 10),
@@ -122,7 +118,7 @@ fn later_cards_of_terminal_1(rt: HostRuntime) -> Result<(), Fail> {
     let status = StatusQuery {
         warehouse: 1,
         district: 1,
-        who: name(alloc, b"BARBARBAR")?,
+        who: Who::Name(Text::of(b"BARBARBAR")),
     };
     assert_eq!(rt; behind(&mut terminal, 10)?, Request::Status(status));
     let stock = StockQuery {
@@ -132,7 +128,7 @@ fn later_cards_of_terminal_1(rt: HostRuntime) -> Result<(), Fail> {
     };
     assert_eq!(rt; behind(&mut terminal, 2)?, Request::Stock(stock));
     // The first card of the second deck.
-    let expected = payment(1, 7, 1, 7, name(alloc, b"BARBARABLE")?, 458_904);
+    let expected = payment(1, 7, 1, 7, Who::Name(Text::of(b"BARBARABLE")), 458_904);
     assert_eq!(rt; behind(&mut terminal, 9)?, expected);
     Ok(())
 }
@@ -177,7 +173,7 @@ fn an_unused_item(rt: HostRuntime) -> Result<(), Fail> {
 fn payers_of_other_warehouses(rt: HostRuntime) -> Result<(), Fail> {
     let alloc = rt.alloc();
     let mut remote = terminal(alloc, 8, 3, 194)?;
-    let expected = payment(2, 1, 1, 1, name(alloc, b"BARBARABLE")?, 136_386);
+    let expected = payment(2, 1, 1, 1, Who::Name(Text::of(b"BARBARABLE")), 136_386);
     assert_eq!(rt; behind(&mut remote, 2)?, expected);
     let expected = payment(2, 1, 3, 6, Who::Number(5), 314_371);
     assert_eq!(rt; remote.next(moment())?, expected);

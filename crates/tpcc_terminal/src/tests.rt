@@ -1,6 +1,5 @@
 //! Each public call on worked values, with ample memory.
 use super::*;
-use std::alloc::Global;
 use std::test::Fail;
 use tpcc_money::{Cents, Moment, Rate};
 use tpcc_rows::{
@@ -9,18 +8,14 @@ use tpcc_rows::{
     StatusLine, StatusLines, Text, Ticket,
 };
 
-fn text(alloc: Global, bytes: &[u8]) -> Result<Text, Fail> {
-    Ok(Text::new(alloc, bytes, 200)?)
-}
-
-fn address(alloc: Global) -> Result<Address, Fail> {
-    Ok(Address {
-        street_1: text(alloc, b"MAINSTREET")?,
-        street_2: text(alloc, b"SIDESTREET")?,
-        city: text(alloc, b"CITYCENTRE")?,
-        state: text(alloc, b"AB")?,
-        zip: text(alloc, b"000111111")?,
-    })
+fn address() -> Address {
+    Address {
+        street_1: Text::of(b"MAINSTREET"),
+        street_2: Text::of(b"SIDESTREET"),
+        city: Text::of(b"CITYCENTRE"),
+        state: Text::of(b"AB"),
+        zip: Text::of(b"000111111"),
+    }
 }
 
 fn ticket() -> Ticket {
@@ -31,8 +26,8 @@ fn ticket() -> Ticket {
     }
 }
 
-fn paid(alloc: Global, credit: &[u8], information: Option<Text>) -> Result<Reply, Fail> {
-    Ok(Reply::Paid(Paid {
+fn paid(credit: Text<2>, information: Option<Text<200>>) -> Reply {
+    Reply::Paid(Paid {
         warehouse: 1,
         district: 1,
         customer_warehouse: 1,
@@ -40,40 +35,42 @@ fn paid(alloc: Global, credit: &[u8], information: Option<Text>) -> Result<Reply
         customer: 1,
         amount: Cents::new(100),
         date: Moment::new(0),
-        warehouse_address: address(alloc)?,
-        district_address: address(alloc)?,
-        first: text(alloc, b"FIRST9998")?,
-        middle: text(alloc, b"OE")?,
-        last: text(alloc, b"BARBARBAR")?,
-        customer_address: address(alloc)?,
-        phone: text(alloc, b"0000000000000001")?,
+        warehouse_address: address(),
+        district_address: address(),
+        first: Text::of(b"FIRST9998"),
+        middle: Text::of(b"OE"),
+        last: Text::of(b"BARBARBAR"),
+        customer_address: address(),
+        phone: Text::of(b"0000000000000001"),
         since: Moment::new(0),
-        credit: text(alloc, credit)?,
+        credit,
         credit_limit: Cents::new(5_000_000),
         discount: Rate::new(100),
         balance: Cents::new(-1100),
         information,
-    }))
+    })
 }
 
-fn accepted(alloc: Global) -> Result<Reply, Fail> {
+fn accepted() -> Reply {
     let line = EnteredLine {
         number: 1,
         supply: 1,
         item: 20,
-        name: text(alloc, b"ITEMNAME000020")?,
+        name: Text::of(b"ITEMNAME000020"),
         quantity: 10,
         stock: 20,
         brand: Brand::Original,
         price: Cents::new(119),
         amount: Cents::new(1190),
     };
-    Ok(Reply::Entered(Entered::Accepted(AcceptedOrder {
+    let mut lines = EnteredLines::empty();
+    lines.push(line);
+    Reply::Entered(Entered::Accepted(AcceptedOrder {
         warehouse: 1,
         district: 1,
         customer: 1,
-        last: text(alloc, b"BARBARBAR")?,
-        credit: text(alloc, b"GC")?,
+        last: Text::of(b"BARBARBAR"),
+        credit: Text::of(b"GC"),
         discount: Rate::new(100),
         order: 11,
         line_count: 5,
@@ -81,35 +78,35 @@ fn accepted(alloc: Global) -> Result<Reply, Fail> {
         district_tax: Rate::new(100),
         entry_date: Moment::new(0),
         total: Cents::new(5495),
-        lines: EnteredLines::new(vec![in alloc; line]?),
-    })))
-}
-
-fn rolled_back(alloc: Global) -> Result<Reply, Fail> {
-    Ok(Reply::Entered(Entered::RolledBack(RolledBackOrder {
-        warehouse: 1,
-        district: 1,
-        customer: 1,
-        last: text(alloc, b"BARBARBAR")?,
-        credit: text(alloc, b"GC")?,
-        order: 11,
-    })))
-}
-
-fn status(alloc: Global, order: Option<LastOrder>) -> Result<Reply, Fail> {
-    Ok(Reply::Status(Status {
-        warehouse: 1,
-        district: 1,
-        customer: 8,
-        first: text(alloc, b"FIRST9991")?,
-        middle: text(alloc, b"OE")?,
-        last: text(alloc, b"BARBAROUGHT")?,
-        balance: Cents::new(-1000),
-        order,
+        lines,
     }))
 }
 
-fn last_order(alloc: Global) -> Result<LastOrder, Fail> {
+fn rolled_back() -> Reply {
+    Reply::Entered(Entered::RolledBack(RolledBackOrder {
+        warehouse: 1,
+        district: 1,
+        customer: 1,
+        last: Text::of(b"BARBARBAR"),
+        credit: Text::of(b"GC"),
+        order: 11,
+    }))
+}
+
+fn status(order: Option<LastOrder>) -> Reply {
+    Reply::Status(Status {
+        warehouse: 1,
+        district: 1,
+        customer: 8,
+        first: Text::of(b"FIRST9991"),
+        middle: Text::of(b"OE"),
+        last: Text::of(b"BARBAROUGHT"),
+        balance: Cents::new(-1000),
+        order,
+    })
+}
+
+fn last_order() -> LastOrder {
     let line = StatusLine {
         supply: 1,
         item: 36,
@@ -124,12 +121,15 @@ fn last_order(alloc: Global) -> Result<LastOrder, Fail> {
         amount: Cents::new(0),
         delivered: Some(Moment::new(60)),
     };
-    Ok(LastOrder {
+    let mut lines = StatusLines::empty();
+    lines.push(line);
+    lines.push(delivered);
+    LastOrder {
         order: 8,
         entry_date: Moment::new(0),
         carrier: None,
-        lines: StatusLines::new(vec![in alloc; line, delivered]?),
-    })
+        lines,
+    }
 }
 
 #[test]
@@ -154,36 +154,36 @@ fn replies(rt: HostRuntime) -> Result<(), Fail> {
     };
     let delivered = LastOrder {
         carrier: Some(7),
-        ..last_order(alloc)?
+        ..last_order()
     };
-    let first_bytes = text(alloc, b"1 1 1 1 1 1.00 xxx")?;
+    let first_bytes = Text::of(b"1 1 1 1 1 1.00 xxx");
     for (reply, shown) in [
         (
-            accepted(alloc)?,
+            accepted(),
             "new-order W_ID=1 D_ID=1 C_ID=1 C_LAST=BARBARBAR C_CREDIT=GC C_DISCOUNT=0.0100 O_ID=11 O_OL_CNT=5 W_TAX=0.1000 D_TAX=0.0100 O_ENTRY_D=1970-01-01T00:00:00 total=54.95\nline 1 OL_SUPPLY_W_ID=1 OL_I_ID=20 I_NAME=ITEMNAME000020 OL_QUANTITY=10 S_QUANTITY=20 brand=B I_PRICE=1.19 OL_AMOUNT=11.90\n",
         ),
         (
-            rolled_back(alloc)?,
+            rolled_back(),
             "new-order W_ID=1 D_ID=1 C_ID=1 C_LAST=BARBARBAR C_CREDIT=GC O_ID=11 Item number is not valid\n",
         ),
         (
-            paid(alloc, b"GC", None)?,
+            paid(Text::of(b"GC"), None),
             "payment W_ID=1 D_ID=1 C_W_ID=1 C_D_ID=1 C_ID=1 H_AMOUNT=1.00 H_DATE=1970-01-01T00:00:00\nwarehouse MAINSTREET,SIDESTREET,CITYCENTRE,AB,000111111\ndistrict MAINSTREET,SIDESTREET,CITYCENTRE,AB,000111111\ncustomer FIRST9998 OE BARBARBAR MAINSTREET,SIDESTREET,CITYCENTRE,AB,000111111 C_PHONE=0000000000000001 C_SINCE=1970-01-01T00:00:00 C_CREDIT=GC C_CREDIT_LIM=50000.00 C_DISCOUNT=0.0100 C_BALANCE=-11.00\n",
         ),
         (
-            paid(alloc, b"BC", Some(first_bytes))?,
+            paid(Text::of(b"BC"), Some(first_bytes)),
             "payment W_ID=1 D_ID=1 C_W_ID=1 C_D_ID=1 C_ID=1 H_AMOUNT=1.00 H_DATE=1970-01-01T00:00:00\nwarehouse MAINSTREET,SIDESTREET,CITYCENTRE,AB,000111111\ndistrict MAINSTREET,SIDESTREET,CITYCENTRE,AB,000111111\ncustomer FIRST9998 OE BARBARBAR MAINSTREET,SIDESTREET,CITYCENTRE,AB,000111111 C_PHONE=0000000000000001 C_SINCE=1970-01-01T00:00:00 C_CREDIT=BC C_CREDIT_LIM=50000.00 C_DISCOUNT=0.0100 C_BALANCE=-11.00\nC_DATA=1 1 1 1 1 1.00 xxx\n",
         ),
         (
-            status(alloc, None)?,
+            status(None),
             "order-status W_ID=1 D_ID=1 C_ID=8 C_FIRST=FIRST9991 C_MIDDLE=OE C_LAST=BARBAROUGHT C_BALANCE=-10.00\nno order\n",
         ),
         (
-            status(alloc, Some(last_order(alloc)?))?,
+            status(Some(last_order())),
             "order-status W_ID=1 D_ID=1 C_ID=8 C_FIRST=FIRST9991 C_MIDDLE=OE C_LAST=BARBAROUGHT C_BALANCE=-10.00\norder O_ID=8 O_ENTRY_D=1970-01-01T00:00:00 O_CARRIER_ID=-\nline OL_SUPPLY_W_ID=1 OL_I_ID=36 OL_QUANTITY=5 OL_AMOUNT=1.00 OL_DELIVERY_D=-\nline OL_SUPPLY_W_ID=2 OL_I_ID=37 OL_QUANTITY=5 OL_AMOUNT=0.00 OL_DELIVERY_D=1970-01-01T00:01:00\n",
         ),
         (
-            status(alloc, Some(delivered))?,
+            status(Some(delivered)),
             "order-status W_ID=1 D_ID=1 C_ID=8 C_FIRST=FIRST9991 C_MIDDLE=OE C_LAST=BARBAROUGHT C_BALANCE=-10.00\norder O_ID=8 O_ENTRY_D=1970-01-01T00:00:00 O_CARRIER_ID=7\nline OL_SUPPLY_W_ID=1 OL_I_ID=36 OL_QUANTITY=5 OL_AMOUNT=1.00 OL_DELIVERY_D=-\nline OL_SUPPLY_W_ID=2 OL_I_ID=37 OL_QUANTITY=5 OL_AMOUNT=0.00 OL_DELIVERY_D=1970-01-01T00:01:00\n",
         ),
         (
