@@ -91,7 +91,7 @@ pub fn serve_until_closed<N: Naming, T: Seating, C: Turning, G: Gate, R: Wait>(
     for _ in rt.forever() {
         // Read before the round, so that a job posted before the mailboxes were closed is found.
         let closed = mailboxes.is_closed(&mut serving);
-        served += serve_some(
+        let answered = serve_some(
             rt,
             mailboxes,
             &mut serving,
@@ -99,10 +99,14 @@ pub fn serve_until_closed<N: Naming, T: Seating, C: Turning, G: Gate, R: Wait>(
             &mut gate,
             limit - served,
         );
+        served += answered;
         if closed || served == limit {
             break;
         }
-        thread::yield_now();
+        // A round that found nothing may go on behind the clients.
+        if answered == 0 {
+            thread::yield_now();
+        }
     }
     (serving, gate, served)
 }

@@ -11,6 +11,7 @@ use crate::turns::knows::Knows;
 use crate::turns::rule::{Draw, End, Look, TurnRule};
 use atomic_table::{Seat, Shared};
 use std::sync::Wait;
+use std::thread;
 use tpcc_population::Opening;
 
 /// The words and the slot that all seats share.
@@ -40,6 +41,8 @@ fn wait<N: Naming, R: Wait>(rt: &R, board: &Board<N>, seat: &mut Place<N>, ticke
         if board.load::<Look>(seat, 1) == ticket {
             return;
         }
+        // The thread whose turn it is may have no processor.
+        thread::yield_now();
     }
     unreachable!()
 }
