@@ -12,6 +12,7 @@ picked=("$@")
 [ -x "$tpcc" ] || { echo "programs: there is no program at $tpcc; (cd crates/tpcc && rt run) builds it"; exit 1; }
 scratch=$(mktemp -d)
 trap 'rm -rf "$scratch"' EXIT
+trap 'exit 1' INT TERM
 cd "$scratch" || exit 1
 run=0
 
