@@ -182,6 +182,44 @@ for blocks in 1 2 7; do
     payments 40 | head -c $((blocks * 1024)) > first_part
     times 40 'payment 1 1 1 1 1 5000.00 0\n' > stdin
     by "$blocks blocks of screens" "filled $blocks script" 3 'fault 6 Write' '@cat first_part'
-    "$tpcc" dump ITEM | head -c $((blocks * 1024)) > first_part
-    by "$blocks blocks of a dump"  "filled $blocks 'dump ITEM'" 3 'fault 1 Write' '@cat first_part'
+    "$tpcc" dump STOCK | head -c $((blocks * 1024)) > first_part
+    by "$blocks blocks of a dump"  "filled $blocks 'dump STOCK'" 3 'fault 1 Write' '@cat first_part'
+done
+
+# ---- little memory: an address space of so many KiB. A run ends with its report or for want of memory, a dump and a
+# script too, and none by a signal; what a script wrote before is a first part of its screens.
+
+# The program in an address space of so many KiB.
+within() {
+    local size=$1
+    shift
+    timeout "$seconds" bash -c 'ulimit -v "$1"; shift; exec "$@"' - "$size" "$tpcc" "$@" < stdin > stdout 2> stderr
+    echo $? > status
+}
+
+# One of these faults, with status 4.
+is_refused() {
+    local fault
+    for fault in "$@"; do
+        [ "$(cat status)" = 4 ] && [ "$(cat stderr)" = "$fault" ] && return 0
+    done
+    return 1
+}
+
+refusals=0
+for size in 6000 8000 10000 12000 16000 20000 30000 40000 60000 80000 120000 200000 400000; do
+    left_out "a run in $size KiB" && continue
+    : > stdin
+    within "$size" run --seeded --terminals 8 --servers 3 --cards 20
+    : > stderr.wanted
+    printf 'paid 168225.46\nrise 168225.46\n' > stdout.wanted
+    if is_refused 'fault 3 NoMemory' 'fault 2 NoMemory'; then
+        refusals=$((refusals + 1))
+        cp stderr stderr.wanted
+        : > stdout.wanted
+    else
+        echo 0 > status.wanted
+        sed -i '1{/^entries [0-9]*$/d}' stdout
+    fi
+    compare "a run in $size KiB" "$([ -s stderr.wanted ] && echo 4 || echo 0)"
 done
