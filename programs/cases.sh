@@ -182,7 +182,7 @@ for blocks in 1 2 7; do
     payments 40 | head -c $((blocks * 1024)) > first_part
     times 40 'payment 1 1 1 1 1 5000.00 0\n' > stdin
     by "$blocks blocks of screens" "filled $blocks script" 3 'fault 6 Write' '@cat first_part'
-    "$tpcc" dump STOCK | head -c $((blocks * 1024)) > first_part
+    "$tpcc" dump STOCK 2> /dev/null | head -c $((blocks * 1024)) > first_part
     by "$blocks blocks of a dump"  "filled $blocks 'dump STOCK'" 3 'fault 1 Write' '@cat first_part'
 done
 
@@ -206,20 +206,46 @@ is_refused() {
     return 1
 }
 
-refusals=0
-for size in 6000 8000 10000 12000 16000 20000 30000 40000 60000 80000 120000 200000 400000; do
+# What the last run wrote to standard output is a report of equal amounts, and to standard error nothing; or nothing and one of
+# these faults. A request that was refused memory in its turn is not in the journal, so the amounts may be lower than in ample memory.
+wants_report() {
+    local amount
+    : > stderr.wanted
+    : > stdout.wanted
+    if is_refused "$@"; then
+        cp stderr stderr.wanted
+        return
+    fi
+    amount=$(sed -n 's/^paid \([0-9]*\.[0-9][0-9]\)$/\1/p' stdout)
+    printf '%s\npaid %s\nrise %s\n' "$(grep -m 1 -x 'entries [0-9]*' stdout)" "$amount" "$amount" > stdout.wanted
+}
+
+# The status that goes with what is wanted on standard error.
+wanted_status() {
+    if [ -s stderr.wanted ]; then echo 4; else echo 0; fi
+}
+
+for size in 4000 12000 40000 80000 100000 120000 150000 200000 300000 400000 600000 1200000; do
     left_out "a run in $size KiB" && continue
     : > stdin
     within "$size" run --seeded --terminals 8 --servers 3 --cards 20
-    : > stderr.wanted
-    printf 'paid 168225.46\nrise 168225.46\n' > stdout.wanted
-    if is_refused 'fault 3 NoMemory' 'fault 2 NoMemory'; then
-        refusals=$((refusals + 1))
-        cp stderr stderr.wanted
-        : > stdout.wanted
-    else
-        echo 0 > status.wanted
-        sed -i '1{/^entries [0-9]*$/d}' stdout
-    fi
-    compare "a run in $size KiB" "$([ -s stderr.wanted ] && echo 4 || echo 0)"
+    wants_report 'fault 3 NoMemory' 'fault 2 NoMemory'
+    compare "a run in $size KiB" "$(wanted_status)"
+done
+
+# All that is printed in ample memory, or want of memory and nothing.
+for size in 4000 20000 60000 140000 400000; do
+    for words in 'dump STOCK --items 100000' 'script --customers 3000 --items 100000'; do
+        left_out "$words in $size KiB" && continue
+        printf "$first" > stdin
+        "$tpcc" $words < stdin > whole
+        within "$size" $words
+        cp whole stdout.wanted
+        : > stderr.wanted
+        if is_refused 'fault 2 NoMemory' 'fault 7 NoMemory'; then
+            cp stderr stderr.wanted
+            : > stdout.wanted
+        fi
+        compare "$words in $size KiB" "$(wanted_status)"
+    done
 done

@@ -1,6 +1,7 @@
 // A library to be loaded before a program, under which calls of the C library fail: `cc -shared -fPIC`, then LD_PRELOAD.
 // FAILING says which calls:
 //
+//   count 0            nothing fails, and the number of allocations goes to file descriptor 9 at the end
 //   alloc N            the Nth allocation is refused
 //   allocs N           every allocation from the Nth on is refused
 //   thread N           the Nth thread can't be made
@@ -28,9 +29,9 @@ extern void *__libc_calloc(size_t, size_t);
 extern void *__libc_realloc(void *, size_t);
 extern void *__libc_memalign(size_t, size_t);
 
-enum kind { NONE, ALLOC, ALLOCS, THREAD, READ, SHORT_READ, INTERRUPT_READ, FULL, NOTHING, SHORT_WRITE, INTERRUPT_WRITE };
+enum kind { NONE, COUNT, ALLOC, ALLOCS, THREAD, READ, SHORT_READ, INTERRUPT_READ, FULL, NOTHING, SHORT_WRITE, INTERRUPT_WRITE };
 
-static const char *const names[] = { "", "alloc", "allocs", "thread", "read", "short-read", "interrupt-read", "full", "nothing", "short-write", "interrupt-write" };
+static const char *const names[] = { "", "count", "alloc", "allocs", "thread", "read", "short-read", "interrupt-read", "full", "nothing", "short-write", "interrupt-write" };
 
 static enum kind kind;
 static long number;
@@ -48,6 +49,20 @@ __attribute__((constructor)) static void begin(void) {
         }
 }
 
+static void tell_count(void) {
+    char digits[20];
+    int at = sizeof digits;
+    if (kind != COUNT) return;
+    for (long left = count; at > 0 && (left > 0 || at == sizeof digits); left /= 10) digits[--at] = '0' + left % 10;
+    syscall(SYS_write, 9, digits + at, sizeof digits - at);
+}
+
+// The program ends by this, so no destructor runs.
+void _exit(int status) {
+    tell_count();
+    for (;;) syscall(SYS_exit_group, status);
+}
+
 static void reached(void) {
     syscall(SYS_write, 9, "!", 1);
 }
@@ -60,6 +75,7 @@ static int is_it(enum kind asked) {
 }
 
 static int is_refused(void) {
+    if (kind == COUNT) atomic_fetch_add(&count, 1);
     if (kind == ALLOC) return is_it(ALLOC);
     if (kind != ALLOCS || atomic_fetch_add(&count, 1) + 1 < number) return 0;
     reached();

@@ -54,7 +54,14 @@ allow_script() {
 declare -A allowed
 refused_in_all=0
 
-# Each allocation of a script from one on refused in turn, or each so-manieth.
+# The number of allocations that these words make on no input.
+allocations() {
+    : > stdin
+    failing 'count 0' $1
+    cat hit
+}
+
+# Every so-manieth allocation of a script refused in turn, from one on.
 refuse_script() {
     local name=$1 words=$2 from=$3 step=$4 call
     left_out "refused memory: $name" && return
@@ -73,12 +80,15 @@ refuse_script() {
     run=$((run + 1))
 }
 
-# Allocations refused, of the opening and of what comes behind it.
-for name in first_payment tour new_order payment order_status delivery stock_level refusals; do
-    refuse_script "examples/$name" script 1 "${STEP:-1}"
+# Of the opening a part; of what comes behind it all, or each third. STEP is the step for all of it.
+behind=$(($(allocations script) + 1))
+refuse_script examples/first_payment script 1 "${STEP:-97}"
+refuse_script examples/first_payment script "$behind" 1
+refuse_script examples/tour script "$behind" 1
+for name in new_order payment order_status delivery stock_level refusals; do
+    refuse_script "examples/$name" script "$behind" "${STEP:-3}"
 done
-refuse_script examples/two_warehouses 'script --warehouses 2' 1 "${STEP:-1}"
-refuse_script programs/scripts/thirteen_notes script 1 "${STEP:-1}"
+refuse_script examples/two_warehouses 'script --warehouses 2' $(($(allocations 'script --warehouses 2') + 1)) "${STEP:-3}"
 
 # A dump whose allocations are refused in turn: all of it, or want of memory and a first part.
 refuse_dump() {
@@ -86,7 +96,7 @@ refuse_dump() {
     local call
     : > stdin
     "$tpcc" $1 > whole
-    for ((call = 1; ; call += ${STEP:-1})); do
+    for ((call = 1; ; call += ${STEP:-97})); do
         failing "alloc $call" $1
         [ -s hit ] || break
         : > stderr.wanted
@@ -95,7 +105,7 @@ refuse_dump() {
             echo 'fault 2 NoMemory' > stderr.wanted
             head -c "$(stat -c %s stdout)" whole > stdout.wanted
         fi
-        compare "refused memory: $1, allocation $call" "$([ -s stderr.wanted ] && echo 4 || echo 0)"
+        compare "refused memory: $1, allocation $call" "$(wanted_status)"
         run=$((run - 1))
         refused_in_all=$((refused_in_all + 1))
     done
@@ -105,32 +115,23 @@ refuse_dump() {
 for table in WAREHOUSE DISTRICT CUSTOMER HISTORY ORDER ORDER-LINE NEW-ORDER ITEM STOCK; do refuse_dump "dump $table"; done
 refuse_dump 'dump ITEM --seeded'
 
-# A run with such a call: its report, of which paid and rise are equal, or want of memory and nothing.
+# A run with such a call: a report of equal amounts, or want of memory and nothing.
 refuse_run() {
     left_out "$1 refused: $2" && return
-    local call paid
+    local call
     : > stdin
     for ((call = 1; ; call += $3)); do
         failing "$1 $call" $2
         [ -s hit ] || break
-        : > stderr.wanted
-        : > stdout.wanted
-        if [ "$(cat status)" = 0 ]; then
-            paid=$(sed -n 's/^paid \([0-9]*\.[0-9][0-9]\)$/\1/p' stdout)
-            printf '%s\npaid %s\nrise %s\n' "$(grep -m 1 -x 'entries [0-9]*' stdout)" "$paid" "$paid" > stdout.wanted
-        elif [ "$1" = thread ] || ! is_refused 'fault 2 NoMemory'; then
-            echo 'fault 3 NoMemory' > stderr.wanted
-        else
-            echo 'fault 2 NoMemory' > stderr.wanted
-        fi
-        compare "$1 refused: $2, call $call" "$([ -s stderr.wanted ] && echo 4 || echo 0)"
+        if [ "$1" = thread ]; then wants_report 'fault 3 NoMemory'; else wants_report 'fault 3 NoMemory' 'fault 2 NoMemory'; fi
+        compare "$1 refused: $2, call $call" "$(wanted_status)"
         run=$((run - 1))
         refused_in_all=$((refused_in_all + 1))
     done
     run=$((run + 1))
 }
 
-refuse_run alloc 'run --terminals 2 --servers 2 --cards 3' "${STEP:-1}"
+refuse_run alloc 'run --terminals 2 --servers 2 --cards 3' "${STEP:-41}"
 refuse_run thread 'run --terminals 3 --servers 3 --cards 1' 1
 
 # ---- standard input that fails
@@ -159,15 +160,16 @@ badly 'the first byte of a write alone'   'short-write 1'       "$first"        
 badly 'a write interrupted 1,000 times'   'interrupt-write 1000' "$first"           0 ''             "$screen"
 badly 'a write interrupted 1,001 times'   'interrupt-write 1001' "$first"           3 'fault 6 Write' ''
 
-# Standard output that takes each number of bytes, fewer than all, and then fails or takes nothing.
+# Standard output that takes each number of bytes, fewer than all, and then fails; or each seventh, and then takes nothing.
 bytes_in_all=0
 cut_off() {
     left_out "cut off: $1" && return
-    local call bytes
+    local call bytes size
     told "$3" > stdin
     "$tpcc" $1 < stdin > whole
+    size=$(stat -c %s whole)
     for call in full nothing; do
-        for ((bytes = 0; bytes < $(stat -c %s whole); bytes++)); do
+        for ((bytes = 0; bytes < size; bytes += $([ $call = full ] && echo 1 || echo 7))); do
             failing "$call $bytes" $1
             echo "$2" > stderr.wanted
             head -c "$bytes" whole > stdout.wanted
