@@ -1,0 +1,251 @@
+# The table of cases, read by run.sh. `it` has a name, the program's words, the input, the exit status, the line on
+# standard error and the output. An empty column is nothing; after @ stands a command, after = a script's stored screens.
+
+first='payment 1 1 1 1 1 1.00 0\n'
+screen==examples/first_payment
+address=MAINSTREET,SIDESTREET,CITYCENTRE,AB,000111111
+
+# The screens of so many payments of 5,000.00 by customer 1.
+payments() {
+    awk -v count="$1" -v address=$address 'BEGIN { for (i = 1; i <= count; i++) {
+        printf "payment W_ID=1 D_ID=1 C_W_ID=1 C_D_ID=1 C_ID=1 H_AMOUNT=5000.00 H_DATE=1970-01-01T00:00:00\n"
+        printf "warehouse %s\ndistrict %s\n", address, address
+        printf "customer FIRST9998 OE BARBARBAR %s C_PHONE=0000000000000001 C_SINCE=1970-01-01T00:00:00", address
+        printf " C_CREDIT=GC C_CREDIT_LIM=50000.00 C_DISCOUNT=0.0100 C_BALANCE=-%d.00\n", 10 + 5000 * i } }'
+}
+
+# ---- bad scripts: each line is a script of its own on a fresh book
+
+it 'no script at all'            script ''                                      0 ''              ''
+it 'no line feed'                script 'payment 1 1 1 1 1 1.00 0'              2 'fault 2 Cut 1' ''
+it 'a cut second line'           script 'check\nx'                              2 'fault 2 Cut 2' 'consistent\n'
+it 'a bad third line'            script 'check\nresults\nx\ncheck\n'            2 'fault 1 Bad 3' 'consistent\n'
+it 'an empty line'               script '\n'                                    2 'fault 1 Bad 1' ''
+it 'a ninth word'                script 'payment 1 1 1 1 1 1.00 0 0\n'          2 'fault 1 Bad 1' ''
+it 'a word too few'              script 'payment 1 1 1 1 1 1.00\n'              2 'fault 1 Bad 1' ''
+it 'two spaces'                  script 'payment  1 1 1 1 1 1.00 0\n'           2 'fault 1 Bad 1' ''
+it 'a space at the end'          script 'payment 1 1 1 1 1 1.00 0 \n'           2 'fault 1 Bad 1' ''
+it 'a space at the head'         script ' check\n'                              2 'fault 1 Bad 1' ''
+it 'a carriage return'           script 'payment 1 1 1 1 1 1.00 0\r\n'          2 'fault 1 Bad 1' ''
+it 'a tab for a space'           script 'deliver\t0\n'                          2 'fault 1 Bad 1' ''
+it 'a byte of zero'              script 'check\000\n'                           2 'fault 1 Bad 1' ''
+it 'a byte that is not ASCII'    script 'check\303\n'                           2 'fault 1 Bad 1' ''
+it 'capital letters'             script 'CHECK\n'                               2 'fault 1 Bad 1' ''
+it 'a needless zero'             script 'payment 1 1 1 1 01 1.00 0\n'           2 'fault 1 Bad 1' ''
+it 'a sign'                      script 'deliver +1\n'                          2 'fault 1 Bad 1' ''
+it 'a name in small letters'     script 'payment 1 1 1 1 bar 1.00 0\n'          2 'fault 1 Bad 1' ''
+it 'a name of 17 letters'        script 'payment 1 1 1 1 ABCDEFGHIJKLMNOPQ 1.00 0\n' 2 'fault 1 Bad 1' ''
+it 'a name of 16 letters'        script 'payment 1 1 1 1 ABCDEFGHIJKLMNOP 1.00 0\n'  0 '' 'refused 3 NoCustomer\n'
+it 'a name and a digit'          script 'status 1 1 BAR1\n'                     2 'fault 1 Bad 1' ''
+it 'an order by last name'       script 'new-order 1 1 BARBARBAR 0 1:1:1\n'     2 'fault 1 Bad 1' ''
+it 'a line of two parts'         script 'new-order 1 1 1 0 1:1\n'               2 'fault 1 Bad 1' ''
+it 'a line of four parts'        script 'new-order 1 1 1 0 1:1:1:1\n'           2 'fault 1 Bad 1' ''
+it 'a line with a needless zero' script 'new-order 1 1 1 0 1:01:1\n'            2 'fault 1 Bad 1' ''
+it 'no lines'                    script 'new-order 1 1 1 0\n'                   0 '' 'refused 4 LineCount\n'
+it 'an amount of one decimal'    script 'payment 1 1 1 1 1 1.0 0\n'             2 'fault 1 Bad 1' ''
+it 'an amount of three decimals' script 'payment 1 1 1 1 1 1.000 0\n'           2 'fault 1 Bad 1' ''
+it 'an amount with no units'     script 'payment 1 1 1 1 1 .50 0\n'             2 'fault 1 Bad 1' ''
+it 'an amount with a needless 0' script 'payment 1 1 1 1 1 01.00 0\n'           2 'fault 1 Bad 1' ''
+it 'an amount below zero'        script 'payment 1 1 1 1 1 -1.00 0\n'           2 'fault 1 Bad 1' ''
+it 'an amount past the largest'  script 'payment 1 1 1 1 1 10000000000.00 0\n'  2 'fault 1 Bad 1' ''
+it 'the largest amount'          script 'payment 1 1 1 1 1 9999999999.99 0\n'   0 '' 'refused 7 Amount\n'
+it 'the smallest amount'         script 'payment 1 1 1 1 1 0.00 0\n'            0 '' 'refused 7 Amount\n'
+it 'a number past 32 bits'       script 'stock 1 1 4294967296\n'                2 'fault 1 Bad 1' ''
+it 'the largest number'          script 'stock 1 1 4294967295\n'                0 '' 'refused 9 Threshold\n'
+it 'a moment of 2100'            script 'deliver 4102444800\n'                  2 'fault 1 Bad 1' ''
+it 'the last second of 2099'     script 'deliver 4102444799\n'                  0 '' 'no delivery queued\n'
+it 'the first refusal is told'   script 'payment 9 1 1 1 1 0.99 0\n'            0 '' 'refused 1 NoWarehouse\n'
+it 'customer 0'                  script 'status 1 1 0\n'                        0 '' 'refused 3 NoCustomer\n'
+it 'both warehouses come first'  script 'payment 1 11 9 1 1 1.00 0\n'           0 '' 'refused 1 NoWarehouse\n'
+it 'a district before an amount' script 'payment 1 11 1 1 1 0.99 0\n'           0 '' 'refused 2 NoDistrict\n'
+it 'lines before a roll-back'    script 'new-order 1 1 1 0 101:1:1\n'           0 '' 'refused 4 LineCount\n'
+it 'a supply before a roll-back' script 'new-order 1 1 1 0 1:1:1 2:1:1 3:1:1 4:2:1 101:1:1\n' 0 '' 'refused 6 NoSupply\n'
+it 'two words of a check'        script 'check 1\n'                             2 'fault 1 Bad 1' ''
+it 'nothing that was delivered'  script 'results\n'                             0 '' ''
+
+# ---- long lines and long scripts
+
+it '4,096 bytes'                 script '@times 4096 x; echo'                   2 'fault 1 Bad 1' ''
+it '4,097 bytes'                 script '@times 4097 x; echo'                   2 'fault 3 LongLine 1' ''
+it '4,096 bytes, cut'            script '@times 4096 x'                         2 'fault 2 Cut 1' ''
+it '4,097 bytes, cut'            script '@times 4097 x'                         2 'fault 3 LongLine 1' ''
+it 'an order of 4,096 bytes'     script '@printf "new-order 1 1 1 0 99:1:1"; times 677 " 1:1:1"; printf " 99999:1:1\n"' 0 '' 'refused 4 LineCount\n'
+it 'an order of 4,097 bytes'     script '@printf "new-order 1 1 1 0 99:1:1"; times 677 " 1:1:1"; printf " 999999:1:1\n"' 2 'fault 3 LongLine 1' ''
+it 'a long second line'          script '@echo check; times 4097 x'             2 'fault 3 LongLine 2' 'consistent\n'
+it '1,000,000 lines'             script '@times 1000000 "results\n"'            0 '' ''
+it '1,000,000 lines and a byte'  script '@times 1000000 "results\n"; printf x'  2 'fault 4 TooManyLines' ''
+it '1,000,001 lines'             script '@times 1000001 "results\n"'            2 'fault 4 TooManyLines' ''
+it '1,001 tickets'               script '@times 1001 "delivery 1 1 0\n"'        0 '' '@times 1000 "delivery W_ID=1 O_CARRIER_ID=1 Delivery has been queued\n"; echo refused 12 QueueFull'
+it '1,000 payments'              script '@times 1000 "payment 1 1 1 1 1 5000.00 0\n"; echo check' 0 '' '@payments 1000; echo consistent'
+
+# ---- words of the command line
+
+for words in '' serve help --help --version 'script --help' 'run --version' 'script extra' dump 'dump FOO' 'dump warehouse' \
+    'dump FOO --warehouses 0' 'dump ORDER_LINE' 'dump WAREHOUSE ITEM' 'script --cards 1' 'dump ITEM --terminals 1' 'script --speed 1' \
+    'run --terminals 0' 'run --terminals 1000' 'run --servers 0' 'run --servers 17' 'run --cards 100001' 'run --retire 100001' \
+    'run --terminals x' 'run --terminals 0 --warehouses 0' 'script --moment 4102444800' 'script --seed -1' \
+    'script --seed 18446744073709551616' 'script --items -1' 'script --items 4294967296' 'script --items' \
+    'script --items 100 --items 200' 'script --seeded 1' 'script --seeded --seeded'; do
+    it "words: $words" "$words" '' 1 'fault 1 Arguments' ''
+done
+for number in 0 101 4294967295; do it "$number warehouses" "script --warehouses $number" '' 1 'fault 1 Warehouses' ''; done
+for number in 0 5 15 3010 4294967295; do it "$number customers" "script --customers $number" '' 1 'fault 2 Customers' ''; done
+for number in 0 99 100001 4294967295; do it "$number items" "script --items $number" '' 1 'fault 3 Items' ''; done
+it 'the first fault of a scale'  'run --warehouses 0 --customers 0 --items 0' '' 1 'fault 1 Warehouses' ''
+it 'the second before the third' 'dump ITEM --customers 0 --items 0' '' 1 'fault 2 Customers' ''
+it 'the most warehouses'         'script --warehouses 100'                   'results\n' 0 '' ''
+it 'the largest district'        'script --customers 3000 --items 100000'    ''        0 '' ''
+it 'a seed past 32 bits'         'script --seeded --seed 18446744073709551615 --moment 4102444799' 'check\n' 0 '' 'consistent\n'
+
+# ---- what the options of the opening mean: each has a value of its own, and none a default
+
+it 'the plain warehouse' 'dump WAREHOUSE' '' 0 '' \
+    'W_ID,W_NAME,W_STREET_1,W_STREET_2,W_CITY,W_STATE,W_ZIP,W_TAX,W_YTD\n1,WARE001,MAINSTREET,SIDESTREET,CITYCENTRE,AB,000111111,0.1000,1000.00\n'
+it 'three seeded warehouses' 'dump WAREHOUSE --warehouses 3 --customers 20 --items 110 --seeded --seed 7 --moment 86400' '' 0 '' \
+    'W_ID,W_NAME,W_STREET_1,W_STREET_2,W_CITY,W_STATE,W_ZIP,W_TAX,W_YTD\n1,psvrGPkH,I3gR7697Ajm,z8m3tQiGnQDnTkWjv,Sxc3FsZzgR4L,PH,149711111,0.0159,2000.00\n2,TqVfBu4Rr,Kr82M6OgFJ4g9w,QuJzFlcuK3eO7jp,yO3TUdYWwZeSpg,B4,735211111,0.1609,2000.00\n3,UIb8ZtwFbS,8eKWOwijwh3qj3dC8,VjejxKh9QzaJjm,O3s4Frb26lGYqtjwTmPn,Wu,781711111,0.1251,2000.00\n'
+
+# The SHA-256 of each table, from a second program in another language that was written from docs/formats.md and docs/model.md.
+dumped() {
+    by "dump $1" "\"$tpcc\" dump $1 2> stderr | sha256sum | cut -d' ' -f1 > stdout; echo \${PIPESTATUS[0]} > status" 0 '' "$2\\n"
+}
+
+plain='--warehouses 2 --customers 20 --items 110 --seed 7 --moment 86400'
+dumped "WAREHOUSE $plain" 816493e0a0fdf760a73e01e5c894b980d7d39b968eca5ff14af22189d045cb7a
+dumped "DISTRICT $plain" d813bd4c5e0aca4f606b41327317ddc49aa53a04c789380688e7526b44a7302b
+dumped "CUSTOMER $plain" 317ef3102ebbedbf09ae400c5a2ceb30288158052a229e1d305038bfb7469337
+dumped "HISTORY $plain" 8591d5cb19d9b0fb75cfc8831786af3e2c1f9ac5978eeb98a9ffbc29aab5e55e
+dumped "ORDER $plain" 9b1854b8fb425fc8de365307831595cb11fbf13a773d86b59a5d6819dcefb69a
+dumped "ORDER-LINE $plain" 5afce0f6a272d62d9730b245b9b04139b561f44b3786fa911a1eb5d59e4619dd
+dumped "NEW-ORDER $plain" 1a76282d64fc4d90b28c2273d0391a00aac7a089bc5fb13f40dadebab9e7cb4b
+dumped "ITEM $plain" 2eaf3f7bae23440d530f8ff12548e297269c99c6a502b4db3712eb8a46ca970f
+dumped "STOCK $plain" ebd71e1cd4a4d39d897c99adba10b9c2e4c9648e231b0c05c00c924cd7c54a4b
+dumped "WAREHOUSE $plain --seeded" aa766ef0e866d4c3cac6bf920430c8f651bda44df713d7e5186720fa959a8400
+dumped "DISTRICT $plain --seeded" 83d2b2b04c7b73d69ac72f602216ac9744d55af2983822c6acbae626241d0e47
+dumped "CUSTOMER $plain --seeded" 02185f8877a9d3e86b487f1f5b2bbc95f0c2670dc8b22edcef48ee55af1878a1
+dumped "HISTORY $plain --seeded" fb86b314b36b2b7dbcdaa70f4afacd3deeec3fc201ad9a84108dfa05bcfedbf7
+dumped "ORDER $plain --seeded" 150ad3f57ea2d34fc8c7abba82061e8518b6d3377eec1a7259adc62afabe8ecf
+dumped "ORDER-LINE $plain --seeded" 5a0c084be4ce08a9ffdb79da72a7d93fc93d4bd650786e0093f62e16875a9c06
+dumped "NEW-ORDER $plain --seeded" 1a76282d64fc4d90b28c2273d0391a00aac7a089bc5fb13f40dadebab9e7cb4b
+dumped "ITEM $plain --seeded" 0d0f54bb277ee1938aebbc5822dd8a1434018b910b3c9f987a08d8ef05eea371
+dumped "STOCK $plain --seeded" 5df7ddf62556c8ca991570140d22478ab609acde1595e94bcff90605355d3e37
+dumped "CUSTOMER --customers 1200 --items 300 --seeded --seed 18446744073709551615 --moment 4102444799" 72eec8ed9ae87d912865b747d2604b518c8ebe44591a948d43186dfbf0884c8c
+
+# ---- runs
+
+# A run, its least and most entries, and what its terminals pay, by the second program. How many entries say that no
+# delivery is queued depends on the threads.
+reported() {
+    left_out "$1" && return
+    timeout "$seconds" "$tpcc" run $2 > stdout 2> stderr
+    echo $? > status
+    : > stderr.wanted
+    local entries
+    entries=$(sed -n '1s/^entries \([0-9]*\)$/\1/p' stdout)
+    [ -n "$entries" ] && [ "$entries" -ge "$3" ] && [ "$entries" -le "$4" ] || entries="$3 to $4"
+    printf 'entries %s\npaid %s\nrise %s\n' "$entries" "$5" "$5" > stdout.wanted
+    compare "$1" 0
+}
+
+reported 'no card' '--terminals 2 --servers 2 --cards 0' \
+    1 1 0.00
+reported 'two terminals' '--seeded --terminals 2 --servers 1 --cards 23' \
+    70 90 50664.66
+reported 'three servers that retire' '--seeded --terminals 2 --servers 3 --retire 1 --cards 23' \
+    70 90 50664.66
+reported 'sixteen servers' '--seeded --servers 16' \
+    70 90 50664.66
+reported '999 terminals' '--seeded --terminals 999 --cards 1' \
+    1420 1421 1072077.00
+reported 'an own value for each option' '--seeded --warehouses 2 --customers 30 --items 120 --seed 5 --moment 60 --terminals 3 --servers 2 --cards 7 --retire 4' \
+    29 29 27824.28
+reported 'the seed of a plain opening' '--seed 7' \
+    60 80 34264.37
+reported 'five terminals of a plain opening' '--seed 9 --customers 20 --moment 30 --terminals 5 --cards 40 --servers 4 --retire 3' \
+    237 277 96057.42
+reported '2,000 cards' '--seeded --warehouses 4 --customers 60 --items 200 --seed 3 --terminals 4 --servers 2 --cards 500' \
+    2871 3371 2214693.70
+
+# ---- readers and writers that fail
+
+by 'a reader that fails'         '"$tpcc" script < / 2> stderr; echo $? > status'                     3 'fault 5 Read' ''
+by 'an endless reader'           'tr "\0" x < /dev/zero | "$tpcc" script 2> stderr; echo ${PIPESTATUS[1]} > status' 2 'fault 3 LongLine 1' ''
+by 'a script to a full disk'     'printf "$first" | "$tpcc" script > /dev/full 2> stderr; echo ${PIPESTATUS[1]} > status' 3 'fault 6 Write' ''
+by 'a dump to a full disk'       '"$tpcc" dump ITEM > /dev/full 2> stderr; echo $? > status'          3 'fault 1 Write' ''
+by 'a report to a full disk'     '"$tpcc" run --cards 1 > /dev/full 2> stderr; echo $? > status'      3 'fault 4 Write' ''
+
+# A file that may have so many blocks of 1,024 bytes and no more.
+filled() {
+    (trap '' XFSZ; ulimit -f "$1"; "$tpcc" $2 < stdin > stdout 2> stderr; echo $? > status)
+}
+
+for blocks in 1 2 7; do
+    payments 40 | head -c $((blocks * 1024)) > first_part
+    times 40 'payment 1 1 1 1 1 5000.00 0\n' > stdin
+    by "$blocks blocks of screens" "filled $blocks script" 3 'fault 6 Write' '@cat first_part'
+    "$tpcc" dump STOCK 2> /dev/null | head -c $((blocks * 1024)) > first_part
+    by "$blocks blocks of a dump"  "filled $blocks 'dump STOCK'" 3 'fault 1 Write' '@cat first_part'
+done
+
+# ---- little memory: an address space of so many KiB. A run ends with its report or for want of memory, a dump and a
+# script too, and none by a signal; what a script wrote before is a first part of its screens.
+
+# The program in an address space of so many KiB.
+within() {
+    local size=$1
+    shift
+    timeout "$seconds" bash -c 'ulimit -v "$1"; shift; exec "$@"' - "$size" "$tpcc" "$@" < stdin > stdout 2> stderr
+    echo $? > status
+}
+
+# One of these faults, with status 4.
+is_refused() {
+    local fault
+    for fault in "$@"; do
+        [ "$(cat status)" = 4 ] && [ "$(cat stderr)" = "$fault" ] && return 0
+    done
+    return 1
+}
+
+# What the last run wrote to standard output is a report of equal amounts, and to standard error nothing; or nothing and one of
+# these faults. A request that was refused memory in its turn is not in the journal, so the amounts may be lower than in ample memory.
+wants_report() {
+    local amount
+    : > stderr.wanted
+    : > stdout.wanted
+    if is_refused "$@"; then
+        cp stderr stderr.wanted
+        return
+    fi
+    amount=$(sed -n 's/^paid \([0-9]*\.[0-9][0-9]\)$/\1/p' stdout)
+    printf '%s\npaid %s\nrise %s\n' "$(grep -m 1 -x 'entries [0-9]*' stdout)" "$amount" "$amount" > stdout.wanted
+}
+
+# The status that goes with what is wanted on standard error.
+wanted_status() {
+    if [ -s stderr.wanted ]; then echo 4; else echo 0; fi
+}
+
+for size in 4000 12000 40000 80000 100000 120000 150000 200000 300000 400000 600000 1200000; do
+    left_out "a run in $size KiB" && continue
+    : > stdin
+    within "$size" run --seeded --terminals 8 --servers 3 --cards 20
+    wants_report 'fault 3 NoMemory' 'fault 2 NoMemory'
+    compare "a run in $size KiB" "$(wanted_status)"
+done
+
+# All that is printed in ample memory, or want of memory and nothing.
+for size in 4000 20000 60000 140000 400000; do
+    for words in 'dump STOCK --items 100000' 'script --customers 3000 --items 100000'; do
+        left_out "$words in $size KiB" && continue
+        printf "$first" > stdin
+        "$tpcc" $words < stdin > whole
+        within "$size" $words
+        cp whole stdout.wanted
+        : > stderr.wanted
+        if is_refused 'fault 2 NoMemory' 'fault 7 NoMemory'; then
+            cp stderr stderr.wanted
+            : > stdout.wanted
+        fi
+        compare "$words in $size KiB" "$(wanted_status)"
+    done
+done

@@ -1,0 +1,100 @@
+#!/usr/bin/env bash
+# Tests of the built program: the scripts of examples/ and programs/scripts/ with their stored screens, then the table of cases.sh, then failures.sh. Each case
+# compares standard output and standard error byte for byte, and the exit status. Stops at the first case that differs,
+# and says where its files are; else the last line counts the cases.
+#
+# TPCC is the program (crates/tpcc/out/tpcc). Words after the command's name pick the cases whose names have one of them.
+set -u -o pipefail
+top=$(cd "$(dirname "$0")/.." && pwd)
+tpcc=$(realpath "${TPCC:-$top/crates/tpcc/out/tpcc}")
+seconds=${SECONDS_OF_A_CASE:-100}
+picked=("$@")
+[ -x "$tpcc" ] || { echo "programs: there is no program at $tpcc; (cd crates/tpcc && rt run) builds it"; exit 1; }
+scratch=$(mktemp -d)
+trap 'rm -rf "$scratch"' EXIT
+trap 'exit 1' INT TERM
+cd "$scratch" || exit 1
+run=0
+
+# ---- what cases are written with
+
+# A text so many times; \n in it is a line feed.
+times() {
+    awk -v count="$1" -v text="$2" 'BEGIN { for (i = 0; i < count; i++) printf "%s", text }'
+}
+
+# Whether the words on the command line leave this case out.
+left_out() {
+    [ ${#picked[@]} -eq 0 ] && return 1
+    local word
+    for word in "${picked[@]}"; do case "$1" in *"$word"*) return 1 ;; esac; done
+    return 0
+}
+
+# Writes what a column says: a text as printf reads it; after @ the output of a command; after = the stored screens of a script.
+told() {
+    case "$1" in
+        @*) eval "${1#@}" ;;
+        =*) cat "$top/${1#=}.stdout" ;;
+        *) printf "$1" ;;
+    esac
+}
+
+differs() {
+    trap - EXIT
+    echo "programs: '$1' differs in $2; what was wanted and what came lies in $scratch"
+    for part in stdout stderr; do
+        [ "$part" = "$2" ] && diff <(head -c 4000 "$scratch/$part.wanted") <(head -c 4000 "$scratch/$part") | head -n 20
+    done
+    echo "programs: $run passed, 1 failed"
+    exit 1
+}
+
+# Compares the files of the case that was run.
+compare() {
+    [ "$(cat status)" = "$2" ] || { cat stderr; echo "status $(cat status), not $2"; differs "$1" "its status"; }
+    cmp -s stderr.wanted stderr || differs "$1" stderr
+    cmp -s stdout.wanted stdout || differs "$1" stdout
+    run=$((run + 1))
+}
+
+# One case: its name, the program's words, its input, its status, its line on standard error and its output.
+it() {
+    left_out "$1" && return
+    told "$3" > stdin
+    told "$6" > stdout.wanted
+    [ -z "$5" ] && : > stderr.wanted || echo "$5" > stderr.wanted
+    timeout "$seconds" "$tpcc" $2 < stdin > stdout 2> stderr
+    echo $? > status
+    compare "$1" "$4"
+}
+
+# One case whose program is called by a command line of the shell, as where its input or output fails. Its standard
+# output is what the command leaves in the file stdout.
+by() {
+    left_out "$1" && return
+    told "$5" > stdout.wanted
+    [ -z "$4" ] && : > stderr.wanted || echo "$4" > stderr.wanted
+    : > stdout
+    : > stderr
+    eval "$2"
+    compare "$1" "$3"
+}
+
+# ---- the cases
+
+begun=$SECONDS
+for script in "$top"/examples/*.txt "$top"/programs/scripts/*.txt; do
+    name=${script%.txt}
+    words=script
+    status=0
+    fault=
+    [ -f "$name.args" ] && words="script $(tr '\n' ' ' < "$name.args")"
+    [ -f "$name.status" ] && status=$(cat "$name.status")
+    [ -f "$name.stderr" ] && fault=$(cat "$name.stderr")
+    it "${name#"$top/"}" "$words" "@cat $script" "$status" "$fault" "=${name#"$top/"}"
+done
+. "$top/programs/cases.sh"
+. "$top/programs/failures.sh"
+echo "programs: $refused_in_all refused allocations and threads, $bytes_in_all outputs cut off"
+echo "programs: $run passed, 0 failed, in $((SECONDS - begun)) seconds"
