@@ -79,7 +79,7 @@ impl Fields {
         self.put(text.bytes())
     }
 
-    pub fn put_texts<const N: usize>(&mut self, texts: &[Text<N>]) -> Result<(), NoMemory>
+    pub fn put_texts(&mut self, texts: &[Text<24>]) -> Result<(), NoMemory>
         ensures { OnOk result (self.new ≡ self.old ++ texts.now) }
     {
         for text in texts {

@@ -155,7 +155,10 @@ pub fn opened(alloc: Global) -> Result<Tables, Fail> {
         &mut tables,
         customer(2, Text::of(b"FIRST9997"), Text::of(b"BARBAROUGHT")),
     )?;
-    put(&mut tables, customer(1, Text::of(b"FIRST9998"), Text::of(b"BARBARBAR")))?;
+    put(
+        &mut tables,
+        customer(1, Text::of(b"FIRST9998"), Text::of(b"BARBARBAR")),
+    )?;
     put(&mut tables, history(2))?;
     put(&mut tables, history(1))?;
     put(&mut tables, item())?;
@@ -163,10 +166,7 @@ pub fn opened(alloc: Global) -> Result<Tables, Fail> {
     put(&mut tables, order(8, None, false))?;
     put(&mut tables, order(1, Some(1), true))?;
     put(&mut tables, line(8, None, Cents::new(100)))?;
-    put(
-        &mut tables,
-        line(1, Some(Moment::new(0)), Cents::new(0)),
-    )?;
+    put(&mut tables, line(1, Some(Moment::new(0)), Cents::new(0)))?;
     put(
         &mut tables,
         Row::NewOrder(NewOrderRow {
