@@ -138,17 +138,16 @@ impl Words {
         Some(self.options.remove(place).1)
     }
 
-    fn number(
-        &mut self,
-        name: &str,
-        default: u64,
-        range: std::ops::RangeInclusive<u64>,
-    ) -> Result<u64, Fault> {
+    fn number(&mut self, name: &str, default: u64, range: std::ops::RangeInclusive<u64>) -> Result<u64, Fault> {
         let Some(value) = self.take(name) else {
             return Ok(default);
         };
         let number = u64::from_str(&value).map_err(|_| Fault::Arguments)?;
-        if range.contains(&number) { Ok(number) } else { Err(Fault::Arguments) }
+        if range.contains(&number) {
+            Ok(number)
+        } else {
+            Err(Fault::Arguments)
+        }
     }
 
     fn flag(&mut self, name: &str) -> bool {

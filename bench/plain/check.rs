@@ -1,7 +1,7 @@
 //! The consistency conditions of clause 3.3.2, from the rows alone and in one pass over each table.
 
 use crate::money::Cents;
-use crate::rows::{DISTRICTS, District, OrderLine};
+use crate::rows::{District, OrderLine, DISTRICTS};
 use crate::tables::Tables;
 
 /// The first condition that fails, at its first key. A part that doesn't apply is 0.
@@ -22,9 +22,7 @@ pub fn check(tables: &Tables) -> Result<(), Broken> {
     all(districts(), |&(_, row)| has_last_order(row), |(place, _)| district_key(2, place))?;
     // NEW-ORDER rows are kept as the numbers from the lowest to the last, so 3 can't fail.
     all(districts(), |&(_, row)| counts_lines(row), |(place, _)| district_key(4, place))?;
-    of_orders(tables, 5, |row, number| {
-        (row.orders[number as usize - 1].carrier == 0) == (number >= row.oldest_new)
-    })?;
+    of_orders(tables, 5, |row, number| (row.orders[number as usize - 1].carrier == 0) == (number >= row.oldest_new))?;
     of_orders(tables, 6, |row, number| {
         row.lines_of(number).len() == usize::from(row.orders[number as usize - 1].count)
     })?;
@@ -36,9 +34,8 @@ pub fn check(tables: &Tables) -> Result<(), Broken> {
     of_warehouses(tables, 8, |place| sums.warehouse_paid[place])?;
     let is_paid = |&(place, row): &(usize, &District)| row.ytd == sums.district_paid[place];
     all(districts(), is_paid, |(place, _)| district_key(9, place))?;
-    let balances = |place: &usize| {
-        tables.customers[*place].balance == sums.delivered[*place] - sums.customer_paid[*place]
-    };
+    let balances =
+        |place: &usize| tables.customers[*place].balance == sums.delivered[*place] - sums.customer_paid[*place];
     all(customers(), balances, |place| customer_key(tables, 10, place))?;
     let adds_up = |place: &usize| {
         let customer = &tables.customers[*place];
@@ -116,49 +113,25 @@ fn all<K>(
 }
 
 // W_YTD of each warehouse is the sum of its place.
-fn of_warehouses(
-    tables: &Tables,
-    condition: u8,
-    sum: impl Fn(usize) -> Cents,
-) -> Result<(), Broken> {
-    let broken = |(place, _)| Broken {
-        condition,
-        warehouse: place as u32 + 1,
-        district: 0,
-        number: 0,
-    };
+fn of_warehouses(tables: &Tables, condition: u8, sum: impl Fn(usize) -> Cents) -> Result<(), Broken> {
+    let broken = |(place, _)| Broken { condition, warehouse: place as u32 + 1, district: 0, number: 0 };
     all(tables.warehouses.iter().enumerate(), |(place, row)| row.ytd == sum(*place), broken)
 }
 
 // A test of each order by its number.
-fn of_orders(
-    tables: &Tables,
-    condition: u8,
-    test: impl Fn(&District, u32) -> bool,
-) -> Result<(), Broken> {
+fn of_orders(tables: &Tables, condition: u8, test: impl Fn(&District, u32) -> bool) -> Result<(), Broken> {
     for (place, district) in tables.districts.iter().enumerate() {
         let numbers = 1..district.next_order();
-        all(numbers, |&number| test(district, number), |number| Broken {
-            number,
-            ..district_key(condition, place)
-        })?;
+        all(numbers, |&number| test(district, number), |number| Broken { number, ..district_key(condition, place) })?;
     }
     Ok(())
 }
 
 fn district_key(condition: u8, place: usize) -> Broken {
-    Broken {
-        condition,
-        warehouse: place as u32 / DISTRICTS + 1,
-        district: place as u32 % DISTRICTS + 1,
-        number: 0,
-    }
+    Broken { condition, warehouse: place as u32 / DISTRICTS + 1, district: place as u32 % DISTRICTS + 1, number: 0 }
 }
 
 fn customer_key(tables: &Tables, condition: u8, place: usize) -> Broken {
     let customers = tables.scale.customers as usize;
-    Broken {
-        number: (place % customers) as u32 + 1,
-        ..district_key(condition, place / customers)
-    }
+    Broken { number: (place % customers) as u32 + 1, ..district_key(condition, place / customers) }
 }

@@ -1,8 +1,8 @@
-//! The Delivery transaction (2.7): a request queues a ticket, and each run of the first ticket delivers its next district.
+//! The Delivery transaction (2.7): a request queues a ticket; each run of the first ticket delivers its next district.
 
-use crate::money::{Cents, MOST_CENTS, Moment};
+use crate::money::{Cents, Moment, MOST_CENTS};
 use crate::request::{DeliveryQuery, DistrictRun, Field, Refusal, Reply, Ticket};
-use crate::rows::{DISTRICTS, District, Due};
+use crate::rows::{District, Due, DISTRICTS};
 use crate::tables::Tables;
 use std::collections::VecDeque;
 
@@ -32,11 +32,7 @@ pub fn queue(queue: &mut Queue, query: &DeliveryQuery) -> Result<Reply, Refusal>
         return Err(Refusal::QueueFull);
     }
     let (warehouse, carrier) = (query.warehouse as u8, query.carrier as u8);
-    queue.tickets.push_back(Ticket {
-        warehouse,
-        carrier,
-        queued: query.moment,
-    });
+    queue.tickets.push_back(Ticket { warehouse, carrier, queued: query.moment });
     Ok(Reply::Queued { warehouse, carrier })
 }
 
@@ -53,21 +49,11 @@ pub fn deliver_next(tables: &mut Tables, queue: &mut Queue, at: Moment) -> Resul
         queue.done = 0;
         queue.tickets.pop_front();
     }
-    Ok(Reply::Delivered(DistrictRun {
-        ticket,
-        at,
-        district: number as u8,
-        order,
-    }))
+    Ok(Reply::Delivered(DistrictRun { ticket, at, district: number as u8, order }))
 }
 
 // Delivers the district's oldest new order. A district without one is skipped.
-fn deliver(
-    tables: &mut Tables,
-    place: usize,
-    carrier: u8,
-    at: Moment,
-) -> Result<Option<u32>, Refusal> {
+fn deliver(tables: &mut Tables, place: usize, carrier: u8, at: Moment) -> Result<Option<u32>, Refusal> {
     let district = &mut tables.districts[place];
     let number = district.oldest_new;
     let Some(order) = district.orders.get(number as usize - 1) else {

@@ -4,9 +4,8 @@ use crate::text::Text;
 
 const MULTIPLIER: u128 = 0x2360_ED05_1FC6_5DA4_4385_DF64_9FCC_F645;
 
-const SYLLABLES: [&[u8]; 10] = [
-    b"BAR", b"OUGHT", b"ABLE", b"PRI", b"PRES", b"ESE", b"ANTI", b"CALLY", b"ATION", b"EING",
-];
+const SYLLABLES: [&[u8]; 10] =
+    [b"BAR", b"OUGHT", b"ABLE", b"PRI", b"PRES", b"ESE", b"ANTI", b"CALLY", b"ATION", b"EING"];
 
 const LETTERS: &[u8; 62] = b"0123456789ABCDEFGHIJKLMNOPQRSTUVWXYZabcdefghijklmnopqrstuvwxyz";
 
@@ -38,20 +37,14 @@ impl Stream {
     pub fn of(seed: u64, purpose: Purpose, row: u64) -> Self {
         let stream = (purpose as u128) << 64 | u128::from(row);
         let increment = stream << 1 | 1;
-        let mut new = Stream {
-            state: u128::from(seed).wrapping_add(increment),
-            increment,
-        };
+        let mut new = Stream { state: u128::from(seed).wrapping_add(increment), increment };
         new.step();
         new
     }
 
     #[inline]
     fn step(&mut self) {
-        self.state = self
-            .state
-            .wrapping_mul(MULTIPLIER)
-            .wrapping_add(self.increment);
+        self.state = self.state.wrapping_mul(MULTIPLIER).wrapping_add(self.increment);
     }
 
     // A 32-bit word is the low half of a 64-bit one.

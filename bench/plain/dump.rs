@@ -44,18 +44,14 @@ impl Table {
     fn header(self) -> &'static str {
         match self {
             Table::Warehouse => "W_ID,W_NAME,W_STREET_1,W_STREET_2,W_CITY,W_STATE,W_ZIP,W_TAX,W_YTD",
-            Table::District => {
-                "D_ID,D_W_ID,D_NAME,D_STREET_1,D_STREET_2,D_CITY,D_STATE,D_ZIP,D_TAX,D_YTD,D_NEXT_O_ID"
-            }
+            Table::District => "D_ID,D_W_ID,D_NAME,D_STREET_1,D_STREET_2,D_CITY,D_STATE,D_ZIP,D_TAX,D_YTD,D_NEXT_O_ID",
             Table::Customer => {
                 "C_ID,C_D_ID,C_W_ID,C_FIRST,C_MIDDLE,C_LAST,C_STREET_1,C_STREET_2,C_CITY,C_STATE,C_ZIP,\
                  C_PHONE,C_SINCE,C_CREDIT,C_CREDIT_LIM,C_DISCOUNT,C_BALANCE,C_YTD_PAYMENT,C_PAYMENT_CNT,\
                  C_DELIVERY_CNT,C_DATA"
             }
             Table::History => "H_C_ID,H_C_D_ID,H_C_W_ID,H_D_ID,H_W_ID,H_DATE,H_AMOUNT,H_DATA",
-            Table::Order => {
-                "O_ID,O_D_ID,O_W_ID,O_C_ID,O_ENTRY_D,O_CARRIER_ID,O_OL_CNT,O_ALL_LOCAL"
-            }
+            Table::Order => "O_ID,O_D_ID,O_W_ID,O_C_ID,O_ENTRY_D,O_CARRIER_ID,O_OL_CNT,O_ALL_LOCAL",
             Table::OrderLine => {
                 "OL_O_ID,OL_D_ID,OL_W_ID,OL_NUMBER,OL_I_ID,OL_SUPPLY_W_ID,OL_DELIVERY_D,OL_QUANTITY,\
                  OL_AMOUNT,OL_DIST_INFO"
@@ -143,7 +139,11 @@ impl<W: Write> Sheet<'_, W> {
 
     fn end(&mut self) -> Result<()> {
         self.out.push(b'\n');
-        if self.out.len() >= BLOCK { self.flush() } else { Ok(()) }
+        if self.out.len() >= BLOCK {
+            self.flush()
+        } else {
+            Ok(())
+        }
     }
 
     fn flush(&mut self) -> Result<()> {

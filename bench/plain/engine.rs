@@ -2,7 +2,7 @@
 
 use crate::delivery::{self, Queue};
 use crate::journal::{Journal, Purse};
-use crate::opening::{Opening, fill};
+use crate::opening::{fill, Opening};
 use crate::request::{Refusal, Reply, Request};
 use crate::tables::Tables;
 use crate::{lookups, new_order, payment};
@@ -17,11 +17,7 @@ pub struct Engine {
 impl Engine {
     /// The rows of an opening, with nothing queued and no entry.
     pub fn start(opening: &Opening) -> Self {
-        Engine {
-            tables: fill(opening),
-            queue: Queue::default(),
-            journal: Journal::default(),
-        }
+        Engine { tables: fill(opening), queue: Queue::default(), journal: Journal::default() }
     }
 
     /// Serves a request: one entry of the journal, whose reply is lent, or the first refusal and no change.

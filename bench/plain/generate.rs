@@ -1,11 +1,9 @@
 //! Scripts that two programs are compared by: drawn lines, drawn again the same from the same seed.
 
-use crate::draws::{Purpose, Stream, last_name};
+use crate::draws::{last_name, Purpose, Stream};
 use crate::lines::put_line;
 use crate::money::LAST_MOMENT;
-use crate::request::{
-    DeliveryQuery, Order, Payment, Request, StatusQuery, StockQuery, Who, Wish,
-};
+use crate::request::{DeliveryQuery, Order, Payment, Request, StatusQuery, StockQuery, Who, Wish};
 use crate::rows::DISTRICTS;
 use crate::tables::Scale;
 use crate::text::Text;
@@ -35,11 +33,7 @@ impl Kind {
 
 /// The bytes of a script of so many lines.
 pub fn script(kind: Kind, lines: u32, scale: Scale, seed: u64) -> Vec<u8> {
-    let mut author = Author {
-        stream: Stream::of(seed, Purpose::Script, lines.into()),
-        scale,
-        kind,
-    };
+    let mut author = Author { stream: Stream::of(seed, Purpose::Script, lines.into()), scale, kind };
     let mut out = Vec::new();
     let broken = author.stream.between(1, lines.max(1));
     for number in 1..=lines {
@@ -153,11 +147,7 @@ impl Author {
     fn wish(&mut self) -> Wish {
         let few = self.stream.between(1, self.scale.items);
         let item = if self.once_in(200) { self.scale.items + 1 } else { self.key(few) };
-        Wish {
-            item,
-            supply: self.key(self.scale.warehouses),
-            quantity: self.key(10),
-        }
+        Wish { item, supply: self.key(self.scale.warehouses), quantity: self.key(10) }
     }
 
     fn payment(&mut self) -> Payment {
@@ -173,11 +163,7 @@ impl Author {
     }
 
     fn status(&mut self) -> StatusQuery {
-        StatusQuery {
-            warehouse: self.key(self.scale.warehouses),
-            district: self.key(DISTRICTS),
-            who: self.who(),
-        }
+        StatusQuery { warehouse: self.key(self.scale.warehouses), district: self.key(DISTRICTS), who: self.who() }
     }
 
     fn threshold(&mut self) -> u32 {
@@ -260,21 +246,69 @@ impl Author {
 
     fn odd_word(&mut self) -> &'static str {
         const WORDS: [&str; 33] = [
-            "", "0", "00", "01", "1", "-1", "+1", "1.0", "1.00", "01.00", ".50", "0.50", "1.000",
-            "10000000000.00", "9999999999.99", "4294967295", "4294967296", "99999999999999999999",
-            "4102444799", "4102444800", "BAR", "bar", "BARBARBARBARBARBA", "BARBARBARBARBARB", "1:1",
-            "1:1:1", "1:1:1:1", "::", "1:01:1", "1:1:4294967296", "new-order", "x", "1e3",
+            "",
+            "0",
+            "00",
+            "01",
+            "1",
+            "-1",
+            "+1",
+            "1.0",
+            "1.00",
+            "01.00",
+            ".50",
+            "0.50",
+            "1.000",
+            "10000000000.00",
+            "9999999999.99",
+            "4294967295",
+            "4294967296",
+            "99999999999999999999",
+            "4102444799",
+            "4102444800",
+            "BAR",
+            "bar",
+            "BARBARBARBARBARBA",
+            "BARBARBARBARBARB",
+            "1:1",
+            "1:1:1",
+            "1:1:1:1",
+            "::",
+            "1:01:1",
+            "1:1:4294967296",
+            "new-order",
+            "x",
+            "1e3",
         ];
         WORDS[self.stream.between(0, WORDS.len() as u32 - 1) as usize]
     }
 
     fn odd_line(&mut self) -> &'static [u8] {
         const LINES: [&[u8]; 24] = [
-            b"", b" ", b"check ", b" check", b"check check", b"results 1", b"Check", b"deliver",
-            b"deliver 1 1", b"delivery 1 1", b"delivery 1 1 0 0", b"status 1 1", b"status 1 1 1 1",
-            b"stock 1 1", b"stock 1 1 10 0", b"payment 1 1 1 1 1 1.00", b"payment 1 1 1 1 1 1.00 0 0",
-            b"new-order 1 1 1", b"new-order 1 1 1 0", b"new-order 1 1 BARBARBAR 0", b"new-order",
-            b"check\r", b"check\0", b"\xff\xfe",
+            b"",
+            b" ",
+            b"check ",
+            b" check",
+            b"check check",
+            b"results 1",
+            b"Check",
+            b"deliver",
+            b"deliver 1 1",
+            b"delivery 1 1",
+            b"delivery 1 1 0 0",
+            b"status 1 1",
+            b"status 1 1 1 1",
+            b"stock 1 1",
+            b"stock 1 1 10 0",
+            b"payment 1 1 1 1 1 1.00",
+            b"payment 1 1 1 1 1 1.00 0 0",
+            b"new-order 1 1 1",
+            b"new-order 1 1 1 0",
+            b"new-order 1 1 BARBARBAR 0",
+            b"new-order",
+            b"check\r",
+            b"check\0",
+            b"\xff\xfe",
         ];
         LINES[self.stream.between(0, LINES.len() as u32 - 1) as usize]
     }

@@ -1,9 +1,7 @@
 //! The lines of a script.
 
-use crate::money::{LAST_MOMENT, Moment, parse_amount, parse_number};
-use crate::request::{
-    DeliveryQuery, Order, Payment, Request, StatusQuery, StockQuery, Who, Wish,
-};
+use crate::money::{parse_amount, parse_number, Moment, LAST_MOMENT};
+use crate::request::{DeliveryQuery, Order, Payment, Request, StatusQuery, StockQuery, Who, Wish};
 use crate::text::Text;
 
 const LONGEST_NAME: usize = 16;
@@ -66,8 +64,7 @@ impl<'a> Words<'a> {
         if let Some(number) = parse_u32(word) {
             return Some(Who::Number(number));
         }
-        let is_name = (1..=LONGEST_NAME).contains(&word.len())
-            && word.iter().all(|byte| byte.is_ascii_uppercase());
+        let is_name = (1..=LONGEST_NAME).contains(&word.len()) && word.iter().all(|byte| byte.is_ascii_uppercase());
         is_name.then(|| Who::Name(Text::of(word)))
     }
 
@@ -97,27 +94,15 @@ impl<'a> Words<'a> {
     }
 
     fn status(&mut self) -> Option<StatusQuery> {
-        Some(StatusQuery {
-            warehouse: self.number()?,
-            district: self.number()?,
-            who: self.who()?,
-        })
+        Some(StatusQuery { warehouse: self.number()?, district: self.number()?, who: self.who()? })
     }
 
     fn stock(&mut self) -> Option<StockQuery> {
-        Some(StockQuery {
-            warehouse: self.number()?,
-            district: self.number()?,
-            threshold: self.number()?,
-        })
+        Some(StockQuery { warehouse: self.number()?, district: self.number()?, threshold: self.number()? })
     }
 
     fn delivery(&mut self) -> Option<DeliveryQuery> {
-        Some(DeliveryQuery {
-            warehouse: self.number()?,
-            carrier: self.number()?,
-            moment: self.moment()?,
-        })
+        Some(DeliveryQuery { warehouse: self.number()?, carrier: self.number()?, moment: self.moment()? })
     }
 }
 
@@ -129,10 +114,6 @@ fn parse_u32(word: &[u8]) -> Option<u32> {
 fn parse_wish(word: &[u8]) -> Option<Wish> {
     let mut parts = word.split(|&byte| byte == b':');
     let mut number = || parse_u32(parts.next()?);
-    let wish = Wish {
-        item: number()?,
-        supply: number()?,
-        quantity: number()?,
-    };
+    let wish = Wish { item: number()?, supply: number()?, quantity: number()? };
     parts.next().is_none().then_some(wish)
 }

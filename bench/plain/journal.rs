@@ -1,6 +1,8 @@
 //! The journal: each accepted request with its reply, and what is read off it.
 
-use crate::request::{DistrictRun, Refusal, Reply, Request};
+use crate::request::{
+    DistrictRun, Entered, EnteredLine, Paid, Refusal, Reply, Request, RolledBack, Status, StatusLine, Wish,
+};
 use crate::rows::DISTRICTS;
 
 const MOST_ENTRIES: usize = 1_000_000_000;
@@ -64,12 +66,7 @@ impl Journal {
             purse.paid += payment.amount;
         }
         let place = self.entries.len();
-        self.entries.push(Entry {
-            terminal: purse.terminal,
-            number: purse.entries as u32,
-            request,
-            reply,
-        });
+        self.entries.push(Entry { terminal: purse.terminal, number: purse.entries as u32, request, reply });
         self.counts[terminal] += 1;
         purse.entries += 1;
         &self.entries[place].reply
@@ -77,9 +74,7 @@ impl Journal {
 
     /// The runs of deliveries, ten by ten; fewer than ten at the end are not there yet.
     pub fn results(&self) -> impl Iterator<Item = [DistrictRun; DISTRICTS as usize]> + '_ {
-        self.runs
-            .chunks_exact(DISTRICTS as usize)
-            .map(|ten| std::array::from_fn(|place| self.run(ten[place])))
+        self.runs.chunks_exact(DISTRICTS as usize).map(|ten| std::array::from_fn(|place| self.run(ten[place])))
     }
 
     /// Whether the purses, which have these entries and paid this in all, are all that the journal tells of.
@@ -99,10 +94,36 @@ impl Journal {
         self.entries.len() as u64 == entries && payments == paid
     }
 
+    /// How many bytes the entries and all that hangs on them have.
+    pub fn bytes(&self) -> usize {
+        let entries = self.entries.iter();
+        entries.map(|entry| size_of::<Entry>() + asked_bytes(&entry.request) + answered_bytes(&entry.reply)).sum()
+    }
+
     fn run(&self, place: u32) -> DistrictRun {
         match self.entries[place as usize].reply {
             Reply::Delivered(run) => run,
             _ => unreachable!("only runs of deliveries are noted"),
         }
+    }
+}
+
+fn asked_bytes(request: &Request) -> usize {
+    match request {
+        Request::NewOrder(order) => size_of::<Wish>() * order.lines.capacity(),
+        _ => 0,
+    }
+}
+
+fn answered_bytes(reply: &Reply) -> usize {
+    match reply {
+        Reply::Entered(entered) => size_of::<Entered>() + size_of::<EnteredLine>() * entered.lines.capacity(),
+        Reply::RolledBack(_) => size_of::<RolledBack>(),
+        Reply::Paid(paid) => size_of::<Paid>() + paid.information.as_ref().map_or(0, |text| text.len()),
+        Reply::Status(status) => {
+            let lines = status.order.as_ref().map_or(0, |order| order.lines.capacity());
+            size_of::<Status>() + size_of::<StatusLine>() * lines
+        }
+        Reply::Level(_) | Reply::Queued { .. } | Reply::Delivered(_) | Reply::NoneQueued => 0,
     }
 }

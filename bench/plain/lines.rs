@@ -36,12 +36,7 @@ fn put_order(out: &mut Vec<u8>, order: &Order) {
 }
 
 fn put_payment(out: &mut Vec<u8>, payment: &Payment) {
-    let words = [
-        payment.warehouse,
-        payment.district,
-        payment.customer_warehouse,
-        payment.customer_district,
-    ];
+    let words = [payment.warehouse, payment.district, payment.customer_warehouse, payment.customer_district];
     put_words(out, b"payment", &words);
     put_who(out, &payment.who);
     out.push(b' ');

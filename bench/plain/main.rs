@@ -1,6 +1,6 @@
-//! The order-entry system of TPC Benchmark C in plain Rust: the program that the product is measured by and compared with.
+//! The order-entry system of TPC Benchmark C in plain Rust: what the product is measured by and compared with.
 //!
-//! It is written from the documents of the repository and of the standard, not from the product's code. README.md in this
+//! It is written from the documents of the repository and the standard, not from the product's code. README.md in this
 //! folder has its words.
 
 mod arguments;
@@ -115,6 +115,10 @@ fn run(arguments: &Arguments) -> Result<(), Fault> {
         _ => runs::concurrent(engine, &arguments.plan),
     };
     tell(arguments, begin, totals.requests);
+    if arguments.time {
+        let entries = totals.entries.max(1);
+        eprintln!("journal {} bytes an entry", engine.journal.bytes() as u64 / entries);
+    }
     let rise = engine.tables.ytd() - opened;
     let is_settled = engine.journal.settles(totals.entries, totals.paid) && totals.paid == rise;
     std::mem::forget(engine);

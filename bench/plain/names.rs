@@ -26,10 +26,7 @@ impl Names {
         order.sort_unstable();
         let mut groups: HashMap<u128, Group, _> = HashMap::default();
         for (place, &(last, _, _)) in (0..).zip(&order) {
-            let group = groups.entry(last).or_insert(Group {
-                start: place,
-                count: 0,
-            });
+            let group = groups.entry(last).or_insert(Group { start: place, count: 0 });
             group.count += 1;
         }
         let numbers = order.iter().map(|&(_, _, number)| number).collect();

@@ -2,7 +2,7 @@
 
 use crate::money::order_total;
 use crate::request::{Entered, EnteredLine, Field, Order, Refusal, Reply, RolledBack, Wish};
-use crate::rows::{self, DISTRICTS, Due, OrderLine};
+use crate::rows::{self, Due, OrderLine, DISTRICTS};
 use crate::tables::Tables;
 
 const MOST_ORDERS: u32 = 9_999_999;

@@ -1,12 +1,12 @@
 //! The two initial populations: plain, where each row is a rule of its numbers, and seeded, where each is drawn from a
 //! stream of its own.
 
-use crate::draws::{Purpose, Stream, last_name};
+use crate::draws::{last_name, Purpose, Stream};
 use crate::money::Moment;
 use crate::names::Names;
 use crate::rows::{
-    Address, Credit, Customer, DISTRICTS, District, Due, History, Item, ItemText, Order, OrderLine,
-    Stock, StockText, Warehouse,
+    Address, Credit, Customer, District, Due, History, Item, ItemText, Order, OrderLine, Stock, StockText, Warehouse,
+    DISTRICTS,
 };
 use crate::tables::{Scale, Tables};
 use crate::text::Text;
@@ -38,9 +38,7 @@ pub fn fill(opening: &Opening) -> Tables {
     let scale = maker.scale;
     let (warehouses, customers, items) = (scale.warehouses, scale.customers, scale.items);
     let districts = warehouses * DISTRICTS;
-    let customer_rows: Vec<Customer> = (1..=districts * customers)
-        .map(|row| maker.customer(row))
-        .collect();
+    let customer_rows: Vec<Customer> = (1..=districts * customers).map(|row| maker.customer(row)).collect();
     let names = customer_rows.chunks(customers as usize).map(Names::of).collect();
     let mut tables = Tables {
         scale,
@@ -93,12 +91,7 @@ impl Maker {
     fn warehouse(&self, row: u32) -> Warehouse {
         let ytd = i64::from(self.scale.customers) * 10_000;
         match self.stream(Purpose::Warehouse, row) {
-            None => Warehouse {
-                name: numbered(b"WARE", 3, row),
-                address: plain_address(),
-                tax: 1000,
-                ytd,
-            },
+            None => Warehouse { name: numbered(b"WARE", 3, row), address: plain_address(), tax: 1000, ytd },
             Some(mut stream) => Warehouse {
                 name: stream.a_text(6, 10),
                 address: drawn_address(&mut stream),
@@ -112,11 +105,7 @@ impl Maker {
         let number = (row - 1) % DISTRICTS + 1;
         let (name, address, tax) = match self.stream(Purpose::District, row) {
             None => (numbered(b"DIST", 2, number), plain_address(), number as u16 * 100),
-            Some(mut stream) => (
-                stream.a_text(6, 10),
-                drawn_address(&mut stream),
-                stream.between(0, 2000) as u16,
-            ),
+            Some(mut stream) => (stream.a_text(6, 10), drawn_address(&mut stream), stream.between(0, 2000) as u16),
         };
         let (orders, lines) = self.orders(row);
         District {
@@ -188,10 +177,7 @@ impl Maker {
         let (carrier, count) = match self.stream(Purpose::Order, row) {
             None => ((number - 1) % 10 + 1, 5),
             // A null carrier takes no draw.
-            Some(mut stream) => (
-                if is_delivered { stream.between(1, 10) } else { 0 },
-                stream.between(5, 15),
-            ),
+            Some(mut stream) => (if is_delivered { stream.between(1, 10) } else { 0 }, stream.between(5, 15)),
         };
         Order {
             entry: self.moment,
@@ -209,15 +195,14 @@ impl Maker {
         let is_delivered = number <= self.delivered();
         let district_number = (district - 1) % DISTRICTS + 1;
         for line in 1..=count {
-            let (item, amount, information) =
-                match self.stream(Purpose::OrderLine, 15 * (order_row - 1) + line) {
-                    None => (
-                        (5 * (number - 1) + line - 1) % self.scale.items + 1,
-                        line * 100,
-                        plain_district_text(district_number),
-                    ),
-                    Some(mut stream) => drawn_line(&mut stream, self.scale.items, is_delivered),
-                };
+            let (item, amount, information) = match self.stream(Purpose::OrderLine, 15 * (order_row - 1) + line) {
+                None => (
+                    (5 * (number - 1) + line - 1) % self.scale.items + 1,
+                    line * 100,
+                    plain_district_text(district_number),
+                ),
+                Some(mut stream) => drawn_line(&mut stream, self.scale.items, is_delivered),
+            };
             rows.push(OrderLine {
                 item,
                 amount: if is_delivered { 0 } else { amount },
@@ -231,21 +216,20 @@ impl Maker {
 
     fn fill_items(&self, tables: &mut Tables) {
         for row in 1..=self.scale.items {
-            let (image, name, price, (information, original)) =
-                match self.stream(Purpose::Item, row) {
-                    None => (
-                        (row - 1) % 10_000 + 1,
-                        numbered(b"ITEMNAME", 6, row),
-                        100 + (row - 1) % 9901,
-                        plain_information(b'i', row % 10 == 0),
-                    ),
-                    Some(mut stream) => (
-                        stream.between(1, 10_000),
-                        stream.a_text(14, 24),
-                        stream.between(100, 10_000),
-                        drawn_information(&mut stream),
-                    ),
-                };
+            let (image, name, price, (information, original)) = match self.stream(Purpose::Item, row) {
+                None => (
+                    (row - 1) % 10_000 + 1,
+                    numbered(b"ITEMNAME", 6, row),
+                    100 + (row - 1) % 9901,
+                    plain_information(b'i', row % 10 == 0),
+                ),
+                Some(mut stream) => (
+                    stream.between(1, 10_000),
+                    stream.a_text(14, 24),
+                    stream.between(100, 10_000),
+                    drawn_information(&mut stream),
+                ),
+            };
             tables.items.push(Item { price, original, name });
             tables.item_texts.push(ItemText { image: image as u16, information });
         }
@@ -254,26 +238,19 @@ impl Maker {
     fn fill_stocks(&self, tables: &mut Tables) {
         for row in 1..=self.scale.warehouses * self.scale.items {
             let item = (row - 1) % self.scale.items + 1;
-            let (quantity, districts, (information, original)) =
-                match self.stream(Purpose::Stock, row) {
-                    None => (
-                        10 + item % 91,
-                        std::array::from_fn(|place| plain_district_text(place as u32 + 1)),
-                        plain_information(b's', item % 20 == 0),
-                    ),
-                    Some(mut stream) => (
-                        stream.between(10, 100),
-                        std::array::from_fn(|_| drawn_district_text(&mut stream)),
-                        drawn_information(&mut stream),
-                    ),
-                };
-            tables.stocks.push(Stock {
-                ytd: 0,
-                orders: 0,
-                remote: 0,
-                quantity: quantity as u8,
-                original,
-            });
+            let (quantity, districts, (information, original)) = match self.stream(Purpose::Stock, row) {
+                None => (
+                    10 + item % 91,
+                    std::array::from_fn(|place| plain_district_text(place as u32 + 1)),
+                    plain_information(b's', item % 20 == 0),
+                ),
+                Some(mut stream) => (
+                    stream.between(10, 100),
+                    std::array::from_fn(|_| drawn_district_text(&mut stream)),
+                    drawn_information(&mut stream),
+                ),
+            };
+            tables.stocks.push(Stock { ytd: 0, orders: 0, remote: 0, quantity: quantity as u8, original });
             tables.stock_texts.push(StockText { districts, information });
         }
     }

@@ -1,6 +1,6 @@
 //! The Payment transaction (2.5).
 
-use crate::money::{MOST_CENTS, put_cents, put_number};
+use crate::money::{put_cents, put_number, MOST_CENTS};
 use crate::request::{Field, Paid, Payment, Refusal, Reply};
 use crate::rows::{Credit, Customer, History};
 use crate::tables::Tables;
@@ -84,13 +84,8 @@ fn test_ranges(tables: &Tables, payment: &Payment, places: &Places) -> Result<()
 // Puts what was paid at the left of C_DATA, which is cut to its greatest length.
 fn put_note(information: &mut Vec<u8>, payment: &Payment, customer: u32) {
     let mut note = Vec::with_capacity(64);
-    let numbers = [
-        customer,
-        payment.customer_district,
-        payment.customer_warehouse,
-        payment.district,
-        payment.warehouse,
-    ];
+    let numbers =
+        [customer, payment.customer_district, payment.customer_warehouse, payment.district, payment.warehouse];
     for number in numbers {
         put_number(&mut note, u64::from(number));
         note.push(b' ');

@@ -53,8 +53,8 @@ pub struct District {
     pub orders: Vec<Order>,
     /// The lines of all these orders, one order's behind the other's.
     pub lines: Vec<OrderLine>,
-    /// The lowest number in NEW-ORDER. Deliveries take the lowest and orders add the highest, so that these rows are all
-    /// the numbers from here to the last order's.
+    /// The lowest number in NEW-ORDER. Deliveries take the lowest and orders add the highest, so that these rows are
+    /// all the numbers from here to the last order's.
     pub oldest_new: u32,
 }
 

@@ -35,10 +35,7 @@ struct Seat {
 
 impl Plan {
     fn seats(&self, scale: Scale) -> Vec<Seat> {
-        let seat = |number| Seat {
-            terminal: Terminal::new(number, scale, self.seed),
-            purse: Purse::new(number),
-        };
+        let seat = |number| Seat { terminal: Terminal::new(number, scale, self.seed), purse: Purse::new(number) };
         (1..=self.terminals).map(seat).collect()
     }
 

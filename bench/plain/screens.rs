@@ -1,10 +1,8 @@
 //! What a user sees: the screens of replies and refusals, and the report of a run.
 
 use crate::check::Broken;
-use crate::money::{Cents, put_cents, put_moment, put_number, put_rate};
-use crate::request::{
-    DistrictRun, Entered, EnteredLine, LastOrder, Level, Paid, Refusal, Reply, RolledBack, Status,
-};
+use crate::money::{put_cents, put_moment, put_number, put_rate, Cents};
+use crate::request::{DistrictRun, Entered, EnteredLine, LastOrder, Level, Paid, Refusal, Reply, RolledBack, Status};
 use crate::rows::Address;
 
 /// Appends the screen of an outcome.

@@ -3,7 +3,7 @@
 use crate::check::check;
 use crate::engine::Engine;
 use crate::fault::ScriptFault;
-use crate::grammar::{Call, parse_line};
+use crate::grammar::{parse_line, Call};
 use crate::journal::Purse;
 use crate::screens::{put_check, put_result, put_screen};
 use crate::stream::{read_some, write_all};
@@ -15,11 +15,7 @@ const BLOCK: usize = 1 << 16;
 const TERMINAL: u32 = 1;
 
 /// Runs the script that the reader gives; the number of its lines.
-pub fn run_script(
-    input: &mut impl Read,
-    output: &mut impl Write,
-    engine: &mut Engine,
-) -> Result<u64, ScriptFault> {
+pub fn run_script(input: &mut impl Read, output: &mut impl Write, engine: &mut Engine) -> Result<u64, ScriptFault> {
     let mut lines = Lines::of(input);
     let mut out = Vec::with_capacity(2 * BLOCK);
     let mut purse = Purse::new(TERMINAL);
@@ -68,20 +64,11 @@ struct Lines<'a, R> {
 
 impl<'a, R: Read> Lines<'a, R> {
     fn of(input: &'a mut R) -> Self {
-        Lines {
-            input,
-            buffer: vec![0; BLOCK + LONGEST_LINE],
-            start: 0,
-            end: 0,
-            number: 0,
-        }
+        Lines { input, buffer: vec![0; BLOCK + LONGEST_LINE], start: 0, end: 0, number: 0 }
     }
 
     // The next line without its line feed, None at the end. `before` is called before each read.
-    fn next(
-        &mut self,
-        mut before: impl FnMut() -> Result<(), ScriptFault>,
-    ) -> Result<Option<&[u8]>, ScriptFault> {
+    fn next(&mut self, mut before: impl FnMut() -> Result<(), ScriptFault>) -> Result<Option<&[u8]>, ScriptFault> {
         let mut looked = 0;
         loop {
             let rest = &self.buffer[self.start..self.end];
@@ -112,8 +99,7 @@ impl<'a, R: Read> Lines<'a, R> {
         self.buffer.copy_within(self.start..self.end, 0);
         self.end -= self.start;
         self.start = 0;
-        let count = read_some(self.input, &mut self.buffer[self.end..])
-            .map_err(|_| ScriptFault::Read)?;
+        let count = read_some(self.input, &mut self.buffer[self.end..]).map_err(|_| ScriptFault::Read)?;
         self.end += count;
         Ok(count)
     }

@@ -1,11 +1,9 @@
-//! The nine tables. Keys are dense from the opening on and only ORDER, ORDER-LINE, NEW-ORDER and HISTORY ever grow, so that
-//! a row is found by its place.
+//! The nine tables. Keys are dense from the opening on, and only ORDER, ORDER-LINE, NEW-ORDER and HISTORY ever grow, so
+//! that a row is found by its place.
 
 use crate::names::Names;
 use crate::request::{Refusal, Who};
-use crate::rows::{
-    Customer, DISTRICTS, District, History, Item, ItemText, Stock, StockText, Warehouse,
-};
+use crate::rows::{Customer, District, History, Item, ItemText, Stock, StockText, Warehouse, DISTRICTS};
 
 /// How many rows an opening has: warehouses, customers of a district, items.
 #[derive(Clone, Copy)]
@@ -60,9 +58,7 @@ impl Tables {
     /// The number of a customer of the district at this place.
     pub fn find_customer(&self, district: usize, who: &Who) -> Result<u32, Refusal> {
         let found = match who {
-            Who::Number(number) => {
-                Some(*number).filter(|number| (1..=self.scale.customers).contains(number))
-            }
+            Who::Number(number) => Some(*number).filter(|number| (1..=self.scale.customers).contains(number)),
             Who::Name(name) => self.names[district].chosen(name),
         };
         found.ok_or(Refusal::NoCustomer)

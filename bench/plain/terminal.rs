@@ -1,10 +1,8 @@
 //! Terminals: their homes, their decks of cards, and the requests that they draw (5.2.4.2).
 
-use crate::draws::{Purpose, Stream, last_name};
+use crate::draws::{last_name, Purpose, Stream};
 use crate::money::Moment;
-use crate::request::{
-    DeliveryQuery, Order, Payment, Request, StatusQuery, StockQuery, Who, Wish,
-};
+use crate::request::{DeliveryQuery, Order, Payment, Request, StatusQuery, StockQuery, Who, Wish};
 use crate::rows::DISTRICTS;
 use crate::tables::Scale;
 
@@ -109,11 +107,7 @@ impl Terminal {
         let item = self.stream.nurand(8191, ITEMS, 1, self.scale.items);
         // This is drawn also where there is no other warehouse.
         let is_remote = self.stream.between(1, 100) == 1;
-        Wish {
-            item,
-            supply: self.warehouse_of(is_remote),
-            quantity: self.stream.between(1, 10),
-        }
+        Wish { item, supply: self.warehouse_of(is_remote), quantity: self.stream.between(1, 10) }
     }
 
     fn payment(&mut self, moment: Moment) -> Payment {

@@ -9,10 +9,7 @@ pub struct Text<const N: usize> {
 
 impl<const N: usize> Text<N> {
     /// The text with no byte.
-    pub const EMPTY: Self = Text {
-        length: 0,
-        bytes: [0; N],
-    };
+    pub const EMPTY: Self = Text { length: 0, bytes: [0; N] };
 
     /// The text of these bytes, of which there are at most `N`.
     pub fn of(source: &[u8]) -> Self {
