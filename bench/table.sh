@@ -2,6 +2,7 @@
 # The product beside the plain program of bench/plain, as the rows of the first table of docs/BENCH.md.
 #
 #   bench/table.sh [ROW]...      rows: serial script lines opening check dumps instructions; without any, all of them
+#   bench/table.sh own           the plain program's own figures
 #
 # Each row runs both programs with the same words in turn and takes the quickest of RUNS (3) runs of each, in seconds of
 # processor time; memory is the greatest of a run. A call that takes more than LIMIT (300) seconds is said not to have ended.
@@ -162,15 +163,38 @@ per_line() {
 
 row_instructions() {
     local of_product of_plain
-    of_product=$(per_request "$serial 16" 10 20)
-    of_plain=$(per_request "$plain serial $middle --terminals 16 --cards" 10 20)
-    row "instructions a request, serial, 16 terminals, 10 and 20 cards" "$of_product" "$of_plain" "$(ratio "$of_product" "$of_plain")"
+    of_product=$(per_request "$serial 16" 23 46)
+    of_plain=$(per_request "$plain serial $middle --terminals 16 --cards" 23 46)
+    row "instructions a request, serial, (4, 300, 10,000), 16 terminals, 23 and 46 cards" "$of_product" "$of_plain" \
+        "$(ratio "$of_product" "$of_plain")"
     of_product=$(per_line "$product")
     of_plain=$(per_line "$plain")
     row "instructions a line of a script with its screen, (1, 10, 100), 1,000 and 2,000 lines" "$of_product" "$of_plain" \
         "$(ratio "$of_product" "$of_plain")"
 }
 
+# What the plain program does by itself.
+own() {
+    local of
+    echo "| What | Plain |"
+    echo "|---|---|"
+    for of in "$middle" "$large"; do
+        "$plain" serial $of --terminals 16 --cards 20000 --time 2> "$work/err" > "$work/out"
+        echo "| ${of#--seeded }, 16 terminals, 20,000 cards | $(sed -n 's/^requests .*, //p' "$work/err"), $(sed -n 's/^journal //p' "$work/err") |"
+    done
+    echo "| instructions a request, 1 terminal, 2,300 and 4,600 cards | $(per_request "$plain serial $middle --terminals 1 --cards" 2300 4600) |"
+    echo "| the same, 16 terminals, 1,000 and 4,000 cards | $(per_request "$plain serial $middle --terminals 16 --cards" 1000 4000) |"
+    echo "| instructions a line of a script with its screen | $(per_line "$plain") |"
+    run_once "$plain" dump WAREHOUSE $large
+    echo "| opening, seeded, (4, 3,000, 100,000) | $memory MB |"
+    run_once "$plain" dump WAREHOUSE ${large#--seeded }
+    echo "| the same, plain | $memory MB |"
+}
+
+if [ "${1:-}" = own ]; then
+    own
+    exit
+fi
 echo "| What | Product | Plain | Ratio |"
 echo "|---|---|---|---|"
 [ $# -gt 0 ] || set -- serial script lines opening check dumps instructions

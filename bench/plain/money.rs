@@ -30,7 +30,17 @@ const fn pairs() -> [[u8; 2]; 100] {
 }
 
 /// Appends a number in decimal.
+#[inline]
 pub fn put_number(out: &mut Vec<u8>, number: u64) {
+    // Most numbers of a screen have one or two digits.
+    match number {
+        0..=9 => out.push(b'0' + number as u8),
+        10..=99 => out.extend_from_slice(&PAIRS[number as usize]),
+        _ => put_long_number(out, number),
+    }
+}
+
+fn put_long_number(out: &mut Vec<u8>, number: u64) {
     let mut digits = [0; 20];
     let mut start = digits.len();
     let mut rest = number;
@@ -40,7 +50,7 @@ pub fn put_number(out: &mut Vec<u8>, number: u64) {
         rest /= 100;
     }
     // A number of an odd number of digits still has its first one to come.
-    if rest > 0 || start == digits.len() {
+    if rest > 0 {
         start -= 1;
         digits[start] = b'0' + rest as u8;
     }
