@@ -5,6 +5,7 @@
 
 mod arguments;
 mod check;
+mod columns;
 mod delivery;
 mod draws;
 mod dump;
