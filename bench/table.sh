@@ -57,7 +57,7 @@ ratio() {
 }
 
 row() {
-    echo "| $1 | $2 | $3 | $4 |"
+    echo "| $1 | $2 | $3 | $4 | \`bench/table.sh $name\` |"
 }
 
 # A row of seconds.
@@ -78,7 +78,7 @@ serial_row() {
     entries=$("$plain" serial $middle --terminals "$terminals" --cards "$cards" | sed -n 's/^entries //p')
     plain_rate=$(echo "$entries $plain_seconds $started_plain" | awk '{ printf "%.0f", $1 / ($2 - $3) }')
     if [ -z "$product_seconds" ]; then
-        row "serial, (4, 300, 10,000), $terminals terminals, $cards cards" "did not end in $limit s" "$plain_rate a second" ""
+        row "serial, (4, 300, 10,000), $terminals terminals, $cards cards" "did not end in $limit s" "$plain_rate a second" "-"
         return
     fi
     product_rate=$(echo "$entries $product_seconds $started_product" | awk '{ printf "%.0f", $1 / ($2 - $3) }')
@@ -195,8 +195,8 @@ if [ "${1:-}" = own ]; then
     own
     exit
 fi
-echo "| What | Product | Plain | Ratio |"
-echo "|---|---|---|---|"
+echo "| What | Product | Plain | Ratio | Command |"
+echo "|---|---|---|---|---|"
 [ $# -gt 0 ] || set -- serial script lines opening check dumps instructions
 for name in "$@"; do
     "row_$name"

@@ -108,25 +108,27 @@ fn scale(warehouses: u32, customers: u32, items: u32) -> Result<Scale, Fault> {
     Ok(Scale { warehouses, customers, items })
 }
 
-// A flag has no value; the value of any other option stands behind it or behind a `=`.
+// A flag has no value; the value of any other option stands behind it or behind a `=`. Behind `--` no word is an option.
 fn split(words: impl Iterator<Item = String>, has_table: bool) -> Result<Words, Fault> {
     let mut words = words;
     let mut given = Words { table: None, options: Vec::new(), flags: Vec::new() };
+    let mut has_ended = false;
     while let Some(word) = words.next() {
-        let Some(option) = word.strip_prefix("--") else {
-            let table = Table::of(&word).filter(|_| has_table && given.table.is_none());
-            given.table = Some(table.ok_or(Fault::Arguments)?);
-            continue;
-        };
-        if let "seeded" | "time" = option {
-            given.flags.push(option.to_string());
-            continue;
+        match word.strip_prefix("--").filter(|_| !has_ended) {
+            None => {
+                let table = Table::of(&word).filter(|_| has_table && given.table.is_none());
+                given.table = Some(table.ok_or(Fault::Arguments)?);
+            }
+            Some("") => has_ended = true,
+            Some("seeded" | "time") => given.flags.push(word[2..].to_string()),
+            Some(option) => {
+                let pair = match option.split_once('=') {
+                    Some((name, value)) => (name.to_string(), value.to_string()),
+                    None => (option.to_string(), words.next().ok_or(Fault::Arguments)?),
+                };
+                given.options.push(pair);
+            }
         }
-        let pair = match option.split_once('=') {
-            Some((name, value)) => (name.to_string(), value.to_string()),
-            None => (option.to_string(), words.next().ok_or(Fault::Arguments)?),
-        };
-        given.options.push(pair);
     }
     Ok(given)
 }
