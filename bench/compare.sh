@@ -26,11 +26,12 @@ differ() {
     exit 1
 }
 
-# Runs one program by its name: its output, faults and status in files of that name.
+# Runs one program by its name: its output, faults and status in files of that name. `sink` may take the output instead.
 run_one() {
     local name=$1 status=0
     shift
-    timeout "$limit" "${!name}" "$@" < "$input" > "$work/$name.out" 2> "$work/$name.err" || status=$?
+    : > "$work/$name.out"
+    timeout "$limit" "${!name}" "$@" < "$input" > "${sink:-$work/$name.out}" 2> "$work/$name.err" || status=$?
     echo "$status" > "$work/$name.status"
 }
 
@@ -94,6 +95,21 @@ compare_fixed_scripts() {
     both script
 }
 
+# A folder can't be read, and a full disk takes nothing.
+compare_failing_files() {
+    local sink
+    input=/
+    both script
+    for sink in /dev/full /dev/null; do
+        for input in "$top"/examples/*.txt; do
+            both script
+        done
+        both dump STOCK
+        both dump WAREHOUSE
+        both run --cards 0
+    done
+}
+
 # The scale and the opening of the k-th case, as words.
 options_of() {
     local k=$1 of=("${@:2}")
@@ -148,9 +164,26 @@ compare_terminals() {
     done
 }
 
+# How many entries the serial programs make, where the product's is built.
+compare_serial() {
+    local serial="$BUILT/tpcc_serial/out/tpcc_serial" terminals
+    local scale=(--seeded --warehouses 4 --customers 300 --items 10000)
+    [ -x "$serial" ] || return 0
+    input=/dev/null
+    for terminals in 1 5 41; do
+        words="serial ${scale[*]} --terminals $terminals --cards 10"
+        cases=$((cases + 1))
+        "$serial" "$terminals" 10 > "$work/product.out"
+        "$plain" $words | head -n 1 > "$work/plain.out"
+        cmp -s "$work/product.out" "$work/plain.out" || differ outputs
+    done
+}
+
 compare_words
 compare_fixed_scripts
+compare_failing_files
 compare_terminals
+compare_serial
 compare_dumps
 compare_scripts
 echo "no difference in $cases cases, of them $scripts drawn scripts and $dumps dumps, in $SECONDS seconds"

@@ -8,7 +8,7 @@
 # processor time; memory is the greatest of a run. A call that takes more than LIMIT (300) seconds is said not to have ended.
 # BUILT names a crates/ folder where the product and its serial program (bench/serial) are built already.
 set -eu -o pipefail
-serial_too=yes
+serial_too=yes # read by built.sh
 . "$(dirname "$0")/plain/built.sh"
 runs=${RUNS:-3}
 limit=${LIMIT:-300}
@@ -75,7 +75,12 @@ serial_row() {
     beside "$serial" "$terminals" 0 -- "$plain" serial $middle --terminals "$terminals" --cards 0
     started_product=$product_seconds started_plain=$plain_seconds
     beside "$serial" "$terminals" "$cards" -- "$plain" serial $middle --terminals "$terminals" --cards "$cards"
+    # What ran last is the product, unless it did not end.
     entries=$("$plain" serial $middle --terminals "$terminals" --cards "$cards" | sed -n 's/^entries //p')
+    if [ -n "$product_seconds" ] && [ "$(sed -n 's/^entries //p' "$work/out")" != "$entries" ]; then
+        echo "the serial programs' journals differ in length" >&2
+        exit 1
+    fi
     plain_rate=$(echo "$entries $plain_seconds $started_plain" | awk '{ printf "%.0f", $1 / ($2 - $3) }')
     if [ -z "$product_seconds" ]; then
         row "serial, (4, 300, 10,000), $terminals terminals, $cards cards" "did not end in $limit s" "$plain_rate a second" "-"
@@ -161,16 +166,39 @@ per_line() {
     echo "$more $less" | awk '{ printf "%.0f", ($1 - $2) / 1000 }'
 }
 
+# The same of the requests of one terminal at a larger scale.
+per_drawn_line() {
+    local less more
+    input="$work/lines"
+    "$plain" requests $middle --terminal 1 --cards 115 > "$input"
+    less=$(instructions "$1" script $middle)
+    "$plain" requests $middle --terminal 1 --cards 345 > "$input"
+    more=$(instructions "$1" script $middle)
+    input=/dev/null
+    echo "$more $less" | awk '{ printf "%.0f", ($1 - $2) / 230 }'
+}
+
 row_instructions() {
     local of_product of_plain
     of_product=$(per_request "$serial 16" 23 46)
     of_plain=$(per_request "$plain serial $middle --terminals 16 --cards" 23 46)
     row "instructions a request, serial, (4, 300, 10,000), 16 terminals, 23 and 46 cards" "$of_product" "$of_plain" \
         "$(ratio "$of_product" "$of_plain")"
+    of_product=$(per_drawn_line "$product")
+    of_plain=$(per_drawn_line "$plain")
+    row "instructions a line of a terminal's requests with their screens, (4, 300, 10,000), 115 and 345 lines" \
+        "$of_product" "$of_plain" "$(ratio "$of_product" "$of_plain")"
     of_product=$(per_line "$product")
     of_plain=$(per_line "$plain")
     row "instructions a line of a script with its screen, (1, 10, 100), 1,000 and 2,000 lines" "$of_product" "$of_plain" \
         "$(ratio "$of_product" "$of_plain")"
+}
+
+# A serial run of the plain program at a scale.
+own_run() {
+    "$plain" serial "${@:2}" --terminals 16 --cards 20000 --time 2> "$work/err" > "$work/out"
+    echo "| $1, 16 terminals, 20,000 cards | $(sed -n 's/^requests .*, //p' "$work/err") |"
+    echo "| its journal | $(sed -n 's/^journal //p' "$work/err") |"
 }
 
 # What the plain program does by itself.
@@ -178,10 +206,8 @@ own() {
     local of
     echo "| What | Plain |"
     echo "|---|---|"
-    for of in "$middle" "$large"; do
-        "$plain" serial $of --terminals 16 --cards 20000 --time 2> "$work/err" > "$work/out"
-        echo "| ${of#--seeded }, 16 terminals, 20,000 cards | $(sed -n 's/^requests .*, //p' "$work/err"), $(sed -n 's/^journal //p' "$work/err") |"
-    done
+    own_run '(4, 300, 10,000)' $middle
+    own_run '(4, 3,000, 100,000)' $large
     echo "| instructions a request, 1 terminal, 2,300 and 4,600 cards | $(per_request "$plain serial $middle --terminals 1 --cards" 2300 4600) |"
     echo "| the same, 16 terminals, 1,000 and 4,000 cards | $(per_request "$plain serial $middle --terminals 16 --cards" 1000 4000) |"
     echo "| instructions a line of a script with its screen | $(per_line "$plain") |"
