@@ -3,6 +3,7 @@ ghost use Rattle.std.specs.Prelude.{◌≡◌, ◌<◌, ◌==◌, ◌++◌, ◌�
 ghost use Rattle.std.specs.Option.{option_copied};
 ghost use Rattle.tpcc_rows.specs.Replay.{count_of};
 
+use crate::tallies::{Tally, add_one, tally_of};
 use std::alloc::Global;
 use std::marker::Model;
 use tpcc_money::NoMemory;
@@ -12,15 +13,23 @@ use tpcc_rows::Entry;
 #[derive(Drop)]
 pub struct Journal {
     entries: Vec<Entry>,
+    tallies: Vec<Tally>,
 }
 
 impl Model for Journal {
-    ghost use Rattle.std.specs.Prelude.{◌-◌, vec_len, vec_capacity};
+    ghost use Rattle.std.specs.Prelude.{ℕ, ◌≡◌, ◌-◌, min, vec_len, vec_capacity};
+    ghost use Rattle.tpcc_rows.specs.Replay.{count_of};
     ghost use Rattle.tpcc_journal.specs.Log.{Log};
+    ghost use Rattle.tpcc_journal.specs.Tallies.{tally_of};
 
     ghost Value = { Log };
 
-    ghost view = { λ j. record { entries = j.entries.items; room = vec_capacity j.entries - vec_len j.entries } };
+    ghost view = { λ j. record {
+        entries = j.entries.items;
+        room = min (vec_capacity j.entries - vec_len j.entries) (vec_capacity j.tallies - vec_len j.tallies)
+    } };
+
+    ghost invariant = { λ j. (terminal : ℕ) → tally_of terminal j.tallies.items ≡ count_of terminal j.entries.items };
 }
 
 impl Journal {
@@ -30,6 +39,7 @@ impl Journal {
     {
         Journal {
             entries: Vec::new(alloc),
+            tallies: Vec::new(alloc),
         }
     }
 
@@ -47,14 +57,11 @@ impl Journal {
         self.entries.is_empty()
     }
 
-    /// How many entries are of the terminal.
+    /// How many entries are of the terminal; the entries are not looked at.
     pub fn count_of(&self, terminal: u32) -> u64
         ensures count { result ≡ count_of terminal self.now.entries }
     {
-        self.entries
-            .iter()
-            .filter(|entry| entry.terminal == terminal)
-            .count() as u64
+        tally_of(self.tallies.as_slice(), terminal)
     }
 
     /// The entry at a place, counted from 0.
@@ -76,6 +83,9 @@ impl Journal {
         ensures same { self.new.entries ≡ self.old.entries }
         ensures room { OnOk result (0 < self.new.room) }
     {
+        if self.tallies.reserve(1).is_err() {
+            return Err(NoMemory);
+        }
         match self.entries.reserve(1) {
             Ok(()) => Ok(()),
             Err(_) => Err(NoMemory),
@@ -87,6 +97,7 @@ impl Journal {
         requires room { 0 < self.old.room }
         ensures appended { self.new.entries ≡ self.old.entries ++ entry ∷ [] }
     {
+        add_one(&mut self.tallies, entry.terminal);
         self.entries.push_reserved(entry);
     }
 }

@@ -3,6 +3,7 @@
 
 mod journal;
 mod result_log;
+mod tallies;
 
 pub use journal::Journal;
 pub use result_log::results;
