@@ -1,5 +1,5 @@
 //! What the replies hold: the values that the terminals' screens show. A reply is a plain
-//! value, whose copy takes no memory.
+//! value, whose copy takes no memory. Its fields stand so that no bytes are lost between them.
 use crate::few::{Blank, Few};
 use crate::requests::Ticket;
 use crate::rows::Address;
@@ -21,16 +21,16 @@ pub struct EnteredLine {
     pub number: u32,
     pub supply: u32,
     pub item: u32,
-    /// I_NAME.
-    pub name: Text<24>,
     pub quantity: u32,
-    /// S_QUANTITY as it stands after this line.
-    pub stock: u32,
-    pub brand: Brand,
     /// I_PRICE.
     pub price: Cents,
     /// OL_AMOUNT.
     pub amount: Cents,
+    /// S_QUANTITY as it stands after this line.
+    pub stock: u32,
+    /// I_NAME.
+    pub name: Text<24>,
+    pub brand: Brand,
 }
 
 impl Blank for EnteredLine {
@@ -41,12 +41,12 @@ impl Blank for EnteredLine {
       number = 0;
       supply = 0;
       item = 0;
-      name = [];
       quantity = 0;
-      stock = 0;
-      brand = Brand.Generic;
       price = pos 0;
       amount = pos 0;
+      stock = 0;
+      name = [];
+      brand = Brand.Generic;
     } };
 
     fn blank() -> Self {
@@ -54,12 +54,12 @@ impl Blank for EnteredLine {
             number: 0,
             supply: 0,
             item: 0,
-            name: Text::empty(),
             quantity: 0,
-            stock: 0,
-            brand: Brand::Generic,
             price: Cents::new(0),
             amount: Cents::new(0),
+            stock: 0,
+            name: Text::empty(),
+            brand: Brand::Generic,
         }
     }
 }
@@ -115,8 +115,8 @@ pub struct Paid {
     pub customer_warehouse: u32,
     pub customer_district: u32,
     pub customer: u32,
-    pub amount: Cents,
     pub date: Moment,
+    pub amount: Cents,
     pub warehouse_address: Address,
     pub district_address: Address,
     pub first: Text<16>,
@@ -127,8 +127,8 @@ pub struct Paid {
     pub since: Moment,
     pub credit: Text<2>,
     pub credit_limit: Cents,
-    pub discount: Rate,
     pub balance: Cents,
+    pub discount: Rate,
     /// The first 200 bytes of C_DATA, where the credit is bad.
     pub information: Option<Text<200>>,
 }

@@ -120,10 +120,10 @@ pub struct Payment {
     pub customer_warehouse: u32,
     pub customer_district: u32,
     pub who: Who,
-    /// H_AMOUNT, 1.00 to 5,000.00.
-    pub amount: Cents,
     /// H_DATE.
     pub moment: Moment,
+    /// H_AMOUNT, 1.00 to 5,000.00.
+    pub amount: Cents,
 }
 
 /// An Order-Status request (2.6.1).

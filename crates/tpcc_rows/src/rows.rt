@@ -1,4 +1,5 @@
-//! The rows of the nine tables (1.3), with the columns in the standard's order.
+//! The rows of the nine tables (1.3), with the columns in the standard's order, but for the few that
+//! stand elsewhere so that no bytes are lost between them.
 //!
 //! A column's field is its name in words without the table's prefix; the four
 //! `*_DATA` columns are `information`. The bound of a text is its type, and a row is
@@ -61,12 +62,12 @@ pub struct CustomerRow {
     /// C_CREDIT: `GC` for good, `BC` for bad.
     pub credit: Text<2>,
     pub credit_limit: Cents,
-    pub discount: Rate,
     /// C_BALANCE: what the customer owes; below zero where more was paid than delivered.
     pub balance: Cents,
     pub ytd_payment: Cents,
     pub payment_count: u32,
     pub delivery_count: u32,
+    pub discount: Rate,
     /// C_DATA.
     pub information: Text<500>,
 }
@@ -112,8 +113,8 @@ pub struct OrderLineRow {
     pub supply: u32,
     /// OL_DELIVERY_D: null until the order is delivered.
     pub delivered: Option<Moment>,
-    pub quantity: u32,
     pub amount: Cents,
+    pub quantity: u32,
     /// OL_DIST_INFO, exactly 24 bytes.
     pub district_information: Text<24>,
 }
@@ -122,7 +123,16 @@ impl Blank for OrderLineRow {
     ghost use Rattle.std.specs.Prelude.{[], None, pos};
 
     ghost blank = { record {
-        order = 0; district = 0; warehouse = 0; number = 0; item = 0; supply = 0; delivered = None; quantity = 0; amount = pos 0; district_information = []
+      order = 0;
+      district = 0;
+      warehouse = 0;
+      number = 0;
+      item = 0;
+      supply = 0;
+      delivered = None;
+      amount = pos 0;
+      quantity = 0;
+      district_information = [];
     } };
 
     fn blank() -> Self {
@@ -134,8 +144,8 @@ impl Blank for OrderLineRow {
             item: 0,
             supply: 0,
             delivered: None,
-            quantity: 0,
             amount: Cents::new(0),
+            quantity: 0,
             district_information: Text::empty(),
         }
     }
@@ -154,8 +164,8 @@ pub struct NewOrderRow {
 pub struct ItemRow {
     pub id: u32,
     pub image: u32,
-    pub name: Text<24>,
     pub price: Cents,
+    pub name: Text<24>,
     /// I_DATA.
     pub information: Text<50>,
 }

@@ -42,11 +42,11 @@ returns g c =
     let count = c.args.places - length c.as_bytes-digits.result.now in
     let zeros = zeros_taken count (omega (arith, c.requires.few)) in
     let written =
-        c.extend-2.ensures.extended
-        ∙ ap (λ front. front ++ c.as_bytes-digits.result.now) c.extend.ensures.extended
-        ∙ append_assoc c.args.self.now (take count (replicate {A = ℕ} 16 48)) c.as_bytes-digits.result.now
-        ∙ ap (λ front. c.args.self.now ++ (front ++ c.as_bytes-digits.result.now)) zeros
-        ∙ ap (λ ds. c.args.self.now ++ (replicate {A = ℕ} (c.args.places - length ds) 48 ++ ds)) digits in
+    c.extend-2.ensures.extended
+    ∙ ap (λ front. front ++ c.as_bytes-digits.result.now) c.extend.ensures.extended
+    ∙ append_assoc c.args.self.now (take count (replicate {A = ℕ} 16 48)) c.as_bytes-digits.result.now
+    ∙ ap (λ front. c.args.self.now ++ (front ++ c.as_bytes-digits.result.now)) zeros
+    ∙ ap (λ ds. c.args.self.now ++ (replicate {A = ℕ} (c.args.places - length ds) 48 ++ ds)) digits in
     let left = c.args.places - length (decimal c.args.number) in
     record {
       written = written;
