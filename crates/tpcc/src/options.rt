@@ -1,5 +1,6 @@
 //! What the words of the command line ask.
 ghost use Rattle.std.specs.Prelude.{◌≡◌, ◌≤◌, IfOk};
+ghost use Rattle.tpcc.specs.Openings.{named_opening};
 ghost use Rattle.tpcc.specs.Tasks.{HasPlan};
 ghost use Rattle.tpcc_run.specs.Outcome.{IsPlan};
 
@@ -41,7 +42,9 @@ pub struct Asked {
 
 impl Asked {
     /// The opening that the options name. Refused as Scale where there is no such scale.
-    pub fn opening(&self) -> Result<Opening, ProgramFault> {
+    pub fn opening(&self) -> Result<Opening, ProgramFault>
+        ensures named { IfOk result (λ opening. opening ≡ named_opening self.now) }
+    {
         let scale = match Scale::new(self.warehouses, self.customers, self.items) {
             Ok(scale) => scale,
             Err(fault) => return Err(ProgramFault::Scale(fault)),

@@ -46,10 +46,10 @@ fn two_receipts<R: Abort>(rt: &R, receipts: &[Receipt]) {
         return;
     };
     assert_eq!(rt; (one.terminal, one.number, one.place), (5, 0, 0));
-    assert_eq!(rt; one.request, payment(100));
+    assert!(rt; one.request == payment(100));
     assert_eq!(rt; balance(one), Some(Cents::new(-1100)));
     assert_eq!(rt; (two.terminal, two.number, two.place), (5, 1, 1));
-    assert_eq!(rt; two.request, payment(200));
+    assert!(rt; two.request == payment(200));
     assert_eq!(rt; balance(two), Some(Cents::new(-1300)));
 }
 

@@ -17,7 +17,7 @@ fn of_an_order(rt: HostRuntime) -> Result<(), Fail> {
     if !is_stocked(&tables) {
         return Err(Fail::from("an item out of stock"));
     }
-    let reply = match enter(alloc, &mut tables, &order) {
+    let reply = match enter(&mut tables, &order) {
         Ok(reply) => reply,
         Err(refusal) => {
             assert_eq!(rt; refusal, Refusal::NoMemory);
@@ -27,7 +27,7 @@ fn of_an_order(rt: HostRuntime) -> Result<(), Fail> {
             if !is_stocked(&tables) {
                 return Err(Fail::from("an item out of stock"));
             }
-            enter(alloc, &mut tables, &order)?
+            enter(&mut tables, &order)?
         }
     };
     match reply {

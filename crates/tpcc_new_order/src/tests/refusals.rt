@@ -19,7 +19,7 @@ fn assert_refused(
     order: &Order,
     refusal: Refusal,
 ) -> Result<(), Fail> {
-    match entered(alloc, tables, order)? {
+    match entered(tables, order)? {
         Ok(_) => assert!(rt; false, "an order that is not refused"),
         Err(found) => assert_eq!(rt; found, refusal),
     }
