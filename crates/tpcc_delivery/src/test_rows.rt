@@ -1,6 +1,4 @@
 //! Rows of the plain opening for one warehouse: ten districts with customers, orders and waiting orders 8 to 10.
-ghost use Rattle.std.specs.Prelude.{◌≤◌};
-
 use std::alloc::Global;
 use std::test::Fail;
 use tpcc_money::{Cents, Moment, Rate};
@@ -10,71 +8,59 @@ use tpcc_rows::{
 };
 use tpcc_tables::Tables;
 
-fn text<const N: usize>(bytes: &[u8]) -> Result<Text<N>, Fail>
-    requires { N ≤ 65535 }
-{
-    Ok(Text::new(bytes)?)
+fn address() -> Address {
+    Address {
+        street_1: Text::of(b"MAINSTREET"),
+        street_2: Text::of(b"SIDESTREET"),
+        city: Text::of(b"CITYCENTRE"),
+        state: Text::of(b"AB"),
+        zip: Text::of(b"000111111"),
+    }
 }
 
-fn address() -> Result<Address, Fail> {
-    Ok(Address {
-        street_1: text(b"MAINSTREET")?,
-        street_2: text(b"SIDESTREET")?,
-        city: text(b"CITYCENTRE")?,
-        state: text(b"AB")?,
-        zip: text(b"000111111")?,
+fn warehouse() -> Row {
+    Row::Warehouse(WarehouseRow {
+        id: 1,
+        name: Text::of(b"WARE001"),
+        address: address(),
+        tax: Rate::new(1000),
+        ytd: Cents::new(100_000),
     })
 }
 
-fn warehouse(alloc: Global) -> Result<Row, Fail> {
-    Ok(Row::Warehouse(WarehouseRow {
-        id: 1,
-        name: text(b"WARE001")?,
-        address: address()?,
-        tax: Rate::new(1000),
-        ytd: Cents::new(100_000),
-    }))
-}
-
-fn district(alloc: Global, id: u32) -> Result<Row, Fail> {
-    Ok(Row::District(DistrictRow {
+fn district(id: u32) -> Row {
+    Row::District(DistrictRow {
         id,
         warehouse: 1,
-        name: text(b"DIST")?,
-        address: address()?,
+        name: Text::of(b"DIST"),
+        address: address(),
         tax: Rate::new(100),
         ytd: Cents::new(10_000),
         next_order: 11,
-    }))
+    })
 }
 
 /// A customer with C_BALANCE and C_DELIVERY_CNT.
-fn customer(
-    alloc: Global,
-    district: u32,
-    id: u32,
-    balance: i64,
-    delivery_count: u32,
-) -> Result<Row, Fail> {
-    Ok(Row::Customer(CustomerRow {
+fn customer(district: u32, id: u32, balance: i64, delivery_count: u32) -> Row {
+    Row::Customer(CustomerRow {
         id,
         district,
         warehouse: 1,
-        first: text(b"FIRST")?,
-        middle: text(b"OE")?,
-        last: text(b"BARBARBAR")?,
-        address: address()?,
-        phone: text(b"0000000000000001")?,
+        first: Text::of(b"FIRST"),
+        middle: Text::of(b"OE"),
+        last: Text::of(b"BARBARBAR"),
+        address: address(),
+        phone: Text::of(b"0000000000000001"),
         since: Moment::new(0),
-        credit: text(b"GC")?,
+        credit: Text::of(b"GC"),
         credit_limit: Cents::new(5_000_000),
-        discount: Rate::new(100),
         balance: Cents::new(balance),
         ytd_payment: Cents::new(1000),
         payment_count: 1,
         delivery_count,
-        information: text(b"xxx")?,
-    }))
+        discount: Rate::new(100),
+        information: Text::of(b"xxx"),
+    })
 }
 
 fn order(district: u32, id: u32) -> Row {
@@ -91,8 +77,8 @@ fn order(district: u32, id: u32) -> Row {
 }
 
 /// A line of an order, of as many units of money as its number.
-fn line(alloc: Global, district: u32, order: u32, number: u32) -> Result<Row, Fail> {
-    Ok(Row::OrderLine(OrderLineRow {
+fn line(district: u32, order: u32, number: u32) -> Row {
+    Row::OrderLine(OrderLineRow {
         order,
         district,
         warehouse: 1,
@@ -100,45 +86,33 @@ fn line(alloc: Global, district: u32, order: u32, number: u32) -> Result<Row, Fa
         item: number,
         supply: 1,
         delivered: None,
-        quantity: 5,
         amount: Cents::new(i64::from(number) * 100),
-        district_information: text(b"dddddddddddddddddddddd01")?,
-    }))
+        quantity: 5,
+        district_information: Text::of(b"dddddddddddddddddddddd01"),
+    })
 }
 
-fn item(alloc: Global, id: u32) -> Result<Row, Fail> {
-    Ok(Row::Item(ItemRow {
+fn item(id: u32) -> Row {
+    Row::Item(ItemRow {
         id,
         image: id,
-        name: text(b"ITEMNAME")?,
         price: Cents::new(100),
-        information: text(b"iiiiiiiiiiiiiiiiiiiiiiiiii")?,
-    }))
+        name: Text::of(b"ITEMNAME"),
+        information: Text::of(b"iiiiiiiiiiiiiiiiiiiiiiiiii"),
+    })
 }
 
-fn stock(alloc: Global, item: u32) -> Result<Row, Fail> {
-    let texts = [
-        text(b"dddddddddddddddddddddd01")?,
-        text(b"dddddddddddddddddddddd02")?,
-        text(b"dddddddddddddddddddddd03")?,
-        text(b"dddddddddddddddddddddd04")?,
-        text(b"dddddddddddddddddddddd05")?,
-        text(b"dddddddddddddddddddddd06")?,
-        text(b"dddddddddddddddddddddd07")?,
-        text(b"dddddddddddddddddddddd08")?,
-        text(b"dddddddddddddddddddddd09")?,
-        text(b"dddddddddddddddddddddd10")?,
-    ];
-    Ok(Row::Stock(StockRow {
+fn stock(item: u32) -> Row {
+    Row::Stock(StockRow {
         item,
         warehouse: 1,
         quantity: 10,
-        district_information: texts,
+        district_information: [Text::of(b"dddddddddddddddddddddd01"); 10],
         ytd: 0,
         order_count: 0,
         remote_count: 0,
-        information: text(b"ssssssssssssssssssssssssss")?,
-    }))
+        information: Text::of(b"ssssssssssssssssssssssssss"),
+    })
 }
 
 fn put(tables: &mut Tables, row: Row) -> Result<(), Fail> {
@@ -156,24 +130,24 @@ pub fn opened(
     delivery_count: u32,
 ) -> Result<Tables, Fail> {
     let mut tables = Tables::empty(alloc);
-    put(&mut tables, warehouse(alloc)?)?;
+    put(&mut tables, warehouse())?;
     for id in 1..6u32 {
-        put(&mut tables, item(alloc, id)?)?;
-        put(&mut tables, stock(alloc, id)?)?;
+        put(&mut tables, item(id))?;
+        put(&mut tables, stock(id))?;
     }
     for district_id in 1..11u32 {
-        put(&mut tables, district(alloc, district_id)?)?;
+        put(&mut tables, district(district_id))?;
         for id in 8..11u32 {
             let changed = district_id == 1 && id == 8;
             let balance = if changed { balance } else { -1000 };
             let delivery_count = if changed { delivery_count } else { 0 };
             put(
                 &mut tables,
-                customer(alloc, district_id, id, balance, delivery_count)?,
+                customer(district_id, id, balance, delivery_count),
             )?;
             put(&mut tables, order(district_id, id))?;
             for number in 1..6u32 {
-                put(&mut tables, line(alloc, district_id, id, number)?)?;
+                put(&mut tables, line(district_id, id, number))?;
             }
             if without != Some((district_id, id)) {
                 put(

@@ -1,11 +1,15 @@
 //! Tickets and runs on worked values, with ample memory.
+ghost use Rattle.std.specs.Prelude.{◌≡◌};
+
 use super::*;
 use crate::test_rows::opened;
 use std::test::Fail;
 use tpcc_money::{Cents, Moment};
 use tpcc_rows::{Field, Refusal};
 
-fn ticket(warehouse: u32, carrier: u32) -> Ticket {
+fn ticket(warehouse: u32, carrier: u32) -> Ticket
+    ensures { result.carrier ≡ carrier }
+{
     Ticket {
         warehouse,
         carrier,
@@ -28,7 +32,7 @@ fn ten_runs_of_a_ticket(rt: HostRuntime) -> Result<(), Fail> {
     let mut waiting = Queue::new(rt.alloc());
     queue(&tables, &mut waiting, ticket(1, 3))?;
     let first = deliver_next(&mut tables, &mut waiting, Moment::new(120))?;
-    assert_eq!(rt; first, run(120, 1, Some(8)));
+    assert!(rt; first == run(120, 1, Some(8)));
     let customer = tables.customer(1, 1, 8).ok_or("customer")?;
     assert_eq!(rt; customer.balance, Cents::new(500));
     assert_eq!(rt; customer.delivery_count, 1);
@@ -46,11 +50,11 @@ fn ten_runs_of_a_ticket(rt: HostRuntime) -> Result<(), Fail> {
     for district in 2..11u32 {
         assert_eq!(rt; waiting.tickets().first().ok_or("ticket")?.next, district);
         let next = deliver_next(&mut tables, &mut waiting, Moment::new(180))?;
-        assert_eq!(rt; next, run(180, district, Some(8)));
+        assert!(rt; next == run(180, district, Some(8)));
     }
     assert_eq!(rt; waiting.len(), 0);
     let none = deliver_next(&mut tables, &mut waiting, Moment::new(240))?;
-    assert_eq!(rt; none, Delivery::NoneQueued);
+    assert!(rt; none == Delivery::NoneQueued);
     Ok(())
 }
 
@@ -74,7 +78,7 @@ fn three_tickets(rt: HostRuntime) -> Result<(), Fail> {
                 of_others
             };
             let next = deliver_next(&mut tables, &mut waiting, Moment::new(120))?;
-            assert_eq!(rt; next, run(120, district, order));
+            assert!(rt; next == run(120, district, order));
         }
     }
     assert_eq!(rt; waiting.len(), 0);
@@ -109,13 +113,13 @@ fn refused_runs(rt: HostRuntime) -> Result<(), Fail> {
         let customer = tables.customer(1, 1, 8).ok_or("customer")?;
         match refusal {
             Some(refusal) => {
-                assert_eq!(rt; outcome, Err(refusal));
+                assert!(rt; outcome == Err(refusal));
                 assert_eq!(rt; next, 1);
                 assert_eq!(rt; customer.balance.value(), balance);
                 assert_eq!(rt; tables.oldest_new(1, 1), Some(8));
             }
             None => {
-                assert_eq!(rt; outcome, Ok(run(120, 1, Some(8))));
+                assert!(rt; outcome == Ok(run(120, 1, Some(8))));
                 assert_eq!(rt; next, 2);
                 assert_eq!(rt; tables.oldest_new(1, 1), Some(9));
             }
@@ -155,19 +159,15 @@ fn refused_tickets(rt: HostRuntime) -> Result<(), Fail> {
 fn in_two_halves(rt: HostRuntime) -> Result<(), Fail> {
     let mut tables = opened(rt.alloc(), None, -1000, 0)?;
     let mut waiting = Queue::new(rt.alloc());
-    let asked = ticket(1, 3);
-    let prepared = asked;
-    prepare_ticket(&tables, &mut waiting, prepared)?;
+    prepare_ticket(&tables, &mut waiting, ticket(1, 3))?;
     assert_eq!(rt; waiting.len(), 0);
-    finish_ticket(&mut waiting, asked);
+    finish_ticket(&mut waiting, ticket(1, 3));
     waiting.in_range();
     let prepared = prepare_run(&tables, &waiting, Moment::new(120))?;
-    assert_eq!(rt; prepared.reply, run(120, 1, Some(8)));
+    assert!(rt; prepared.reply == run(120, 1, Some(8)));
     assert_eq!(rt; tables.oldest_new(1, 1), Some(8));
-    assert_eq!(rt;
-        finish_run(&mut tables, &mut waiting, prepared),
-        run(120, 1, Some(8))
-    );
+    let reply = finish_run(&mut tables, &mut waiting, prepared);
+    assert!(rt; reply == run(120, 1, Some(8)));
     assert_eq!(rt; tables.oldest_new(1, 1), Some(9));
     Ok(())
 }

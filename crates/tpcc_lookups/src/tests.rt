@@ -1,12 +1,9 @@
 //! Order-Status and Stock-Level on worked values, with ample memory.
-use crate::opening::{
-    Scale, customer, district, item, line, opened, order, put, stock, text, warehouse,
-};
+use crate::opening::{Scale, customer, district, item, line, opened, order, put, stock, warehouse};
 use crate::{Level, StatusLine, StatusQuery, StockQuery, order_status, stock_level};
-use std::alloc::Global;
 use std::test::Fail;
 use tpcc_money::{Cents, Moment};
-use tpcc_rows::{Refusal, Who};
+use tpcc_rows::{Refusal, Text, Who};
 use tpcc_tables::Tables;
 
 const SMALL: Scale = Scale {
@@ -36,8 +33,7 @@ fn low(tables: &Tables, threshold: u32) -> Result<u32, Fail> {
 
 #[test]
 fn shows_a_delivered_order(rt: HostRuntime) -> Result<(), Fail> {
-    let alloc = rt.alloc();
-    let tables = opened(alloc, SMALL)?;
+    let tables = opened(rt.alloc(), SMALL)?;
     let status = order_status(&tables, &by_number(1, 1)).map_err(|_| "refused")?;
     assert_eq!(rt; status.warehouse, 1);
     assert_eq!(rt; status.district, 1);
@@ -52,50 +48,44 @@ fn shows_a_delivered_order(rt: HostRuntime) -> Result<(), Fail> {
     assert_eq!(rt; order.carrier, Some(1));
     assert_eq!(rt; order.lines.as_slice().len(), 5);
     for number in 0..5usize {
-        assert!(rt;
-            order.lines.as_slice()[number]
-                == StatusLine {
-                supply: 1,
-                item: 1 + number as u32,
-                quantity: 5,
-                amount: Cents::new(0),
-                delivered: Some(Moment::new(0)),
-            }
-        );
+        let expected = StatusLine {
+            supply: 1,
+            item: 1 + number as u32,
+            quantity: 5,
+            amount: Cents::new(0),
+            delivered: Some(Moment::new(0)),
+        };
+        assert!(rt; order.lines.as_slice()[number] == expected);
     }
     Ok(())
 }
 
 #[test]
 fn shows_an_order_that_waits(rt: HostRuntime) -> Result<(), Fail> {
-    let alloc = rt.alloc();
-    let tables = opened(alloc, SMALL)?;
+    let tables = opened(rt.alloc(), SMALL)?;
     let status = order_status(&tables, &by_number(1, 8)).map_err(|_| "refused")?;
     let order = status.order.ok_or("order")?;
     assert_eq!(rt; order.order, 8);
     assert_eq!(rt; order.carrier, None);
     assert_eq!(rt; order.lines.as_slice().len(), 5);
-    assert!(rt;
-        order.lines.as_slice()[4]
-            == StatusLine {
-            supply: 1,
-            item: 40,
-            quantity: 5,
-            amount: Cents::new(500),
-            delivered: None,
-        }
-    );
+    let expected = StatusLine {
+        supply: 1,
+        item: 40,
+        quantity: 5,
+        amount: Cents::new(500),
+        delivered: None,
+    };
+    assert!(rt; order.lines.as_slice()[4] == expected);
     Ok(())
 }
 
 #[test]
 fn shows_the_middle_one_of_a_name(rt: HostRuntime) -> Result<(), Fail> {
-    let alloc = rt.alloc();
-    let tables = opened(alloc, SMALL)?;
+    let tables = opened(rt.alloc(), SMALL)?;
     let query = StatusQuery {
         warehouse: 1,
         district: 1,
-        who: Who::Name(text(b"BARBAROUGHT".as_slice())?),
+        who: Who::Name(Text::of(b"BARBAROUGHT")),
     };
     let status = order_status(&tables, &query).map_err(|_| "refused")?;
     assert_eq!(rt; status.customer, 5);
@@ -105,23 +95,22 @@ fn shows_the_middle_one_of_a_name(rt: HostRuntime) -> Result<(), Fail> {
 /// Two orders of customer 1, entered out of order; customer 2 has none.
 #[test]
 fn shows_the_last_order(rt: HostRuntime) -> Result<(), Fail> {
-    let alloc = rt.alloc();
     let scale = Scale {
         customers: 2,
         items: 3,
         delivered: 0,
     };
-    let mut tables = Tables::empty(alloc);
-    put(&mut tables, warehouse(alloc, 1)?)?;
-    put(&mut tables, district(alloc, 4)?)?;
-    put(&mut tables, item(alloc, 1)?)?;
-    put(&mut tables, stock(alloc, 1, 1, 15)?)?;
-    put(&mut tables, customer(alloc, 1)?)?;
-    put(&mut tables, customer(alloc, 2)?)?;
+    let mut tables = Tables::empty(rt.alloc());
+    put(&mut tables, warehouse(1))?;
+    put(&mut tables, district(4))?;
+    put(&mut tables, item(1))?;
+    put(&mut tables, stock(1, 1, 15))?;
+    put(&mut tables, customer(1))?;
+    put(&mut tables, customer(2))?;
     put(&mut tables, order(scale, 3, 1))?;
     put(&mut tables, order(scale, 2, 1))?;
-    put(&mut tables, line(alloc, 3, 15, 1, 1, true)?)?;
-    put(&mut tables, line(alloc, 3, 2, 1, 1, true)?)?;
+    put(&mut tables, line(3, 15, 1, 1, true))?;
+    put(&mut tables, line(3, 2, 1, 1, true))?;
     let status = order_status(&tables, &by_number(1, 1)).map_err(|_| "refused")?;
     let last = status.order.ok_or("order")?;
     assert_eq!(rt; last.order, 3);
@@ -134,8 +123,7 @@ fn shows_the_last_order(rt: HostRuntime) -> Result<(), Fail> {
 
 #[test]
 fn refuses_a_status(rt: HostRuntime) -> Result<(), Fail> {
-    let alloc = rt.alloc();
-    let tables = opened(alloc, SMALL)?;
+    let tables = opened(rt.alloc(), SMALL)?;
     let elsewhere = StatusQuery {
         warehouse: 2,
         district: 11,
@@ -158,8 +146,7 @@ fn refuses_a_status(rt: HostRuntime) -> Result<(), Fail> {
 
 #[test]
 fn counts_low_items(rt: HostRuntime) -> Result<(), Fail> {
-    let alloc = rt.alloc();
-    let tables = opened(alloc, SMALL)?;
+    let tables = opened(rt.alloc(), SMALL)?;
     assert_eq!(rt; low(&tables, 10)?, 0);
     assert_eq!(rt; low(&tables, 20)?, 9);
     let query = StockQuery {
@@ -167,22 +154,21 @@ fn counts_low_items(rt: HostRuntime) -> Result<(), Fail> {
         district: 1,
         threshold: 20,
     };
-    let shown = Level {
+    let expected = Level {
         warehouse: 1,
         district: 1,
         threshold: 20,
         low_stock: 9,
     };
-    assert!(rt; stock_level(&tables, &query) == Ok(shown));
+    assert!(rt; stock_level(&tables, &query) == Ok(expected));
     Ok(())
 }
 
 /// Order 20 with the items 96 to 100, which are low, is not among the last 20 of 40.
 #[test]
 fn leaves_earlier_orders_out(rt: HostRuntime) -> Result<(), Fail> {
-    let alloc = rt.alloc();
     let tables = opened(
-        alloc,
+        rt.alloc(),
         Scale {
             customers: 40,
             items: 200,
@@ -196,25 +182,24 @@ fn leaves_earlier_orders_out(rt: HostRuntime) -> Result<(), Fail> {
 /// An item on three lines, one of them supplied by warehouse 2, which has plenty of it.
 #[test]
 fn counts_an_item_once_by_the_home_stock(rt: HostRuntime) -> Result<(), Fail> {
-    let alloc = rt.alloc();
     let scale = Scale {
         customers: 1,
         items: 1,
         delivered: 0,
     };
-    let mut tables = Tables::empty(alloc);
-    put(&mut tables, warehouse(alloc, 1)?)?;
-    put(&mut tables, warehouse(alloc, 2)?)?;
-    put(&mut tables, district(alloc, 3)?)?;
-    put(&mut tables, item(alloc, 1)?)?;
-    put(&mut tables, stock(alloc, 1, 1, 15)?)?;
-    put(&mut tables, stock(alloc, 2, 1, 50)?)?;
-    put(&mut tables, customer(alloc, 1)?)?;
+    let mut tables = Tables::empty(rt.alloc());
+    put(&mut tables, warehouse(1))?;
+    put(&mut tables, warehouse(2))?;
+    put(&mut tables, district(3))?;
+    put(&mut tables, item(1))?;
+    put(&mut tables, stock(1, 1, 15))?;
+    put(&mut tables, stock(2, 1, 50))?;
+    put(&mut tables, customer(1))?;
     put(&mut tables, order(scale, 1, 1))?;
     put(&mut tables, order(scale, 2, 1))?;
-    put(&mut tables, line(alloc, 1, 1, 1, 1, true)?)?;
-    put(&mut tables, line(alloc, 1, 2, 1, 1, true)?)?;
-    put(&mut tables, line(alloc, 2, 1, 1, 2, true)?)?;
+    put(&mut tables, line(1, 1, 1, 1, true))?;
+    put(&mut tables, line(1, 2, 1, 1, true))?;
+    put(&mut tables, line(2, 1, 1, 2, true))?;
     assert_eq!(rt; low(&tables, 16)?, 1);
     assert_eq!(rt; low(&tables, 15)?, 0);
     Ok(())
@@ -222,8 +207,7 @@ fn counts_an_item_once_by_the_home_stock(rt: HostRuntime) -> Result<(), Fail> {
 
 #[test]
 fn refuses_a_stock_level(rt: HostRuntime) -> Result<(), Fail> {
-    let alloc = rt.alloc();
-    let tables = opened(alloc, SMALL)?;
+    let tables = opened(rt.alloc(), SMALL)?;
     let refused = [
         (2u32, 11u32, 9u32, Refusal::NoWarehouse),
         (1, 11, 9, Refusal::NoDistrict),

@@ -1,10 +1,10 @@
 //! Payments on the opening.
-use crate::opening::{opened, text};
+use crate::opening::opened;
 use std::alloc::AllocGlobal;
 use std::process::Abort;
 use tpcc_money::{Cents, Moment, Rate};
 use tpcc_payment::{Paid, Payment, pay};
-use tpcc_rows::{Field, Refusal, Table, Who};
+use tpcc_rows::{Field, Refusal, Table, Text, Who};
 use tpcc_tables::Tables;
 
 pub fn payment(who: Who, amount: i64) -> Payment {
@@ -21,7 +21,7 @@ pub fn payment(who: Who, amount: i64) -> Payment {
 
 /// Pays; where a growth is refused, no row has changed and the payment is made again.
 fn paid(
-    rt: &(impl Abort + AllocGlobal),
+    rt: &impl Abort,
     tables: &mut Tables,
     payment: &Payment,
 ) -> Result<Paid, Refusal> {
@@ -80,7 +80,7 @@ fn by_number(rt: HostRuntime) {
 }
 
 /// Pays; C_BALANCE as the reply shows it.
-fn shown_balance(rt: &(impl Abort + AllocGlobal), tables: &mut Tables, payment: &Payment) -> Cents {
+fn shown_balance(rt: &impl Abort, tables: &mut Tables, payment: &Payment) -> Cents {
     let reply = paid(rt, tables, payment).expect(rt, "a payment");
     reply.balance
 }
@@ -109,10 +109,10 @@ fn of_the_least_and_the_greatest_amount(rt: HostRuntime) {
 #[test]
 fn by_last_name(rt: HostRuntime) {
     let mut tables = opened(&rt, 10_000);
-    let name = Who::Name(text(&rt, b"BARBARBAR"));
+    let name = Who::Name(Text::of(b"BARBARBAR"));
     let reply = paid(&rt, &mut tables, &payment(name, 100)).expect(&rt, "a payment");
     shows_customer(&rt, &reply, 7, b"FIRST9992", Rate::new(700));
-    let nobody = Who::Name(text(&rt, b"EINGEINGEING"));
+    let nobody = Who::Name(Text::of(b"EINGEINGEING"));
     let request = payment(nobody, 100);
     assert_eq!(rt;
         paid(&rt, &mut tables, &request).err(),

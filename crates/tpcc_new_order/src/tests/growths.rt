@@ -1,6 +1,6 @@
 //! One growth refused, whichever it is: the call that meets it tells so and changes nothing, and made again it
-//! answers as ever. Run with `rt try --test --fail-alloc N`: the first growths are those of the rows to load, whose
-//! refusal ends the test, the next ones those of the order.
+//! answers as ever. Run with `rt try --test --fail-alloc N`: the first growths are those of the tables that rows are
+//! loaded into and of the request, whose refusal ends the test, the next ones those of the order.
 use super::opening::opened;
 use super::orders::order;
 use super::stocked::is_stocked;
