@@ -30,12 +30,7 @@ fn shown(tables: &Tables, warehouse: u32, district: u32, order: u32) -> LastOrde
 
 #[tactic(auto, using(crate::proofs::LowLemmas::last_is_there))]
 /// A customer's last order, if there is one.
-fn last_order(
-    tables: &Tables,
-    warehouse: u32,
-    district: u32,
-    customer: u32,
-) -> Option<LastOrder>
+fn last_order(tables: &Tables, warehouse: u32, district: u32, customer: u32) -> Option<LastOrder>
     ensures { result ≡ option_map (shown_order tables.now.rows warehouse district) (last_order_number tables.now.rows warehouse district customer) }
 {
     match tables.last_order(warehouse, district, customer) {

@@ -15,12 +15,7 @@ use tpcc_tables::tables::Tables;
 
 #[tactic(auto, using(crate::proofs::LineLemmas::no_orders))]
 /// The lines of the 20 orders before the next one of a district.
-fn lines_before(
-    tables: &Tables,
-    warehouse: u32,
-    district: u32,
-    next: u32,
-) -> Few<StatusLine, 300>
+fn lines_before(tables: &Tables, warehouse: u32, district: u32, next: u32) -> Few<StatusLine, 300>
     ensures lines { result ≡ map status_line (filter (λ l. nat_le (next - 20) l.order && nat_lt l.order next) (order_lines_in tables.now.rows warehouse district)) }
     ensures few { length result ≤ 300 }
 {

@@ -1,12 +1,9 @@
 //! Order-Status and Stock-Level on worked values, with ample memory.
-use crate::opening::{
-    Scale, customer, district, item, line, opened, order, put, stock, text, warehouse,
-};
+use crate::opening::{Scale, customer, district, item, line, opened, order, put, stock, warehouse};
 use crate::{Level, StatusLine, StatusQuery, StockQuery, order_status, stock_level};
-use std::alloc::Global;
 use std::test::Fail;
 use tpcc_money::{Cents, Moment};
-use tpcc_rows::{Refusal, Who};
+use tpcc_rows::{Refusal, Text, Who};
 use tpcc_tables::Tables;
 
 const SMALL: Scale = Scale {
@@ -24,21 +21,22 @@ fn by_number(district: u32, customer: u32) -> StatusQuery {
 }
 
 /// How many items are low, of a query that nothing refuses.
-fn low(alloc: Global, tables: &Tables, threshold: u32) -> Result<u32, Fail> {
+fn low(tables: &Tables, threshold: u32) -> Result<u32, Fail> {
     let query = StockQuery {
         warehouse: 1,
         district: 1,
         threshold,
     };
-    let level = stock_level(alloc, tables, &query).map_err(|_| "refused")?;
+    let level = stock_level(tables, &query).map_err(|_| "refused")?;
     Ok(level.low_stock)
 }
 
 #[test]
 fn shows_a_delivered_order(rt: HostRuntime) -> Result<(), Fail> {
-    let alloc = rt.alloc();
-    let tables = opened(alloc, SMALL)?;
-    let status = order_status(alloc, &tables, &by_number(1, 1)).map_err(|_| "refused")?;
+    let tables = opened(rt.alloc(), SMALL)?;
+    let Ok(status) = order_status(&tables, &by_number(1, 1)) else {
+        return Err(Fail::from("refused"));
+    };
     assert_eq!(rt; status.warehouse, 1);
     assert_eq!(rt; status.district, 1);
     assert_eq!(rt; status.customer, 1);
@@ -46,58 +44,60 @@ fn shows_a_delivered_order(rt: HostRuntime) -> Result<(), Fail> {
     assert_eq!(rt; status.middle.bytes(), b"OE".as_slice());
     assert_eq!(rt; status.last.bytes(), b"BARBARBAR".as_slice());
     assert_eq!(rt; status.balance, Cents::new(-1000));
-    let order = status.order.ok_or("order")?;
+    let Some(order) = status.order else {
+        return Err(Fail::from("order"));
+    };
     assert_eq!(rt; order.order, 1);
     assert_eq!(rt; order.entry_date, Moment::new(0));
     assert_eq!(rt; order.carrier, Some(1));
     assert_eq!(rt; order.lines.as_slice().len(), 5);
     for number in 0..5usize {
-        assert_eq!(rt;
-            order.lines.as_slice()[number],
-            StatusLine {
-                supply: 1,
-                item: 1 + number as u32,
-                quantity: 5,
-                amount: Cents::new(0),
-                delivered: Some(Moment::new(0)),
-            }
-        );
+        let expected = StatusLine {
+            supply: 1,
+            item: 1 + number as u32,
+            quantity: 5,
+            amount: Cents::new(0),
+            delivered: Some(Moment::new(0)),
+        };
+        assert!(rt; order.lines.as_slice()[number] == expected);
     }
     Ok(())
 }
 
 #[test]
 fn shows_an_order_that_waits(rt: HostRuntime) -> Result<(), Fail> {
-    let alloc = rt.alloc();
-    let tables = opened(alloc, SMALL)?;
-    let status = order_status(alloc, &tables, &by_number(1, 8)).map_err(|_| "refused")?;
-    let order = status.order.ok_or("order")?;
+    let tables = opened(rt.alloc(), SMALL)?;
+    let Ok(status) = order_status(&tables, &by_number(1, 8)) else {
+        return Err(Fail::from("refused"));
+    };
+    let Some(order) = status.order else {
+        return Err(Fail::from("order"));
+    };
     assert_eq!(rt; order.order, 8);
     assert_eq!(rt; order.carrier, None);
     assert_eq!(rt; order.lines.as_slice().len(), 5);
-    assert_eq!(rt;
-        order.lines.as_slice()[4],
-        StatusLine {
-            supply: 1,
-            item: 40,
-            quantity: 5,
-            amount: Cents::new(500),
-            delivered: None,
-        }
-    );
+    let expected = StatusLine {
+        supply: 1,
+        item: 40,
+        quantity: 5,
+        amount: Cents::new(500),
+        delivered: None,
+    };
+    assert!(rt; order.lines.as_slice()[4] == expected);
     Ok(())
 }
 
 #[test]
 fn shows_the_middle_one_of_a_name(rt: HostRuntime) -> Result<(), Fail> {
-    let alloc = rt.alloc();
-    let tables = opened(alloc, SMALL)?;
+    let tables = opened(rt.alloc(), SMALL)?;
     let query = StatusQuery {
         warehouse: 1,
         district: 1,
-        who: Who::Name(text(alloc, b"BARBAROUGHT".as_slice())?),
+        who: Who::Name(Text::of(b"BARBAROUGHT")),
     };
-    let status = order_status(alloc, &tables, &query).map_err(|_| "refused")?;
+    let Ok(status) = order_status(&tables, &query) else {
+        return Err(Fail::from("refused"));
+    };
     assert_eq!(rt; status.customer, 5);
     Ok(())
 }
@@ -105,163 +105,116 @@ fn shows_the_middle_one_of_a_name(rt: HostRuntime) -> Result<(), Fail> {
 /// Two orders of customer 1, entered out of order; customer 2 has none.
 #[test]
 fn shows_the_last_order(rt: HostRuntime) -> Result<(), Fail> {
-    let alloc = rt.alloc();
     let scale = Scale {
         customers: 2,
         items: 3,
         delivered: 0,
     };
-    let mut tables = Tables::empty(alloc);
-    put(&mut tables, warehouse(alloc, 1)?)?;
-    put(&mut tables, district(alloc, 4)?)?;
-    put(&mut tables, item(alloc, 1)?)?;
-    put(&mut tables, stock(alloc, 1, 1, 15)?)?;
-    put(&mut tables, customer(alloc, 1)?)?;
-    put(&mut tables, customer(alloc, 2)?)?;
+    let mut tables = Tables::empty(rt.alloc());
+    put(&mut tables, warehouse(1))?;
+    put(&mut tables, district(4))?;
+    put(&mut tables, item(1))?;
+    put(&mut tables, stock(1, 1, 15))?;
+    put(&mut tables, customer(1))?;
+    put(&mut tables, customer(2))?;
     put(&mut tables, order(scale, 3, 1))?;
     put(&mut tables, order(scale, 2, 1))?;
-    put(&mut tables, line(alloc, 3, 15, 1, 1, true)?)?;
-    put(&mut tables, line(alloc, 3, 2, 1, 1, true)?)?;
-    let status = order_status(alloc, &tables, &by_number(1, 1)).map_err(|_| "refused")?;
-    let last = status.order.ok_or("order")?;
+    put(&mut tables, line(3, 15, 1, 1, true))?;
+    put(&mut tables, line(3, 2, 1, 1, true))?;
+    let Ok(status) = order_status(&tables, &by_number(1, 1)) else {
+        return Err(Fail::from("refused"));
+    };
+    let Some(last) = status.order else {
+        return Err(Fail::from("order"));
+    };
     assert_eq!(rt; last.order, 3);
     assert_eq!(rt; last.lines.as_slice().len(), 2);
     assert_eq!(rt; last.lines.as_slice()[1].amount, Cents::new(1500));
-    let status = order_status(alloc, &tables, &by_number(1, 2)).map_err(|_| "refused")?;
+    let Ok(status) = order_status(&tables, &by_number(1, 2)) else {
+        return Err(Fail::from("refused"));
+    };
     assert!(rt; status.order.is_none());
     Ok(())
 }
 
 #[test]
 fn refuses_a_status(rt: HostRuntime) -> Result<(), Fail> {
-    let alloc = rt.alloc();
-    let tables = opened(alloc, SMALL)?;
+    let tables = opened(rt.alloc(), SMALL)?;
     let elsewhere = StatusQuery {
         warehouse: 2,
         district: 11,
         who: Who::Number(0),
     };
-    assert_eq!(rt;
-        order_status(alloc, &tables, &elsewhere),
-        Err(Refusal::NoWarehouse)
-    );
-    assert_eq!(rt;
-        order_status(alloc, &tables, &by_number(11, 0)),
-        Err(Refusal::NoDistrict)
-    );
-    assert_eq!(rt;
-        order_status(alloc, &tables, &by_number(1, 0)),
-        Err(Refusal::NoCustomer)
-    );
+    assert!(rt; order_status(&tables, &elsewhere) == Err(Refusal::NoWarehouse));
+    assert!(rt; order_status(&tables, &by_number(11, 0)) == Err(Refusal::NoDistrict));
+    assert!(rt; order_status(&tables, &by_number(1, 0)) == Err(Refusal::NoCustomer));
     Ok(())
 }
 
 #[test]
 fn counts_low_items(rt: HostRuntime) -> Result<(), Fail> {
-    let alloc = rt.alloc();
-    let tables = opened(alloc, SMALL)?;
-    assert_eq!(rt; low(alloc, &tables, 10)?, 0);
-    assert_eq!(rt; low(alloc, &tables, 20)?, 9);
+    let tables = opened(rt.alloc(), SMALL)?;
+    assert_eq!(rt; low(&tables, 10)?, 0);
+    assert_eq!(rt; low(&tables, 20)?, 9);
     let query = StockQuery {
         warehouse: 1,
         district: 1,
         threshold: 20,
     };
-    assert_eq!(rt;
-        stock_level(alloc, &tables, &query),
-        Ok(Level {
-            warehouse: 1,
-            district: 1,
-            threshold: 20,
-            low_stock: 9,
-        })
-    );
+    let expected = Level {
+        warehouse: 1,
+        district: 1,
+        threshold: 20,
+        low_stock: 9,
+    };
+    assert!(rt; stock_level(&tables, &query) == Ok(expected));
     Ok(())
 }
 
 /// Order 20 with the items 96 to 100, which are low, is not among the last 20 of 40.
 #[test]
 fn leaves_earlier_orders_out(rt: HostRuntime) -> Result<(), Fail> {
-    let alloc = rt.alloc();
     let tables = opened(
-        alloc,
+        rt.alloc(),
         Scale {
             customers: 40,
             items: 200,
             delivered: 28,
         },
     )?;
-    assert_eq!(rt; low(alloc, &tables, 20)?, 10);
+    assert_eq!(rt; low(&tables, 20)?, 10);
     Ok(())
 }
 
 /// An item on three lines, one of them supplied by warehouse 2, which has plenty of it.
 #[test]
 fn counts_an_item_once_by_the_home_stock(rt: HostRuntime) -> Result<(), Fail> {
-    let alloc = rt.alloc();
     let scale = Scale {
         customers: 1,
         items: 1,
         delivered: 0,
     };
-    let mut tables = Tables::empty(alloc);
-    put(&mut tables, warehouse(alloc, 1)?)?;
-    put(&mut tables, warehouse(alloc, 2)?)?;
-    put(&mut tables, district(alloc, 3)?)?;
-    put(&mut tables, item(alloc, 1)?)?;
-    put(&mut tables, stock(alloc, 1, 1, 15)?)?;
-    put(&mut tables, stock(alloc, 2, 1, 50)?)?;
-    put(&mut tables, customer(alloc, 1)?)?;
+    let mut tables = Tables::empty(rt.alloc());
+    put(&mut tables, warehouse(1))?;
+    put(&mut tables, warehouse(2))?;
+    put(&mut tables, district(3))?;
+    put(&mut tables, item(1))?;
+    put(&mut tables, stock(1, 1, 15))?;
+    put(&mut tables, stock(2, 1, 50))?;
+    put(&mut tables, customer(1))?;
     put(&mut tables, order(scale, 1, 1))?;
     put(&mut tables, order(scale, 2, 1))?;
-    put(&mut tables, line(alloc, 1, 1, 1, 1, true)?)?;
-    put(&mut tables, line(alloc, 1, 2, 1, 1, true)?)?;
-    put(&mut tables, line(alloc, 2, 1, 1, 2, true)?)?;
-    assert_eq!(rt; low(alloc, &tables, 16)?, 1);
-    assert_eq!(rt; low(alloc, &tables, 15)?, 0);
-    Ok(())
-}
-
-/// Run with `rt try --test --fail-alloc N`: a growth that is refused is told, and the query made
-/// again is answered as ever.
-#[test]
-fn answers_after_a_refused_growth(rt: HostRuntime) -> Result<(), Fail> {
-    let alloc = rt.alloc();
-    let scale = Scale {
-        customers: 1,
-        items: 5,
-        delivered: 0,
-    };
-    let tables = opened(alloc, scale)?;
-    let query = by_number(1, 1);
-    let status = match order_status(alloc, &tables, &query) {
-        Ok(status) => status,
-        Err(refusal) => {
-            assert_eq!(rt; refusal, Refusal::NoMemory);
-            order_status(alloc, &tables, &query).map_err(|_| "refused twice")?
-        }
-    };
-    assert_eq!(rt; status.order.ok_or("order")?.lines.as_slice().len(), 5);
-    let query = StockQuery {
-        warehouse: 1,
-        district: 1,
-        threshold: 12,
-    };
-    let level = match stock_level(alloc, &tables, &query) {
-        Ok(level) => level,
-        Err(refusal) => {
-            assert_eq!(rt; refusal, Refusal::NoMemory);
-            stock_level(alloc, &tables, &query).map_err(|_| "refused twice")?
-        }
-    };
-    assert_eq!(rt; level.low_stock, 1);
+    put(&mut tables, line(1, 1, 1, 1, true))?;
+    put(&mut tables, line(1, 2, 1, 1, true))?;
+    put(&mut tables, line(2, 1, 1, 2, true))?;
+    assert_eq!(rt; low(&tables, 16)?, 1);
+    assert_eq!(rt; low(&tables, 15)?, 0);
     Ok(())
 }
 
 #[test]
 fn refuses_a_stock_level(rt: HostRuntime) -> Result<(), Fail> {
-    let alloc = rt.alloc();
-    let tables = opened(alloc, SMALL)?;
+    let tables = opened(rt.alloc(), SMALL)?;
     let refused = [
         (2u32, 11u32, 9u32, Refusal::NoWarehouse),
         (1, 11, 9, Refusal::NoDistrict),
@@ -275,7 +228,7 @@ fn refuses_a_stock_level(rt: HostRuntime) -> Result<(), Fail> {
             district,
             threshold,
         };
-        assert_eq!(rt; stock_level(alloc, &tables, &query), Err(refusal));
+        assert!(rt; stock_level(&tables, &query) == Err(refusal));
     }
     Ok(())
 }
