@@ -26,13 +26,7 @@ fn district_information(stock: &StockRow, district: u32) -> Text<24>
 }
 
 /// The ORDER-LINE row of the line with that number, in the order of that id.
-fn order_line(
-    tables: &Tables,
-    order: &Order,
-    id: u32,
-    number: u32,
-    line: &Line,
-) -> OrderLineRow
+fn order_line(tables: &Tables, order: &Order, id: u32, number: u32, line: &Line) -> OrderLineRow
     requires district { is_within 1 10 order.now.district ≡ true }
     requires id { id ≡ order_number tables.now.rows order.now }
     requires line { is_servable_line tables.now.rows line.now ≡ true }
@@ -55,12 +49,7 @@ fn order_line(
 }
 
 /// The ORDER-LINE rows of an order's lines, in the order of that id.
-pub fn order_lines(
-    tables: &Tables,
-    order: &Order,
-    id: u32,
-    lines: &[Line],
-) -> Few<OrderLineRow, 15>
+pub fn order_lines(tables: &Tables, order: &Order, id: u32, lines: &[Line]) -> Few<OrderLineRow, 15>
     requires district { is_within 1 10 order.now.district ≡ true }
     requires id { id ≡ order_number tables.now.rows order.now }
     requires servable { IsServable tables.now.rows lines.now }
@@ -74,12 +63,7 @@ pub fn order_lines(
 }
 
 /// The line with that number, as the terminal shows it.
-fn entered_line(
-    tables: &Tables,
-    order: &Order,
-    number: u32,
-    line: &Line,
-) -> EnteredLine
+fn entered_line(tables: &Tables, order: &Order, number: u32, line: &Line) -> EnteredLine
     requires servable { IsServable tables.now.rows order.now.lines }
     requires number { number ≤ length order.now.lines }
     requires line { is_servable_line tables.now.rows line.now ≡ true }

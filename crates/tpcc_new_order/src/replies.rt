@@ -14,12 +14,7 @@ use tpcc_rows::requests::Order;
 use tpcc_tables::tables::Tables;
 
 /// The reply of the three rows, the sum of the lines' amounts and the lines.
-fn accepted_of(
-    order: &Order,
-    named: &NamedRows,
-    sum: Cents,
-    lines: EnteredLines,
-) -> AcceptedOrder
+fn accepted_of(order: &Order, named: &NamedRows, sum: Cents, lines: EnteredLines) -> AcceptedOrder
     requires few { length order.now.lines ≤ 15 }
     requires low { pos 0 ≤ℤ sum }
     requires high { sum ≤ℤ pos 15000000 }

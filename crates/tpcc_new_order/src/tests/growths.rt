@@ -1,6 +1,6 @@
 //! One growth refused, whichever it is: the call that meets it tells so and changes nothing, and made again it
-//! answers as ever. Run with `rt try --test --fail-alloc N`: the first growths are those of the rows to load, whose
-//! refusal ends the test, the next ones those of the order.
+//! answers as ever. Run with `rt try --test --fail-alloc N`: the first growths are those of the tables that rows are
+//! loaded into and of the request, whose refusal ends the test, the next ones those of the order.
 use super::opening::opened;
 use super::orders::order;
 use super::stocked::is_stocked;
@@ -17,7 +17,7 @@ fn of_an_order(rt: HostRuntime) -> Result<(), Fail> {
     if !is_stocked(&tables) {
         return Err(Fail::from("an item out of stock"));
     }
-    let reply = match enter(alloc, &mut tables, &order) {
+    let reply = match enter(&mut tables, &order) {
         Ok(reply) => reply,
         Err(refusal) => {
             assert_eq!(rt; refusal, Refusal::NoMemory);
@@ -27,7 +27,7 @@ fn of_an_order(rt: HostRuntime) -> Result<(), Fail> {
             if !is_stocked(&tables) {
                 return Err(Fail::from("an item out of stock"));
             }
-            enter(alloc, &mut tables, &order)?
+            enter(&mut tables, &order)?
         }
     };
     match reply {

@@ -30,20 +30,16 @@ pub fn order(alloc: Global, lines: &[(u32, u32, u32)]) -> Result<Order, Fail> {
 }
 
 /// Enters the order; where a growth is refused it is entered once more.
-pub fn entered(
-    alloc: Global,
-    tables: &mut Tables,
-    order: &Order,
-) -> Result<Result<Entered, Refusal>, Fail> {
+pub fn entered(tables: &mut Tables, order: &Order) -> Result<Result<Entered, Refusal>, Fail> {
     if !is_stocked(tables) {
         return Err(Fail::from("an item out of stock"));
     }
-    match enter(alloc, tables, order) {
+    match enter(tables, order) {
         Err(Refusal::NoMemory) => {
             if !is_stocked(tables) {
                 return Err(Fail::from("an item out of stock"));
             }
-            Ok(enter(alloc, tables, order))
+            Ok(enter(tables, order))
         }
         outcome => Ok(outcome),
     }
@@ -54,7 +50,7 @@ pub fn accepted(
     tables: &mut Tables,
     lines: &[(u32, u32, u32)],
 ) -> Result<AcceptedOrder, Fail> {
-    match entered(alloc, tables, &order(alloc, lines)?)? {
+    match entered(tables, &order(alloc, lines)?)? {
         Ok(Entered::Accepted(reply)) => Ok(reply),
         Ok(Entered::RolledBack(_reply)) => Err(Fail::from("an order that is rolled back")),
         Err(_refusal) => Err(Fail::from("an order that is refused")),
@@ -67,7 +63,7 @@ pub fn number_rolled_back(
     tables: &mut Tables,
     lines: &[(u32, u32, u32)],
 ) -> Result<u32, Fail> {
-    match entered(alloc, tables, &order(alloc, lines)?)? {
+    match entered(tables, &order(alloc, lines)?)? {
         Ok(Entered::RolledBack(reply)) => Ok(reply.order),
         Ok(Entered::Accepted(_reply)) => Err(Fail::from("an order that is entered")),
         Err(_refusal) => Err(Fail::from("an order that is refused")),
@@ -100,7 +96,7 @@ fn of_five_items(rt: HostRuntime) -> Result<(), Fail> {
     for (line, (stock, amount, brand)) in reply.lines.as_slice().iter().zip(shown.iter()) {
         assert_eq!(rt; line.stock, *stock);
         assert_eq!(rt; line.amount, Cents::new(*amount));
-        assert_eq!(rt; line.brand, *brand);
+        assert!(rt; line.brand == *brand);
     }
     assert_eq!(rt; tables.district(1, 1).ok_or("district")?.next_order, 12);
     let row = tables.order(1, 1, 11).ok_or("order")?;
@@ -188,10 +184,10 @@ fn in_two_halves(rt: HostRuntime) -> Result<(), Fail> {
     if !is_stocked(&tables) {
         return Err(Fail::from("an item out of stock"));
     }
-    let prepared = prepare(alloc, &mut tables, &order)?;
+    let prepared = prepare(&mut tables, &order)?;
     assert_eq!(rt; tables.district(1, 1).ok_or("district")?.next_order, 11);
-    let (reply, copy) = finish(&mut tables, prepared);
-    assert!(rt; reply == copy);
+    let reply = finish(&mut tables, &prepared);
+    assert!(rt; reply == prepared.reply);
     assert_eq!(rt; tables.district(1, 1).ok_or("district")?.next_order, 12);
     Ok(())
 }
