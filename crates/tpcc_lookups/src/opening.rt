@@ -144,7 +144,10 @@ pub fn stock(warehouse: u32, item: u32, quantity: u32) -> Row {
 pub fn put(tables: &mut Tables, row: Row) -> Result<(), LoadFault> {
     match tables.load(row) {
         Ok(()) => Ok(()),
-        Err((row, LoadFault::NoMemory)) => tables.load(row).map_err(|(_, fault)| fault),
+        Err((row, LoadFault::NoMemory)) => match tables.load(row) {
+            Ok(()) => Ok(()),
+            Err((_, fault)) => Err(fault),
+        },
         Err((_, fault)) => Err(fault),
     }
 }

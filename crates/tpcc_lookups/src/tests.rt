@@ -34,7 +34,9 @@ fn low(tables: &Tables, threshold: u32) -> Result<u32, Fail> {
 #[test]
 fn shows_a_delivered_order(rt: HostRuntime) -> Result<(), Fail> {
     let tables = opened(rt.alloc(), SMALL)?;
-    let status = order_status(&tables, &by_number(1, 1)).map_err(|_| "refused")?;
+    let Ok(status) = order_status(&tables, &by_number(1, 1)) else {
+        return Err(Fail::from("refused"));
+    };
     assert_eq!(rt; status.warehouse, 1);
     assert_eq!(rt; status.district, 1);
     assert_eq!(rt; status.customer, 1);
@@ -42,7 +44,9 @@ fn shows_a_delivered_order(rt: HostRuntime) -> Result<(), Fail> {
     assert_eq!(rt; status.middle.bytes(), b"OE".as_slice());
     assert_eq!(rt; status.last.bytes(), b"BARBARBAR".as_slice());
     assert_eq!(rt; status.balance, Cents::new(-1000));
-    let order = status.order.ok_or("order")?;
+    let Some(order) = status.order else {
+        return Err(Fail::from("order"));
+    };
     assert_eq!(rt; order.order, 1);
     assert_eq!(rt; order.entry_date, Moment::new(0));
     assert_eq!(rt; order.carrier, Some(1));
@@ -63,8 +67,12 @@ fn shows_a_delivered_order(rt: HostRuntime) -> Result<(), Fail> {
 #[test]
 fn shows_an_order_that_waits(rt: HostRuntime) -> Result<(), Fail> {
     let tables = opened(rt.alloc(), SMALL)?;
-    let status = order_status(&tables, &by_number(1, 8)).map_err(|_| "refused")?;
-    let order = status.order.ok_or("order")?;
+    let Ok(status) = order_status(&tables, &by_number(1, 8)) else {
+        return Err(Fail::from("refused"));
+    };
+    let Some(order) = status.order else {
+        return Err(Fail::from("order"));
+    };
     assert_eq!(rt; order.order, 8);
     assert_eq!(rt; order.carrier, None);
     assert_eq!(rt; order.lines.as_slice().len(), 5);
@@ -87,7 +95,9 @@ fn shows_the_middle_one_of_a_name(rt: HostRuntime) -> Result<(), Fail> {
         district: 1,
         who: Who::Name(Text::of(b"BARBAROUGHT")),
     };
-    let status = order_status(&tables, &query).map_err(|_| "refused")?;
+    let Ok(status) = order_status(&tables, &query) else {
+        return Err(Fail::from("refused"));
+    };
     assert_eq!(rt; status.customer, 5);
     Ok(())
 }
@@ -111,12 +121,18 @@ fn shows_the_last_order(rt: HostRuntime) -> Result<(), Fail> {
     put(&mut tables, order(scale, 2, 1))?;
     put(&mut tables, line(3, 15, 1, 1, true))?;
     put(&mut tables, line(3, 2, 1, 1, true))?;
-    let status = order_status(&tables, &by_number(1, 1)).map_err(|_| "refused")?;
-    let last = status.order.ok_or("order")?;
+    let Ok(status) = order_status(&tables, &by_number(1, 1)) else {
+        return Err(Fail::from("refused"));
+    };
+    let Some(last) = status.order else {
+        return Err(Fail::from("order"));
+    };
     assert_eq!(rt; last.order, 3);
     assert_eq!(rt; last.lines.as_slice().len(), 2);
     assert_eq!(rt; last.lines.as_slice()[1].amount, Cents::new(1500));
-    let status = order_status(&tables, &by_number(1, 2)).map_err(|_| "refused")?;
+    let Ok(status) = order_status(&tables, &by_number(1, 2)) else {
+        return Err(Fail::from("refused"));
+    };
     assert!(rt; status.order.is_none());
     Ok(())
 }
@@ -129,18 +145,9 @@ fn refuses_a_status(rt: HostRuntime) -> Result<(), Fail> {
         district: 11,
         who: Who::Number(0),
     };
-    assert_eq!(rt;
-        order_status(&tables, &elsewhere).err(),
-        Some(Refusal::NoWarehouse)
-    );
-    assert_eq!(rt;
-        order_status(&tables, &by_number(11, 0)).err(),
-        Some(Refusal::NoDistrict)
-    );
-    assert_eq!(rt;
-        order_status(&tables, &by_number(1, 0)).err(),
-        Some(Refusal::NoCustomer)
-    );
+    assert!(rt; order_status(&tables, &elsewhere) == Err(Refusal::NoWarehouse));
+    assert!(rt; order_status(&tables, &by_number(11, 0)) == Err(Refusal::NoDistrict));
+    assert!(rt; order_status(&tables, &by_number(1, 0)) == Err(Refusal::NoCustomer));
     Ok(())
 }
 
@@ -221,7 +228,7 @@ fn refuses_a_stock_level(rt: HostRuntime) -> Result<(), Fail> {
             district,
             threshold,
         };
-        assert_eq!(rt; stock_level(&tables, &query).err(), Some(refusal));
+        assert!(rt; stock_level(&tables, &query) == Err(refusal));
     }
     Ok(())
 }

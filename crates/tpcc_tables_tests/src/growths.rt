@@ -29,7 +29,10 @@ fn of_a_payment(rt: HostRuntime) {
             assert_eq!(rt; tables.count(Table::History), 0);
             let customer = tables.customer(1, 1, 10).expect(&rt, "customer");
             assert_eq!(rt; customer.balance, Cents::new(-1000));
-            pay(&mut tables, &payment).expect(&rt, "the payment again")
+            match pay(&mut tables, &payment) {
+                Ok(reply) => reply,
+                Err(refusal) => panic!(rt; "the payment refused again: {refusal}"),
+            }
         }
     };
     assert_eq!(rt; reply.balance, Cents::new(-1100));

@@ -3,5 +3,17 @@ use Rattle.std.specs.Prelude.{length}
 use Rattle.std.proofs.lemmas.Fmt.{length-decimal-le}
 use Rattle.tpcc_lookups.proofs.opening.first_name.Goals as goal
 
-pub extend_padded-requires-clause-digits : goal.extend_padded-requires-clause-digits
-extend_padded-requires-clause-digits g c = ?
+pub extend_padded-requires : goal.extend_padded-requires
+extend_padded-requires c = (
+  search (rules, arith),
+  (
+    search (rules, arith),
+    (
+      search (rules, arith),
+      (
+        length-decimal-le 4 c.saturating_sub.result (omega arith) (omega (arith, c.saturating_sub.ensures)) (omega (arith, c.saturating_sub.ensures)),
+        omega (arith, ap length c.of-name.ensures.text),
+      ),
+    ),
+  ),
+)
