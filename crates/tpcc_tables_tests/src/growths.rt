@@ -1,27 +1,27 @@
 //! One growth refused, whichever it is: the call that meets it tells so and changes nothing, and made again it
-//! answers as ever. Run with `rt try --test --fail-alloc N`: the first growths are those of the rows to load, whose
-//! refusal ends the test, the next ones those of the payment.
-use crate::opening::{customer, district, put, text, warehouse};
+//! answers as ever. Run with `rt try --test --fail-alloc N`: the first growths are those of the tables that rows are
+//! loaded into, the next one that of the payment.
+use crate::opening::{customer, district, put, warehouse};
 use crate::payments::payment;
 use std::alloc::AllocGlobal;
 use std::process::Abort;
 use tpcc_money::Cents;
 use tpcc_payment::pay;
-use tpcc_rows::{Refusal, Table, Who};
+use tpcc_rows::{Refusal, Table, Text, Who};
 use tpcc_tables::Tables;
 
 fn small_opening(rt: &(impl Abort + AllocGlobal)) -> Tables {
     let mut tables = Tables::empty(rt.alloc());
-    put(rt, &mut tables, warehouse(rt, 1));
-    put(rt, &mut tables, district(rt, 1, 1, 0));
-    put(rt, &mut tables, customer(rt, 1, 10));
+    put(rt, &mut tables, warehouse(1));
+    put(rt, &mut tables, district(1, 1, 0));
+    put(rt, &mut tables, customer(1, 10));
     tables
 }
 
 #[test]
 fn of_a_payment(rt: HostRuntime) {
     let mut tables = small_opening(&rt);
-    let payment = payment(Who::Name(text(&rt, b"BARBARBAR")), 100);
+    let payment = payment(Who::Name(Text::of(b"BARBARBAR")), 100);
     let reply = match pay(&mut tables, &payment) {
         Ok(reply) => reply,
         Err(refusal) => {
@@ -29,10 +29,12 @@ fn of_a_payment(rt: HostRuntime) {
             assert_eq!(rt; tables.count(Table::History), 0);
             let customer = tables.customer(1, 1, 10).expect(&rt, "customer");
             assert_eq!(rt; customer.balance, Cents::new(-1000));
-            pay(&mut tables, &payment).expect(&rt, "the payment again")
+            match pay(&mut tables, &payment) {
+                Ok(reply) => reply,
+                Err(refusal) => panic!(rt; "the payment refused again: {refusal}"),
+            }
         }
     };
     assert_eq!(rt; reply.balance, Cents::new(-1100));
-    // In one step of the proof: at the end of the scope each text of the reply would be several.
     assert_eq!(rt; tables.count(Table::History), 1);
 }

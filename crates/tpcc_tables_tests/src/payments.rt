@@ -1,10 +1,10 @@
 //! Payments on the opening.
-use crate::opening::{opened, text};
+use crate::opening::opened;
 use std::alloc::AllocGlobal;
 use std::process::Abort;
 use tpcc_money::{Cents, Moment, Rate};
 use tpcc_payment::{Paid, Payment, pay};
-use tpcc_rows::{Field, Refusal, Table, Who};
+use tpcc_rows::{Field, Refusal, Table, Text, Who};
 use tpcc_tables::Tables;
 
 pub fn payment(who: Who, amount: i64) -> Payment {
@@ -20,11 +20,7 @@ pub fn payment(who: Who, amount: i64) -> Payment {
 }
 
 /// Pays; where a growth is refused, no row has changed and the payment is made again.
-fn paid(
-    rt: &(impl Abort + AllocGlobal),
-    tables: &mut Tables,
-    payment: &Payment,
-) -> Result<Paid, Refusal> {
+fn paid(rt: &impl Abort, tables: &mut Tables, payment: &Payment) -> Result<Paid, Refusal> {
     let before = tables.count(Table::History);
     match pay(tables, payment) {
         Ok(reply) => Ok(reply),
@@ -33,6 +29,22 @@ fn paid(
             pay(tables, payment)
         }
         Err(refusal) => Err(refusal),
+    }
+}
+
+/// The reply to a payment that nothing refuses.
+fn accepted(rt: &impl Abort, tables: &mut Tables, payment: &Payment) -> Paid {
+    match paid(rt, tables, payment) {
+        Ok(reply) => reply,
+        Err(refusal) => panic!(rt; "a payment refused: {refusal}"),
+    }
+}
+
+/// Why a payment is refused, if it is.
+fn refusal(rt: &impl Abort, tables: &mut Tables, payment: &Payment) -> Option<Refusal> {
+    match paid(rt, tables, payment) {
+        Ok(_) => None,
+        Err(refusal) => Some(refusal),
     }
 }
 
@@ -70,7 +82,7 @@ fn counts_payments(rt: &impl Abort, tables: &Tables) {
 #[test]
 fn by_number(rt: HostRuntime) {
     let mut tables = opened(&rt, 10_000);
-    let reply = paid(&rt, &mut tables, &payment(Who::Number(1), 100)).expect(&rt, "a payment");
+    let reply = accepted(&rt, &mut tables, &payment(Who::Number(1), 100));
     shows_customer(&rt, &reply, 1, b"FIRST9998", Rate::new(100));
     assert_eq!(rt; warehouse_total(&rt, &tables), Cents::new(100_100));
     assert_eq!(rt; district_total(&rt, &tables), Cents::new(10_100));
@@ -80,9 +92,8 @@ fn by_number(rt: HostRuntime) {
 }
 
 /// Pays; C_BALANCE as the reply shows it.
-fn shown_balance(rt: &(impl Abort + AllocGlobal), tables: &mut Tables, payment: &Payment) -> Cents {
-    let reply = paid(rt, tables, payment).expect(rt, "a payment");
-    reply.balance
+fn shown_balance(rt: &impl Abort, tables: &mut Tables, payment: &Payment) -> Cents {
+    accepted(rt, tables, payment).balance
 }
 
 #[test]
@@ -95,10 +106,7 @@ fn of_the_least_and_the_greatest_amount(rt: HostRuntime) {
     );
     for amount in [500_001i64, 99] {
         let request = payment(Who::Number(1), amount);
-        assert_eq!(rt;
-            paid(&rt, &mut tables, &request).err(),
-            Some(Refusal::Amount)
-        );
+        assert_eq!(rt; refusal(&rt, &mut tables, &request), Some(Refusal::Amount));
     }
     assert_eq!(rt; warehouse_total(&rt, &tables), Cents::new(600_000));
     assert_eq!(rt; district_total(&rt, &tables), Cents::new(510_000));
@@ -109,13 +117,13 @@ fn of_the_least_and_the_greatest_amount(rt: HostRuntime) {
 #[test]
 fn by_last_name(rt: HostRuntime) {
     let mut tables = opened(&rt, 10_000);
-    let name = Who::Name(text(&rt, b"BARBARBAR"));
-    let reply = paid(&rt, &mut tables, &payment(name, 100)).expect(&rt, "a payment");
+    let name = Who::Name(Text::of(b"BARBARBAR"));
+    let reply = accepted(&rt, &mut tables, &payment(name, 100));
     shows_customer(&rt, &reply, 7, b"FIRST9992", Rate::new(700));
-    let nobody = Who::Name(text(&rt, b"EINGEINGEING"));
+    let nobody = Who::Name(Text::of(b"EINGEINGEING"));
     let request = payment(nobody, 100);
     assert_eq!(rt;
-        paid(&rt, &mut tables, &request).err(),
+        refusal(&rt, &mut tables, &request),
         Some(Refusal::NoCustomer)
     );
 }
@@ -151,9 +159,9 @@ fn of_bad_credit(rt: HostRuntime) {
     let mut tables = opened(&rt, 10_000);
     let request = payment(Who::Number(10), 100);
     for _ in 1..13 {
-        assert_eq!(rt; paid(&rt, &mut tables, &request).err(), None);
+        assert_eq!(rt; refusal(&rt, &mut tables, &request), None);
     }
-    let last = paid(&rt, &mut tables, &request).expect(&rt, "a payment");
+    let last = accepted(&rt, &mut tables, &request);
     assert_eq!(rt; last.balance, Cents::new(-2300));
     let notes = noted(&rt, 13, 292);
     shows_notes(&rt, &last, notes.as_slice());
@@ -164,8 +172,10 @@ fn of_bad_credit(rt: HostRuntime) {
 fn past_the_total_of_a_district(rt: HostRuntime) {
     let mut tables = opened(&rt, 999_999_999_999);
     let request = payment(Who::Number(1), 100);
-    let refusal = paid(&rt, &mut tables, &request).err();
-    assert_eq!(rt; refusal, Some(Refusal::Total(Field::DistrictYtd)));
+    assert_eq!(rt;
+        refusal(&rt, &mut tables, &request),
+        Some(Refusal::Total(Field::DistrictYtd))
+    );
     assert_eq!(rt; tables.count(Table::History), 10);
     assert_eq!(rt; warehouse_total(&rt, &tables), Cents::new(100_000));
     assert_eq!(rt; balance(&rt, &tables), Cents::new(-1000));
@@ -181,7 +191,7 @@ fn of_rows_that_do_not_exist(rt: HostRuntime) {
         (1, 1, 1, 2, 11, Refusal::NoDistrict),
         (1, 1, 1, 1, 11, Refusal::NoCustomer),
     ];
-    for (warehouse, district, customer_warehouse, customer_district, customer, refusal) in cases {
+    for (warehouse, district, customer_warehouse, customer_district, customer, expected) in cases {
         let request = Payment {
             warehouse,
             district,
@@ -191,7 +201,7 @@ fn of_rows_that_do_not_exist(rt: HostRuntime) {
             amount: Cents::new(100),
             moment: Moment::new(0),
         };
-        assert_eq!(rt; paid(&rt, &mut tables, &request).err(), Some(refusal));
+        assert_eq!(rt; refusal(&rt, &mut tables, &request), Some(expected));
     }
     assert_eq!(rt; tables.count(Table::History), 10);
 }
