@@ -1,5 +1,4 @@
-use Rattle.std.proofs.Common.{rules, arith, ap}
-use Rattle.std.specs.Prelude.{length}
+use Rattle.std.proofs.Common.{rules, arith}
 use Rattle.std.proofs.lemmas.Fmt.{length-decimal-le}
 use Rattle.tpcc_tests.proofs.texts.a_text_grows_to_its_bound.Goals as goal
 
