@@ -22,9 +22,7 @@ pub(crate) fn tally_of(tallies: &[Tally], terminal: u32) -> u64
 fn place_of(tallies: &[Tally], terminal: u32) -> Option<usize>
     ensures { result ≡ position (is_of terminal) tallies.now }
 {
-    tallies
-        .iter()
-        .position(|tally| tally.terminal == terminal)
+    tallies.iter().position(|tally| tally.terminal == terminal)
 }
 
 /// One more entry of a terminal; takes no memory.
