@@ -7,12 +7,14 @@ mod closed;
 mod gates;
 mod limits;
 mod one_terminal;
+mod rounds;
 
 use crate::{JobIdle, JobMailboxes, Turner, Turning};
 use closed::asked_in_vain;
 use gates::{held_up, withheld};
 use limits::two_letters;
 use one_terminal::{TwoCalls, payment_and_status};
+use rounds::{closed_meanwhile, first_and_last, not_collected, own_call};
 use std::alloc::Global;
 use std::marker::Brand;
 use std::process::Abort;
@@ -34,6 +36,10 @@ enum Story {
     TwoLetters,
     HeldUp,
     Withheld,
+    OwnCall,
+    FirstAndLast,
+    ClosedMeanwhile,
+    NotCollected,
 }
 
 fn told<R: Threads + Wait + Clock + Abort + Sync>(rt: &R, alloc: Global, story: Story) {
@@ -74,6 +80,10 @@ fn at_its_turns<
         Story::TwoLetters => two_letters(rt, alloc, turns, purses),
         Story::HeldUp => held_up(rt, alloc, turns, purses),
         Story::Withheld => withheld(rt, alloc, turns, purses),
+        Story::OwnCall => own_call(rt, alloc, turns, purses),
+        Story::FirstAndLast => first_and_last(rt, alloc, turns, purses),
+        Story::ClosedMeanwhile => closed_meanwhile(rt, alloc, turns, purses),
+        Story::NotCollected => not_collected(rt, alloc, turns, purses),
     }
 }
 

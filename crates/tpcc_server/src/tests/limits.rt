@@ -149,11 +149,11 @@ fn one_round<N: Naming, T: Seating, R: Wait + Abort>(
 }
 
 /// The answer's purse, and the right to post again.
-pub(super) fn collected<N: Naming, T: Seating, R: Abort>(
+pub(super) fn collected<N: Naming, T: Seating, C, R: Abort>(
     rt: &R,
-    mailboxes: &JobMailboxes<N, T, PlainTurn>,
-    waiting: JobWaiting<N, T, PlainTurn>,
-) -> (JobIdle<N, T, PlainTurn>, SeatedPurse<N, T>)
+    mailboxes: &JobMailboxes<N, T, C>,
+    waiting: JobWaiting<N, T, C>,
+) -> (JobIdle<N, T, C>, SeatedPurse<N, T>)
     requires { waiting_origin waiting ≡ identity mailboxes.now }
     ensures { idle_origin result.0 ≡ identity mailboxes.now }
 {
