@@ -1,6 +1,7 @@
 //! What a server does with its mailboxes.
-ghost use Rattle.std.specs.Prelude.{◌≡◌, ◌+◌, ◌<◌, ◌≤◌, true, None};
-ghost use Rattle.tpcc_mailbox.specs.Tokens.{identity, mailbox_count, serving_origin, serving_hand, serving_splits, serving_saw_closed};
+ghost use Rattle.std.specs.Prelude.{◌≡◌, ℕ, ◌+◌, ◌<◌, ◌≤◌, List, ◌++◌, length, true, None};
+ghost use Rattle.tpcc_mailbox.specs.Tokens.{identity, mailbox_count, serving_origin, serving_hand, serving_splits, serving_answered, serving_saw_closed};
+ghost use Rattle.tpcc_server.specs.Rounds.{IsRising, HasAnsweredInTurn};
 
 use crate::errand::Errand;
 use crate::gate::Gate;
@@ -26,8 +27,12 @@ pub fn serve_round<N: Naming, T: Seating, C: Turning, G: Gate, R: Wait>(
     ensures free { serving_hand serving.new ≡ None }
     ensures closed { serving_saw_closed serving.new ≡ serving_saw_closed serving.old }
     ensures splits { serving_splits serving.new ≡ serving_splits serving.old }
-    // At most one job a mailbox.
     ensures served { result ≤ mailbox_count mailboxes.now }
+    // The number is that of the jobs answered, at most one a mailbox.
+    ensures answered { (ks : List ℕ)
+        × (serving_answered serving.new ≡ serving_answered serving.old ++ ks)
+        × (length ks ≡ result)
+        × IsRising 0 ks (mailbox_count mailboxes.now) }
 {
     serve_some(rt, mailboxes, serving, turns, gate, u64::MAX)
 }
@@ -49,6 +54,7 @@ fn serve_some<N: Naming, T: Seating, C: Turning, G: Gate, R: Wait>(
     ensures splits { serving_splits serving.new ≡ serving_splits serving.old }
     ensures served { result ≤ mailbox_count mailboxes.now }
     ensures most { result ≤ most }
+    ensures answered { HasAnsweredInTurn (serving_answered serving.old) (serving_answered serving.new) result (mailbox_count mailboxes.now) }
 {
     let mut served = 0u64;
     for k in 0..mailboxes.len() {
@@ -82,6 +88,10 @@ pub fn serve_until_closed<N: Naming, T: Seating, C: Turning, G: Gate, R: Wait>(
     ensures free { serving_hand result.0 ≡ None }
     ensures splits { serving_splits result.0 ≡ serving_splits serving }
     ensures limit { result.2 ≤ limit }
+    // The number is that of the jobs answered.
+    ensures answered { (ks : List ℕ)
+        × (serving_answered result.0 ≡ serving_answered serving ++ ks)
+        × (length ks ≡ result.2) }
     // Fewer only where it saw the mailboxes closed.
     ensures fewer { result.2 < limit → serving_saw_closed result.0 ≡ true }
 {

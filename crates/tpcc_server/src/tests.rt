@@ -1,23 +1,24 @@
 //! Jobs on worked rows, with ample memory: the plain opening of one warehouse, ten customers a district
 //! and a hundred items, in which each customer starts with the balance -10.00.
-ghost use Rattle.std.specs.Prelude.{◌≡◌, All, IfOk};
+ghost use Rattle.std.specs.Prelude.{◌≡◌, All};
 ghost use Rattle.tpcc_mailbox.specs.Tokens.{identity, idle_origin};
 
 mod closed;
 mod gates;
 mod limits;
 mod one_terminal;
+mod rounds;
 
 use crate::{JobIdle, JobMailboxes, Turner, Turning};
 use closed::asked_in_vain;
-use gates::held_up;
+use gates::{held_up, withheld};
 use limits::two_letters;
 use one_terminal::{TwoCalls, payment_and_status};
+use rounds::{closed_meanwhile, first_and_last, not_collected, own_call};
 use std::alloc::Global;
 use std::marker::Brand;
 use std::process::Abort;
 use std::sync::Wait;
-use std::test::Fail;
 use std::thread::Threads;
 use std::time::Clock;
 use tpcc_book::{
@@ -33,14 +34,15 @@ enum Story {
     PaymentAndStatus(TwoCalls<Turner>),
     AskedInVain(Turner),
     TwoLetters,
-    HeldUp { withheld: bool },
+    HeldUp,
+    Withheld,
+    OwnCall,
+    FirstAndLast,
+    ClosedMeanwhile,
+    NotCollected,
 }
 
-fn told<R: Threads + Wait + Clock + Abort + Sync>(
-    rt: &R,
-    alloc: Global,
-    story: Story,
-) -> Result<(), Fail> {
+fn told<R: Threads + Wait + Clock + Abort + Sync>(rt: &R, alloc: Global, story: Story) {
     at_a_book::<Brand, R>(rt, alloc, Blanks::new(), story)
 }
 
@@ -49,12 +51,15 @@ fn at_a_book<N: Naming + Send + Sync, R: Threads + Wait + Clock + Abort + Sync>(
     alloc: Global,
     blanks: Blanks,
     story: Story,
-) -> Result<(), Fail>
+)
     requires entries { blanks.entries.name ≡ N.entries }
     requires cents { blanks.cents.name ≡ N.cents }
 {
-    let scale = Scale::new(1, 10, 100)?;
-    let turns = UnnamedTurns::<N>::start(alloc, &Opening::Plain { scale }, blanks)?;
+    let scale = Scale::new(1, 10, 100).expect(rt, "a scale");
+    let opening = Opening::Plain { scale };
+    let Ok(turns) = UnnamedTurns::<N>::start(alloc, &opening, blanks) else {
+        panic!(rt; "memory for the opening")
+    };
     at_its_turns::<N, Brand, R>(rt, alloc, turns, story)
 }
 
@@ -62,7 +67,7 @@ fn at_its_turns<
     N: Naming + Send + Sync,
     T: Seating + Send + Sync,
     R: Threads + Wait + Clock + Abort + Sync,
->(rt: &R, alloc: Global, turns: UnnamedTurns<N>, story: Story) -> Result<(), Fail>
+>(rt: &R, alloc: Global, turns: UnnamedTurns<N>, story: Story)
     requires name { turns.table ≡ T.table }
 {
     let (turns, mut first) = turns.named::<T>();
@@ -73,7 +78,12 @@ fn at_its_turns<
         Story::PaymentAndStatus(calls) => payment_and_status(rt, alloc, turns, purses, calls),
         Story::AskedInVain(turner) => asked_in_vain(rt, alloc, turns, purses, turner),
         Story::TwoLetters => two_letters(rt, alloc, turns, purses),
-        Story::HeldUp { withheld } => held_up(rt, alloc, turns, purses, withheld),
+        Story::HeldUp => held_up(rt, alloc, turns, purses),
+        Story::Withheld => withheld(rt, alloc, turns, purses),
+        Story::OwnCall => own_call(rt, alloc, turns, purses),
+        Story::FirstAndLast => first_and_last(rt, alloc, turns, purses),
+        Story::ClosedMeanwhile => closed_meanwhile(rt, alloc, turns, purses),
+        Story::NotCollected => not_collected(rt, alloc, turns, purses),
     }
 }
 
@@ -138,57 +148,75 @@ fn parts<P>(answer: Answer<P>) -> (Option<u64>, P) {
     (place, purse)
 }
 
-type Pair<N, T, C> = (JobIdle<N, T, C>, JobIdle<N, T, C>);
+/// Lets a value go.
+fn let_go<X: Drop>(_value: X) {}
 
-/// The tokens of both clients.
-fn idle_pair<N: Naming, T: Seating, C>(
-    idles: &mut Vec<JobIdle<N, T, C>>,
+/// The token of the only client.
+fn only<N: Naming, T: Seating, C, R: Abort>(
+    rt: &R,
+    idles: Vec<JobIdle<N, T, C>>,
     mailboxes: &JobMailboxes<N, T, C>,
-) -> Result<Pair<N, T, C>, Fail>
-    requires { All (λ x. idle_origin x ≡ identity mailboxes.now) idles.old.items }
-    ensures { IfOk result (λ r. (idle_origin r.0 ≡ identity mailboxes.now)
-        × (idle_origin r.1 ≡ identity mailboxes.now)) }
+) -> JobIdle<N, T, C>
+    requires { All (λ x. idle_origin x ≡ identity mailboxes.now) idles.items }
+    ensures { idle_origin result ≡ identity mailboxes.now }
 {
     let _ = mailboxes;
-    let Some(second) = idles.pop() else {
-        return Err(Fail::new("there are two"));
-    };
-    let Some(first) = idles.pop() else {
-        return Err(Fail::new("there are two"));
-    };
-    Ok((first, second))
+    let mut idles = idles;
+    let idle = idles.pop().expect(rt, "there is one");
+    let_go(idles);
+    idle
 }
 
-/// Ends the turns without the second terminal's purse, and gives the number of entries of the book that is left.
-fn unsettled<N: Naming, T: Seating>(
-    alloc: Global,
-    turns: Turns<N, T>,
-    first: SeatedPurse<N, T>,
-    one: SeatedPurse<N, T>,
-) -> Result<usize, Fail> {
-    let mut some = Vec::with_capacity(alloc, 2)?;
-    some.push_reserved(first);
-    some.push_reserved(one);
-    match turns.gather(some) {
-        Err(Some(book)) => Ok(book.journal().len()),
-        Err(None) => Err(Fail::new("a turn was not ended")),
-        Ok(_) => Err(Fail::new("no purse is missing")),
-    }
+type Pair<N, T, C> = (JobIdle<N, T, C>, JobIdle<N, T, C>);
+
+/// The tokens of the last two clients, in their order.
+fn idle_pair<N: Naming, T: Seating, C, R: Abort>(
+    rt: &R,
+    idles: Vec<JobIdle<N, T, C>>,
+    mailboxes: &JobMailboxes<N, T, C>,
+) -> Pair<N, T, C>
+    requires { All (λ x. idle_origin x ≡ identity mailboxes.now) idles.items }
+    ensures first { idle_origin result.0 ≡ identity mailboxes.now }
+    ensures second { idle_origin result.1 ≡ identity mailboxes.now }
+{
+    let _ = mailboxes;
+    let mut idles = idles;
+    let second = idles.pop().expect(rt, "there are two");
+    let first = idles.pop().expect(rt, "there are two");
+    let_go(idles);
+    (first, second)
+}
+
+/// What a purse shows.
+fn shows<N: Naming, T: Seating, R: Abort>(
+    rt: &R,
+    purse: &SeatedPurse<N, T>,
+    terminal: u32,
+    entries: u64,
+    paid: i64,
+) {
+    assert_eq!(rt; purse.terminal(), terminal);
+    assert_eq!(rt; purse.entries(), entries);
+    assert_eq!(rt; purse.paid(), Cents::new(paid));
 }
 
 /// Closes the turns and puts the three purses together: the entries and the payments of the whole book.
-fn settled<N: Naming, T: Seating>(
+fn settles<N: Naming, T: Seating, R: Abort>(
+    rt: &R,
     alloc: Global,
     turns: Turns<N, T>,
     purses: Purses<N, T>,
-) -> Result<(u64, Cents), Fail> {
+    entries: u64,
+    paid: i64,
+) {
     let Purses { first, one, two } = purses;
-    let mut all = Vec::with_capacity(alloc, 3)?;
+    let mut all = Vec::with_capacity(alloc, 3).expect(rt, "memory for three");
     all.push_reserved(first);
     all.push_reserved(one);
     all.push_reserved(two);
-    match turns.gather(all) {
-        Ok((_book, entries, paid)) => Ok((entries, paid)),
-        Err(_) => Err(Fail::new("a purse is missing")),
-    }
+    let Ok((book, all_entries, all_paid)) = turns.gather(all) else {
+        panic!(rt; "a purse is missing")
+    };
+    let_go(book);
+    assert_eq!(rt; (all_entries, all_paid), (entries, Cents::new(paid)));
 }

@@ -3,17 +3,15 @@ ghost use Rattle.std.specs.Prelude.{◌≡◌, None};
 ghost use Rattle.std.specs.Thread.{IsSync};
 ghost use Rattle.tpcc_mailbox.specs.Tokens.{identity, idle_origin, serving_origin, serving_hand};
 
-use super::{PlainTurn, Purses, Story, idle_pair, parts, payment, settled, told, unsettled};
+use super::{PlainTurn, Purses, Story, idle_pair, let_go, parts, payment, settles, shows, told};
 use crate::{Gate, Job, JobIdle, JobMailboxes, JobServing, ask, serve_until_closed};
 use std::alloc::Global;
 use std::process::Abort;
 use std::sync::Wait;
 use std::sync::atomic::{AtomicU64, Ordering};
-use std::test::Fail;
 use std::thread::{self, Threads, join};
 use std::time::{Clock, Duration};
 use tpcc_book::{Naming, SeatedPurse, Seating, Turns};
-use tpcc_money::Cents;
 
 /// Holds the first job that is taken until another has been answered, or the limit is met.
 #[derive(Drop)]
@@ -44,13 +42,13 @@ impl<'a, R: Clock> Gate for HeldGate<'a, R> {
 }
 
 #[test]
-fn a_held_server_is_stood_in_for(rt: HostRuntime) -> Result<(), Fail> {
-    told(&rt, rt.alloc(), Story::HeldUp { withheld: false })
+fn a_held_server_is_stood_in_for(rt: HostRuntime) {
+    told(&rt, rt.alloc(), Story::HeldUp)
 }
 
 #[test]
-fn a_purse_is_withheld(rt: HostRuntime) -> Result<(), Fail> {
-    told(&rt, rt.alloc(), Story::HeldUp { withheld: true })
+fn a_purse_is_withheld(rt: HostRuntime) {
+    told(&rt, rt.alloc(), Story::Withheld)
 }
 
 /// Two terminals pay, and the server that takes the first job is held until the other has answered.
@@ -58,42 +56,40 @@ pub(super) fn held_up<
     N: Naming + Send + Sync,
     T: Seating + Send + Sync,
     R: Threads + Wait + Clock + Abort + Sync,
->(
+>(rt: &R, alloc: Global, turns: Turns<N, T>, purses: Purses<N, T>) {
+    let Purses { first, one, two } = purses;
+    let (one, two) = paid_behind_a_gate(rt, alloc, &turns, one, two);
+    settles(rt, alloc, turns, Purses { first, one, two }, 2, 200)
+}
+
+/// The same, and the second terminal's purse isn't handed in.
+pub(super) fn withheld<
+    N: Naming + Send + Sync,
+    T: Seating + Send + Sync,
+    R: Threads + Wait + Clock + Abort + Sync,
+>(rt: &R, alloc: Global, turns: Turns<N, T>, purses: Purses<N, T>) {
+    let Purses { first, one, two } = purses;
+    let (one, two) = paid_behind_a_gate(rt, alloc, &turns, one, two);
+    let_go(two);
+    unsettled(rt, alloc, turns, first, one)
+}
+
+/// Ends the turns without the second terminal's purse: the book that is left has both entries.
+fn unsettled<N: Naming, T: Seating, R: Abort>(
     rt: &R,
     alloc: Global,
     turns: Turns<N, T>,
-    purses: Purses<N, T>,
-    withheld: bool,
-) -> Result<(), Fail> {
-    let Purses { first, one, two } = purses;
-    let (paid, served) = two_and_two(rt, alloc, &turns, one, two)?;
-    assert_eq!(rt;
-        served,
-        Served {
-            limit_met: false,
-            by_one: 1,
-            by_two: 1
-        }
-    );
-    let (one, two) = paid;
-    let Some(one) = one else {
-        return Err(Fail::new("the first job was not answered"));
+    first: SeatedPurse<N, T>,
+    one: SeatedPurse<N, T>,
+) {
+    let mut some = Vec::with_capacity(alloc, 2).expect(rt, "memory for two");
+    some.push_reserved(first);
+    some.push_reserved(one);
+    let Err(Some(book)) = turns.gather(some) else {
+        panic!(rt; "no purse is missing, or a turn was not ended")
     };
-    let Some(two) = two else {
-        return Err(Fail::new("the second job was not answered"));
-    };
-    assert_eq!(rt;
-        (one.paid(), two.paid()),
-        (Cents::new(100), Cents::new(100))
-    );
-    if withheld {
-        let entries = unsettled(alloc, turns, first, one)?;
-        assert_eq!(rt; entries, 2);
-        return Ok(());
-    }
-    let totals = settled(alloc, turns, Purses { first, one, two })?;
-    assert_eq!(rt; totals, (2, Cents::new(200)));
-    Ok(())
+    assert_eq!(rt; book.journal().len(), 2);
+    let_go(book)
 }
 
 /// What the two servers give back.
@@ -104,7 +100,31 @@ struct Served {
     by_two: u64,
 }
 
-type Paid<N, T> = (Option<SeatedPurse<N, T>>, Option<SeatedPurse<N, T>>);
+type Paid<N, T> = (SeatedPurse<N, T>, SeatedPurse<N, T>);
+
+/// Each terminal pays once, and each server answers one job, since the gate's limit isn't met.
+fn paid_behind_a_gate<
+    N: Naming + Send + Sync,
+    T: Seating + Send + Sync,
+    R: Threads + Wait + Clock + Abort + Sync,
+>(
+    rt: &R,
+    alloc: Global,
+    turns: &Turns<N, T>,
+    one: SeatedPurse<N, T>,
+    two: SeatedPurse<N, T>,
+) -> Paid<N, T> {
+    let (paid, served) = two_and_two(rt, alloc, turns, one, two);
+    let each_one = Served {
+        limit_met: false,
+        by_one: 1,
+        by_two: 1,
+    };
+    assert_eq!(rt; served, each_one);
+    shows(rt, &paid.0, 1, 1, 100);
+    shows(rt, &paid.1, 2, 1, 100);
+    paid
+}
 
 /// The two clients' threads: each pays once; then the mailboxes are closed.
 #[derive(Drop)]
@@ -117,17 +137,22 @@ struct Clients<N: Naming, T: Seating> {
 }
 
 /// Makes two mailboxes, two clients and two servers, and runs the four of them.
-fn two_and_two<N: Naming + Send + Sync, T: Seating + Send + Sync, R: Threads + Wait + Clock + Sync>(
+fn two_and_two<
+    N: Naming + Send + Sync,
+    T: Seating + Send + Sync,
+    R: Threads + Wait + Clock + Abort + Sync,
+>(
     rt: &R,
     alloc: Global,
     turns: &Turns<N, T>,
     one: SeatedPurse<N, T>,
     two: SeatedPurse<N, T>,
-) -> Result<(Paid<N, T>, Served), Fail> {
-    let (mailboxes, mut idles, mut serving) = JobMailboxes::<N, T, PlainTurn>::new(alloc, 2)?;
+) -> (Paid<N, T>, Served) {
+    let made = JobMailboxes::<N, T, PlainTurn>::new(alloc, 2);
+    let (mailboxes, idles, mut serving) = made.expect(rt, "memory for two mailboxes");
     let other = serving.split(&mailboxes);
     let closer = serving.split(&mailboxes);
-    let (idle_one, idle_two) = idle_pair(&mut idles, &mailboxes)?;
+    let (idle_one, idle_two) = idle_pair(rt, idles, &mailboxes);
     let clients = Clients {
         idle_one,
         idle_two,
@@ -135,10 +160,16 @@ fn two_and_two<N: Naming + Send + Sync, T: Seating + Send + Sync, R: Threads + W
         two,
         closer,
     };
-    Ok(all_four(rt, &mailboxes, turns, clients, serving, other))
+    let done = all_four(rt, &mailboxes, turns, clients, serving, other);
+    let_go(mailboxes);
+    done
 }
 
-fn all_four<N: Naming + Send + Sync, T: Seating + Send + Sync, R: Threads + Wait + Clock + Sync>(
+fn all_four<
+    N: Naming + Send + Sync,
+    T: Seating + Send + Sync,
+    R: Threads + Wait + Clock + Abort + Sync,
+>(
     rt: &R,
     mailboxes: &JobMailboxes<N, T, PlainTurn>,
     turns: &Turns<N, T>,
@@ -172,7 +203,7 @@ fn all_four<N: Naming + Send + Sync, T: Seating + Send + Sync, R: Threads + Wait
     )
 }
 
-fn both_pay<N: Naming + Send + Sync, T: Seating + Send + Sync, R: Threads + Wait + Sync>(
+fn both_pay<N: Naming + Send + Sync, T: Seating + Send + Sync, R: Threads + Wait + Abort + Sync>(
     rt: &R,
     mailboxes: &JobMailboxes<N, T, PlainTurn>,
     clients: Clients<N, T>,
@@ -190,34 +221,40 @@ fn both_pay<N: Naming + Send + Sync, T: Seating + Send + Sync, R: Threads + Wait
     } = clients;
     let purses = join(
         rt,
-        || -> Option<SeatedPurse<N, T>>
+        || -> SeatedPurse<N, T>
             requires { IsSync R.row × (idle_origin idle_one ≡ identity mailboxes.now) }
         { pay(rt, mailboxes, idle_one, one) },
-        || -> Option<SeatedPurse<N, T>>
+        || -> SeatedPurse<N, T>
             requires { IsSync R.row × (idle_origin idle_two ≡ identity mailboxes.now) }
         { pay(rt, mailboxes, idle_two, two) },
     );
     let mut closer = closer;
     mailboxes.close(&mut closer);
+    let_go(closer);
     purses
 }
 
 /// Asks one payment, and gives the purse that comes back.
-fn pay<N: Naming, T: Seating, R: Wait>(
+fn pay<N: Naming, T: Seating, R: Wait + Abort>(
     rt: &R,
     mailboxes: &JobMailboxes<N, T, PlainTurn>,
     idle: JobIdle<N, T, PlainTurn>,
     purse: SeatedPurse<N, T>,
-) -> Option<SeatedPurse<N, T>>
+) -> SeatedPurse<N, T>
     requires { idle_origin idle ≡ identity mailboxes.now }
 {
-    match ask(rt, mailboxes, idle, Job::of(payment(), purse, PlainTurn)) {
-        Ok((_, answer)) => Some(parts(answer).1),
-        Err(_) => None,
-    }
+    let Ok((idle, answer)) = ask(rt, mailboxes, idle, Job::of(payment(), purse, PlainTurn)) else {
+        panic!(rt; "the job was not answered")
+    };
+    let_go(idle);
+    parts(answer).1
 }
 
-fn both_serve<N: Naming + Send + Sync, T: Seating + Send + Sync, R: Threads + Wait + Clock + Sync>(
+fn both_serve<
+    N: Naming + Send + Sync,
+    T: Seating + Send + Sync,
+    R: Threads + Wait + Clock + Abort + Sync,
+>(
     rt: &R,
     mailboxes: &JobMailboxes<N, T, PlainTurn>,
     turns: &Turns<N, T>,
@@ -270,6 +307,7 @@ fn serve_all<N: Naming, T: Seating, R: Wait + Clock>(
         passed,
         limit_met: false,
     };
-    let (_, gate, served) = serve_until_closed(rt, mailboxes, serving, turns, gate, u64::MAX);
+    let (serving, gate, served) = serve_until_closed(rt, mailboxes, serving, turns, gate, u64::MAX);
+    let_go(serving);
     (gate.limit_met, served)
 }

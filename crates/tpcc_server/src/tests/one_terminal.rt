@@ -4,15 +4,14 @@ ghost use Rattle.std.specs.Thread.{IsSync};
 ghost use Rattle.tpcc_book.specs.Turn.{IsTurn};
 ghost use Rattle.tpcc_mailbox.specs.Tokens.{identity, idle_origin, serving_origin, serving_hand};
 
-use super::{Purses, Story, balance, parts, payment, settled, status, told};
+use super::{Purses, Story, balance, let_go, only, parts, payment, settles, shows, status, told};
 use crate::{
-    Call, Job, JobIdle, JobMailboxes, JobServing, OpenGate, Turner, Turning, ask,
+    Call, Job, JobAnswer, JobIdle, JobMailboxes, JobServing, OpenGate, Turner, Turning, ask,
     serve_until_closed,
 };
 use std::alloc::{AllocError, Global};
 use std::process::Abort;
 use std::sync::Wait;
-use std::test::Fail;
 use std::thread::{Threads, join};
 use std::time::Clock;
 use tpcc_book::{Naming, Register, SeatedPurse, Seating, Turned, Turns};
@@ -20,7 +19,7 @@ use tpcc_money::Cents;
 use tpcc_rows::Request;
 
 #[test]
-fn a_payment_and_a_status(rt: HostRuntime) -> Result<(), Fail> {
+fn a_payment_and_a_status(rt: HostRuntime) {
     let make = |alloc: Global| -> Result<Turner, AllocError> {
         let call: Call = Box::new(
             alloc,
@@ -30,13 +29,10 @@ fn a_payment_and_a_status(rt: HostRuntime) -> Result<(), Fail> {
         )?;
         Ok(Turner::new(call))
     };
-    let first = make(rt.alloc())?;
-    let second = make(rt.alloc())?;
-    told(
-        &rt,
-        rt.alloc(),
-        Story::PaymentAndStatus(TwoCalls { first, second }),
-    )
+    let first = make(rt.alloc()).expect(&rt, "memory for a box");
+    let second = make(rt.alloc()).expect(&rt, "memory for a box");
+    let calls = TwoCalls { first, second };
+    told(&rt, rt.alloc(), Story::PaymentAndStatus(calls))
 }
 
 /// The calls of a payment and of a status.
@@ -51,36 +47,20 @@ pub(super) fn payment_and_status<
     N: Naming + Send + Sync,
     T: Seating + Send + Sync,
     R: Threads + Wait + Clock + Abort + Sync,
->(
-    rt: &R,
-    alloc: Global,
-    turns: Turns<N, T>,
-    purses: Purses<N, T>,
-    calls: TwoCalls<Turner>,
-) -> Result<(), Fail> {
+>(rt: &R, alloc: Global, turns: Turns<N, T>, purses: Purses<N, T>, calls: TwoCalls<Turner>) {
     let Purses { first, one, two } = purses;
     let jobs = Jobs { purse: one, calls };
-    let (asked, served) = on_two_threads(rt, alloc, &turns, jobs)?;
-    let Some(asked) = asked else {
-        return Err(Fail::new("a job was not answered"));
-    };
+    let (asked, served) = on_two_threads(rt, alloc, &turns, jobs);
     assert_eq!(rt; served, 2);
-    assert_eq!(rt; asked.places, (Some(0), Some(1)));
-    assert_eq!(rt; asked.balance, Some(Cents::new(-1100)));
-    assert_eq!(rt; asked.purse.terminal(), 1);
-    assert_eq!(rt; asked.purse.entries(), 2);
-    assert_eq!(rt; asked.purse.paid(), Cents::new(100));
-    let totals = settled(
-        alloc,
-        turns,
-        Purses {
-            first,
-            one: asked.purse,
-            two,
-        },
-    )?;
-    assert_eq!(rt; totals, (2, Cents::new(100)));
-    Ok(())
+    let Asked {
+        places,
+        balance,
+        purse: one,
+    } = asked;
+    assert_eq!(rt; places, (Some(0), Some(1)));
+    assert_eq!(rt; balance, Some(Cents::new(-1100)));
+    shows(rt, &one, 1, 2, 100);
+    settles(rt, alloc, turns, Purses { first, one, two }, 2, 100)
 }
 
 /// What the terminal's thread starts with.
@@ -103,26 +83,22 @@ fn on_two_threads<
     N: Naming + Send + Sync,
     T: Seating + Send + Sync,
     C: Turning + Send,
-    R: Threads + Wait + Sync,
->(
-    rt: &R,
-    alloc: Global,
-    turns: &Turns<N, T>,
-    jobs: Jobs<N, T, C>,
-) -> Result<(Option<Asked<N, T>>, u64), Fail> {
-    let (mailboxes, mut idles, mut serving) = JobMailboxes::<N, T, C>::new(alloc, 1)?;
-    let Some(idle) = idles.pop() else {
-        return Err(Fail::new("there is one"));
-    };
+    R: Threads + Wait + Abort + Sync,
+>(rt: &R, alloc: Global, turns: &Turns<N, T>, jobs: Jobs<N, T, C>) -> (Asked<N, T>, u64) {
+    let made = JobMailboxes::<N, T, C>::new(alloc, 1);
+    let (mailboxes, idles, mut serving) = made.expect(rt, "memory for a mailbox");
+    let idle = only(rt, idles, &mailboxes);
     let closer = serving.split(&mailboxes);
-    Ok(ask_and_serve(rt, &mailboxes, turns, idle, closer, jobs, serving))
+    let done = ask_and_serve(rt, &mailboxes, turns, idle, closer, jobs, serving);
+    let_go(mailboxes);
+    done
 }
 
 fn ask_and_serve<
     N: Naming + Send + Sync,
     T: Seating + Send + Sync,
     C: Turning + Send,
-    R: Threads + Wait + Sync,
+    R: Threads + Wait + Abort + Sync,
 >(
     rt: &R,
     mailboxes: &JobMailboxes<N, T, C>,
@@ -131,7 +107,7 @@ fn ask_and_serve<
     closer: JobServing<N, T, C>,
     jobs: Jobs<N, T, C>,
     serving: JobServing<N, T, C>,
-) -> (Option<Asked<N, T>>, u64)
+) -> (Asked<N, T>, u64)
     requires client { (idle_origin idle ≡ identity mailboxes.now)
         × (serving_origin closer ≡ identity mailboxes.now) }
     requires server { (serving_origin serving ≡ identity mailboxes.now)
@@ -139,7 +115,7 @@ fn ask_and_serve<
 {
     join(
         rt,
-        || -> Option<Asked<N, T>>
+        || -> Asked<N, T>
             requires { IsSync R.row
                 × (idle_origin idle ≡ identity mailboxes.now)
                 × (serving_origin closer ≡ identity mailboxes.now) }
@@ -147,6 +123,7 @@ fn ask_and_serve<
             let asked = ask_both(rt, mailboxes, idle, jobs);
             let mut closer = closer;
             mailboxes.close(&mut closer);
+            let_go(closer);
             asked
         },
         || -> u64
@@ -154,7 +131,7 @@ fn ask_and_serve<
                 × (serving_origin serving ≡ identity mailboxes.now)
                 × (serving_hand serving ≡ None) }
         {
-            let (_, _, served) = serve_until_closed(
+            let (serving, _, served) = serve_until_closed(
                 rt,
                 mailboxes,
                 serving,
@@ -162,34 +139,48 @@ fn ask_and_serve<
                 OpenGate,
                 u64::MAX,
             );
+            let_go(serving);
             served
         },
     )
 }
 
 /// Asks the payment, and then the status.
-fn ask_both<N: Naming, T: Seating, C: Turning, R: Wait>(
+fn ask_both<N: Naming, T: Seating, C: Turning, R: Wait + Abort>(
     rt: &R,
     mailboxes: &JobMailboxes<N, T, C>,
     idle: JobIdle<N, T, C>,
     jobs: Jobs<N, T, C>,
-) -> Option<Asked<N, T>>
+) -> Asked<N, T>
     requires { idle_origin idle ≡ identity mailboxes.now }
 {
     let Jobs { purse, calls } = jobs;
     let TwoCalls { first, second } = calls;
-    let Ok((idle, paid)) = ask(rt, mailboxes, idle, Job::of(payment(), purse, first)) else {
-        return None;
-    };
+    let (idle, paid) = answered(rt, mailboxes, idle, Job::of(payment(), purse, first));
     let (paid_at, purse) = parts(paid);
-    let Ok((_, shown)) = ask(rt, mailboxes, idle, Job::of(status(), purse, second)) else {
-        return None;
-    };
+    let (idle, shown) = answered(rt, mailboxes, idle, Job::of(status(), purse, second));
+    let_go(idle);
     let balance = balance(&shown);
     let (shown_at, purse) = parts(shown);
-    Some(Asked {
+    Asked {
         places: (paid_at, shown_at),
         balance,
         purse,
-    })
+    }
+}
+
+/// Asks, and gives the answer, which is always there.
+fn answered<N: Naming, T: Seating, C: Turning, R: Wait + Abort>(
+    rt: &R,
+    mailboxes: &JobMailboxes<N, T, C>,
+    idle: JobIdle<N, T, C>,
+    job: Job<N, T, C>,
+) -> (JobIdle<N, T, C>, JobAnswer<N, T>)
+    requires { idle_origin idle ≡ identity mailboxes.now }
+    ensures { idle_origin result.0 ≡ identity mailboxes.now }
+{
+    let Ok(done) = ask(rt, mailboxes, idle, job) else {
+        panic!(rt; "a job was not answered")
+    };
+    done
 }
