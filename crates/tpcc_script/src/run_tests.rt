@@ -22,7 +22,7 @@ impl Engine for EmptyBook {
     ghost book = { λ b. no_rows };
 
     fn serve(&mut self, request: Request) -> Result<Reply, Refusal> {
-        match request {
+        match &request {
             Request::NewOrder(_) => Err(Refusal::NoWarehouse),
             Request::Payment(_) => Err(Refusal::NoWarehouse),
             Request::Status(_) => Err(Refusal::NoWarehouse),
