@@ -39,7 +39,7 @@ fn fill_plain(alloc: Global, scale: Scale) -> Result<Tables, NoMemory>
 {
     let lists = plain_lists(alloc, scale)?;
     plain_is_sound(scale);
-    Ok(Tables::filled(lists))
+    Tables::filled(lists, alloc)
 }
 
 fn fill_seeded(alloc: Global, seed: Seed) -> Result<Tables, NoMemory>
@@ -47,7 +47,7 @@ fn fill_seeded(alloc: Global, seed: Seed) -> Result<Tables, NoMemory>
 {
     let lists = seeded_lists(alloc, seed)?;
     seeded_is_sound(seed.scale, seed.seed, seed.moment);
-    Ok(Tables::filled(lists))
+    Tables::filled(lists, alloc)
 }
 
 #[tactic(auto, unfolding(tpcc_rows::specs::Opening::plain_rows))]

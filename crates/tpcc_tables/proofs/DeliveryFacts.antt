@@ -40,40 +40,29 @@ balance_in_range c h =
     (split _ (is_balance c.balance) e.0).1
 
 -- the amounts of an order's lines up to a place are at most those of all of them
-total_first : (b : Bool) (x : OrderLineRow) (xs : List OrderLineRow) → total (λ l. l.amount) (cond b (x ∷ xs) xs) ≡ (if b then x.amount +ℤ total (λ l. l.amount) xs else total (λ l. l.amount) xs)
-total_first true x xs = refl
-total_first false x xs = refl
-
 abbrev IsPart : ℤ → ℤ → Type 0
 IsPart s t = (pos 0 ≤ℤ s) × (s ≤ℤ t)
 
-more_paid : (b : Bool) (a s t : ℤ) → pos 0 ≤ℤ a → IsPart s t → IsPart (if b then a +ℤ s else s) (if b then a +ℤ t else t)
-more_paid true a s t h k = (omega (arith, ints, h, k), omega (arith, ints, h, k))
-more_paid false a s t h k = k
-
-none_paid : (b : Bool) (a t : ℤ) → pos 0 ≤ℤ a → pos 0 ≤ℤ t → pos 0 ≤ℤ (if b then a +ℤ t else t)
-none_paid true a t h k = omega (arith, ints, h, k)
-none_paid false a t h k = k
-
-paid_above : (q : OrderLineRow → Bool) (xs : List OrderLineRow) → list_all is_paid xs ≡ true → pos 0 ≤ℤ total (λ l. l.amount) (filter q xs)
-paid_above q [] h = omega (arith, ints)
-paid_above q (x ∷ xs) h =
+paid_above : (xs : List OrderLineRow) → list_all is_paid xs ≡ true → pos 0 ≤ℤ total (λ l. l.amount) xs
+paid_above [] h = omega (arith, ints)
+paid_above (x ∷ xs) h =
     let s = split (is_paid x) (list_all is_paid xs) h in
     let a = amount_within (pos 0) (pos 999999) x.amount s.0 in
-    let e = total_first (q x) x (filter q xs) in
-    let k = none_paid (q x) x.amount (total (λ l. l.amount) (filter q xs)) a.0 (paid_above q xs s.1) in
-    rw e k
+    let rest = paid_above xs s.1 in
+    omega (arith, ints, a, rest)
 
-part_paid : (q : OrderLineRow → Bool) (xs : List OrderLineRow) (k : ℕ) → list_all is_paid xs ≡ true → IsPart (total (λ l. l.amount) (filter q (take k xs))) (total (λ l. l.amount) (filter q xs))
-part_paid q xs zero h = (omega (arith, ints), paid_above q xs h)
-part_paid q [] (suc k) h = (omega (arith, ints), omega (arith, ints))
-part_paid q (x ∷ xs) (suc k) h =
+part_paid : (xs : List OrderLineRow) (k : ℕ) → list_all is_paid xs ≡ true → IsPart (total (λ l. l.amount) (take k xs)) (total (λ l. l.amount) xs)
+part_paid xs zero h = (omega (arith, ints), paid_above xs h)
+part_paid [] (suc k) h = (omega (arith, ints), omega (arith, ints))
+part_paid (x ∷ xs) (suc k) h =
     let s = split (is_paid x) (list_all is_paid xs) h in
     let a = amount_within (pos 0) (pos 999999) x.amount s.0 in
-    let e = total_first (q x) x (filter q (take k xs)) in
-    let f = total_first (q x) x (filter q xs) in
-    let m = more_paid (q x) x.amount (total (λ l. l.amount) (filter q (take k xs))) (total (λ l. l.amount) (filter q xs)) a.0 (part_paid q xs k s.1) in
-    rw (e, f) m
+    let rest = part_paid xs k s.1 in
+    (omega (arith, ints, a, rest), omega (arith, ints, a, rest))
+
+paid_lines : (q : OrderLineRow → Bool) (xs : List OrderLineRow) → list_all is_paid xs ≡ true → list_all is_paid (filter q xs) ≡ true
+paid_lines q [] h = refl
+paid_lines q (x ∷ xs) h = grind (arith, paid_lines q xs)
 
 -- ---- the customer's balance before and after
 
@@ -88,7 +77,7 @@ part_fits b a s h k p =
     omega (arith, ints, before, after, p)
 
 pub record IsDeliverable (rows : Rows) (w d o : ℕ) : Type 0 where
-  pub parts : (k : ℕ) → FitsSigned w64 (total (λ l. l.amount) (filter (is_line_of w d o) (take k rows.order_lines)))
+  pub parts : (k : ℕ) → FitsSigned w64 (total (λ l. l.amount) (take k (filter (is_line_of w d o) rows.order_lines)))
   pub balance : (c : CustomerRow) → find_customer rows w d (order_at rows w d o).customer ≡ Some c → FitsSigned w64 (c.balance +ℤ order_amount rows w d o)
   pub count : (c : CustomerRow) → find_customer rows w d (order_at rows w d o).customer ≡ Some c → c.delivery_count + 1 < 2 ^ 32
 
@@ -99,7 +88,7 @@ deliverable rows w d o h none =
     let after = not_false _ t.1.0 in
     let paid = list_all-mono is_order_line_row is_paid line_is_paid rows.order_lines h.order_lines in
     record {
-      parts = λ n. part_fits (customer_at rows w d k).balance (order_amount rows w d o) _ (balance_of rows w d k (find_customer rows w d k) refl h) after (part_paid (is_line_of w d o) rows.order_lines n paid);
+      parts = λ n. part_fits (customer_at rows w d k).balance (order_amount rows w d o) _ (balance_of rows w d k (find_customer rows w d k) refl h) after (part_paid (filter (is_line_of w d o) rows.order_lines) n (paid_lines (is_line_of w d o) rows.order_lines paid));
       balance = λ c e. balance_fits (c.balance +ℤ order_amount rows w d o) ((λ i. is_balance ((unwrap_or (sym e i) no_customer).balance +ℤ order_amount rows w d o)) ∙ after);
       count = λ c e. count_fits (c.delivery_count + 1) ((λ i. is_count ((unwrap_or (sym e i) no_customer).delivery_count + 1)) ∙ not_false _ t.0);
     }

@@ -1,6 +1,6 @@
 -- The rows of an order that is entered, written list by list.
 use Rattle.std.proofs.Common.{◌≡◌, ℕ, ◌+◌, ◌<◌, ◌≤◌, ◌^◌, true, false, List, [], ◌∷◌, length, map, refl, sym, ◌∙◌, subst, arith, Some, None}
-use Rattle.std.specs.Prelude.{◌&&◌, not}
+use Rattle.std.specs.Prelude.{◌&&◌, ◌==◌, not, find, Bool, Option, is_some, is_none}
 use Rattle.std.specs.List.{list_all, list_any, enumerate_from}
 use Rattle.tpcc_rows.specs.declared.rows.DistrictRow.{DistrictRow}
 use Rattle.tpcc_rows.specs.declared.rows.OrderRow.{OrderRow}
@@ -16,7 +16,13 @@ use Rattle.tpcc_rows.specs.WellKeyed.{IsWellKeyed, IsInRange}
 use Rattle.tpcc_rows.specs.NewOrder.{after_order, order_refusal, order_refusal_by_input, order_input_tests, order_row, order_line_row, order_line_rows, stock_after, with_next_order}
 use Rattle.tpcc_rows.proofs.Numbers.{within, not_false}
 use Rattle.tpcc_rows.proofs.OrderInRange.{order_in_range}
-use Rattle.tpcc_rows.proofs.OrderParents.{split}
+use Rattle.tpcc_rows.proofs.OrderParents.{split, both_true}
+use Rattle.tpcc_rows.proofs.DeliveryKeeps.{some_of}
+use Rattle.std.proofs.lemmas.Bool.Decides.{nat_tests}
+use Rattle.tpcc_rows.specs.declared.keys.DistrictKey.{DistrictKey}
+use Rattle.tpcc_keyed.specs.Parts.{has_owner}
+use Rattle.tpcc_tables.specs.Ready.{is_open}
+use Rattle.tpcc_tables.proofs.ReadyLemmas.{open-found}
 use Rattle.tpcc_rows.proofs.RemoveLemmas.{found_passes}
 use Rattle.tpcc_rows.proofs.TurnKeeps.{all_false, first_none}
 use Rattle.tpcc_rows.proofs.TurnKeys.{order_is_sound}
@@ -89,3 +95,45 @@ unfolding with_entered_order
 written_rows rows o lines taken ds os ls ns ss same d e l n s =
     (λ i. record rows { districts = d i; orders = e i; order_lines = l i; new_orders = n i; stocks = s i })
     ∙ (λ i. record rows { districts = updated (is_district o.warehouse o.district) with_next_order rows.districts; orders = inserted (by_key order_key) o rows.orders; order_lines = inserted_all (by_key order_line_key) lines rows.order_lines; new_orders = inserted (by_key new_order_key) (waiting o) rows.new_orders; stocks = map (stock_after o.warehouse (map line_of (same i))) rows.stocks })
+
+-- ---- the district of an order has its part
+
+found_there : {X : Type 0} (p : X → Bool) (xs : List X) (y : X) → find p xs ≡ Some y → p y ≡ true
+found_there p [] y e = cc
+found_there p (x ∷ xs) y e = grind (arith, found_there p xs y)
+
+not_missing : {X : Type 0} (o : Option X) → is_none o ≡ false → is_some o ≡ true
+not_missing None e = cc
+not_missing (Some x) e = refl
+
+district_found : (owners : List DistrictKey) (w d : ℕ) (ds : List DistrictRow) (x : DistrictRow) → is_open owners ds ≡ true → find (is_district w d) ds ≡ Some x → has_owner owners (w ∷ d ∷ []) ≡ true
+district_found owners w d ds x h e =
+    let is = found_there (is_district w d) ds x e in
+    let a : x.warehouse ≡ w = grind (arith, nat_tests, is) in
+    let b : x.id ≡ d = grind (arith, nat_tests, is) in
+    (λ i. has_owner owners (sym a i ∷ sym b i ∷ [])) ∙ open-found owners (is_district w d) ds x h e
+
+district_there : (rows : Rows) (order : Order) → order_refusal rows order ≡ None → (x : DistrictRow) × (find_district rows order.warehouse order.district ≡ Some x)
+unfolding order_input_tests
+district_there rows order none =
+    let t = all_false (order_input_tests rows order) (first_none (order_refusal_by_input rows order) _ none) in
+    some_of (find_district rows order.warehouse order.district) (not_missing (find_district rows order.warehouse order.district) t.1.0)
+
+lines_owned : (owners : List DistrictKey) (rows : Rows) (order : Order) (n : ℕ) (ls : List Line) → has_owner owners (order.warehouse ∷ order.district ∷ []) ≡ true → list_all (λ row. has_owner owners (order_line_key row)) (map (λ line. order_line_row rows order line.0 line.1) (enumerate_from n ls)) ≡ true
+lines_owned owners rows order n [] h = refl
+lines_owned owners rows order n (l ∷ ls) h = both_true (has_owner owners (order.warehouse ∷ order.district ∷ [])) (list_all (λ row. has_owner owners (order_line_key row)) (map (λ line. order_line_row rows order line.0 line.1) (enumerate_from (n + 1) ls))) h (lines_owned owners rows order (n + 1) ls h)
+
+-- the parts of an order's rows
+pub record IsOwned (owners : List DistrictKey) (o : OrderRow) (lines : List OrderLineRow) : Type 0 where
+  pub order : has_owner owners (order_key o) ≡ true
+  pub news : has_owner owners (new_order_key (waiting o)) ≡ true
+  pub lines_are : list_all (λ row. has_owner owners (order_line_key row)) lines ≡ true
+
+owned_rows : (owners : List DistrictKey) (rows : Rows) (order : Order) → order_refusal rows order ≡ None → is_open owners rows.districts ≡ true → IsOwned owners (order_row rows order) (order_line_rows rows order)
+owned_rows owners rows order none h =
+    let x = district_there rows order none in
+    let has = district_found owners order.warehouse order.district rows.districts x.0 h x.1 in
+    record { order = has; news = has; lines_are = lines_owned owners rows order 1 order.lines has }
+
+pub owned : (owners : List DistrictKey) (rows : Rows) (o : OrderRow) (lines : List OrderLineRow) → IsOrder rows o lines → is_open owners rows.districts ≡ true → IsOwned owners o lines
+owned owners rows o lines k h = subst (λ (x : OrderRow). IsOwned owners x lines) (sym k.1.order_is) (subst (IsOwned owners (order_row rows k.0)) (sym k.1.lines_are) (owned_rows owners rows k.0 k.1.accepted h))

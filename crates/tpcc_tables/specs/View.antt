@@ -1,9 +1,11 @@
--- How the nine vectors are seen, and what always holds of them.
-use Rattle.std.specs.Prelude.{◌+◌, ◌<◌, ◌≤◌, vec_capacity, vec_len}
+-- How the nine tables are seen, and what always holds of them.
+use Rattle.std.specs.Prelude.{◌≡◌, ◌+◌, ◌≤◌, vec_capacity, vec_len}
 use Rattle.tpcc_rows.specs.Tables.{Rows}
 use Rattle.tpcc_rows.specs.WellKeyed.{IsWellKeyed}
+use Rattle.tpcc_keyed.specs.Names.{names_of}
 use Rattle.tpcc_tables.specs.declared.tables.Tables.TheInside.{Inside}
 use Rattle.tpcc_tables.specs.Held.{Held}
+use Rattle.tpcc_tables.specs.Ready.{IsReady}
 
 abbrev pub rows_of : Inside → Rows
 rows_of t =
@@ -12,9 +14,9 @@ rows_of t =
       districts = t.districts.items;
       customers = t.customers.items;
       histories = t.histories.items;
-      orders = t.orders.items;
-      order_lines = t.order_lines.items;
-      new_orders = t.new_orders.items;
+      orders = t.orders.rows;
+      order_lines = t.order_lines.rows;
+      new_orders = t.new_orders.rows;
       items = t.items.items;
       stocks = t.stocks.items;
     }
@@ -25,7 +27,6 @@ held t = record { rows = rows_of t; order_room = t.order_room; payment_room = t.
 -- the rows are well-keyed, and each room that was promised is there
 pub record IsHeld (t : Inside) : Type 0 where
   pub well_keyed : IsWellKeyed (rows_of t)
-  pub order : 0 < t.order_room → vec_len t.orders < vec_capacity t.orders
-  pub new_order : 0 < t.order_room → vec_len t.new_orders < vec_capacity t.new_orders
-  pub lines : 0 < t.order_room → vec_len t.order_lines + t.order_room ≤ vec_capacity t.order_lines + 1
+  pub names : t.names ≡ names_of t.customers.items
+  pub ready : IsReady t.are_open t.order_room t.districts.items t.orders t.order_lines t.new_orders
   pub payments : vec_len t.histories + t.payment_room ≤ vec_capacity t.histories

@@ -1,12 +1,13 @@
 //! The last order of a customer and the oldest new order of a district.
-ghost use Rattle.std.specs.Prelude.{◌≡◌, ◌==◌, ◌&&◌, filter, map};
-ghost use Rattle.tpcc_rows.specs.Lists.{largest, smallest};
-ghost use Rattle.tpcc_rows.specs.Tables.{is_order_of};
+ghost use Rattle.std.specs.Prelude.{◌≡◌, ◌==◌, ◌&&◌, filter, map, true};
+ghost use Rattle.tpcc_rows.specs.Lists.{largest, smallest, is_ascending};
+ghost use Rattle.tpcc_rows.specs.Tables.{is_order_of, new_order_key};
 
+use tpcc_keyed::Parts;
+use tpcc_rows::keys::DistrictKey;
 use tpcc_rows::rows::{NewOrderRow, OrderRow};
 
-/// The largest O_ID of a customer's orders.
-pub fn last_order(rows: &[OrderRow], warehouse: u32, district: u32, customer: u32) -> Option<u32>
+fn largest_order(rows: &[OrderRow], warehouse: u32, district: u32, customer: u32) -> Option<u32>
     ensures { result ≡ largest (map (λ o. o.id) (filter (is_order_of warehouse district customer) rows.now)) }
 {
     rows.iter()
@@ -17,12 +18,33 @@ pub fn last_order(rows: &[OrderRow], warehouse: u32, district: u32, customer: u3
         .max()
 }
 
-/// The smallest NO_O_ID of a district.
-pub fn oldest_new(rows: &[NewOrderRow], warehouse: u32, district: u32) -> Option<u32>
-    ensures { result ≡ smallest (map (λ n. n.order) (filter (λ n. (n.warehouse == warehouse) && (n.district == district)) rows.now)) }
+/// The largest O_ID of a customer's orders.
+pub fn last_order(
+    rows: &Parts<OrderRow>,
+    warehouse: u32,
+    district: u32,
+    customer: u32,
+) -> Option<u32>
+    ensures { result ≡ largest (map (λ o. o.id) (filter (is_order_of warehouse district customer) rows.now.rows)) }
 {
-    rows.iter()
-        .filter(|row| row.warehouse == warehouse && row.district == district)
-        .map(|row| row.order)
-        .min()
+    let orders = rows.part(DistrictKey {
+        warehouse,
+        district,
+    });
+    largest_order(orders, warehouse, district, customer)
+}
+
+/// The smallest NO_O_ID of a district.
+pub fn oldest_new(rows: &Parts<NewOrderRow>, warehouse: u32, district: u32) -> Option<u32>
+    requires keyed { is_ascending new_order_key rows.now.rows ≡ true }
+    ensures { result ≡ smallest (map (λ n. n.order) (filter (λ n. (n.warehouse == warehouse) && (n.district == district)) rows.now.rows)) }
+{
+    let waiting = rows.part(DistrictKey {
+        warehouse,
+        district,
+    });
+    match waiting.first() {
+        Some(row) => Some(row.order),
+        None => None,
+    }
 }

@@ -9,8 +9,8 @@ ghost use Rattle.tpcc_rows.specs.NewOrder.{quantity_after, stock_after_line, sto
 ghost use Rattle.tpcc_tables.specs.Writes.{line_of};
 ghost use Rattle.tpcc_tables.specs.Supplies.{is_supplied_by, HasRoomFor, is_near};
 
-use crate::keys::StockKey;
-use crate::search;
+use tpcc_keyed::search;
+use tpcc_rows::keys::StockKey;
 use tpcc_rows::rows::{OrderLineRow, StockRow};
 
 /// S_QUANTITY after a line: 91 more where fewer than 10 would be left.

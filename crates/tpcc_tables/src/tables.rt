@@ -14,9 +14,10 @@ mod load;
 mod positions;
 mod writes;
 
-use crate::{extremes, find, named};
+use crate::{extremes, find};
 use std::alloc::Global;
 use std::marker::Model;
+use tpcc_keyed::{Names, Parts};
 use tpcc_rows::rows::*;
 
 #[derive(Drop)]
@@ -24,12 +25,16 @@ pub struct Tables {
     warehouses: Vec<WarehouseRow>,
     districts: Vec<DistrictRow>,
     customers: Vec<CustomerRow>,
+    /// The customers' names in order.
+    names: Names,
     histories: Vec<HistoryRow>,
-    orders: Vec<OrderRow>,
-    order_lines: Vec<OrderLineRow>,
-    new_orders: Vec<NewOrderRow>,
+    orders: Parts<OrderRow>,
+    order_lines: Parts<OrderLineRow>,
+    new_orders: Parts<NewOrderRow>,
     items: Vec<ItemRow>,
     stocks: Vec<StockRow>,
+    /// Whether each district has a part in the three tables of orders.
+    are_open: bool,
     order_room: u64,
     payment_room: u32,
 }
@@ -55,12 +60,14 @@ impl Tables {
             warehouses: Vec::new(alloc),
             districts: Vec::new(alloc),
             customers: Vec::new(alloc),
+            names: Names::new(alloc),
             histories: Vec::new(alloc),
-            orders: Vec::new(alloc),
-            order_lines: Vec::new(alloc),
-            new_orders: Vec::new(alloc),
+            orders: Parts::new(alloc),
+            order_lines: Parts::new(alloc),
+            new_orders: Parts::new(alloc),
             items: Vec::new(alloc),
             stocks: Vec::new(alloc),
+            are_open: false,
             order_room: 0,
             payment_room: 0,
         }
@@ -100,13 +107,16 @@ impl Tables {
     ) -> Option<&CustomerRow>
         ensures { option_copied result ≡ chosen_customer self.now.rows warehouse district (Name last.now) }
     {
-        named::middle(self.customers.as_slice(), warehouse, district, last)
+        match self.names.middle(warehouse, district, last) {
+            Some(customer) => self.customer(warehouse, district, customer),
+            None => None,
+        }
     }
 
     pub fn order(&self, warehouse: u32, district: u32, order: u32) -> Option<&OrderRow>
         ensures { option_copied result ≡ find_order self.now.rows warehouse district order }
     {
-        find::order(self.orders.as_slice(), warehouse, district, order)
+        find::order(&self.orders, warehouse, district, order)
     }
 
     /// The ORDER-LINE row of a key.
@@ -119,34 +129,28 @@ impl Tables {
     ) -> Option<&OrderLineRow>
         ensures { option_copied result ≡ find_order_line self.now.rows warehouse district order number }
     {
-        find::line(
-            self.order_lines.as_slice(),
-            warehouse,
-            district,
-            order,
-            number,
-        )
+        find::line(&self.order_lines, warehouse, district, order, number)
     }
 
     /// The NEW-ORDER row of a key.
     pub fn new_order(&self, warehouse: u32, district: u32, order: u32) -> Option<NewOrderRow>
         ensures { result ≡ find_new_order self.now.rows warehouse district order }
     {
-        find::new_order(self.new_orders.as_slice(), warehouse, district, order)
+        find::new_order(&self.new_orders, warehouse, district, order)
     }
 
     /// The largest number of a customer's orders (2.6.2.2), if there is an order.
     pub fn last_order(&self, warehouse: u32, district: u32, customer: u32) -> Option<u32>
         ensures { result ≡ last_order_number self.now.rows warehouse district customer }
     {
-        extremes::last_order(self.orders.as_slice(), warehouse, district, customer)
+        extremes::last_order(&self.orders, warehouse, district, customer)
     }
 
     /// The smallest number of a district's NEW-ORDER rows (2.7.4.2), if there is a row.
     pub fn oldest_new(&self, warehouse: u32, district: u32) -> Option<u32>
         ensures { result ≡ oldest_new_order self.now.rows warehouse district }
     {
-        extremes::oldest_new(self.new_orders.as_slice(), warehouse, district)
+        extremes::oldest_new(&self.new_orders, warehouse, district)
     }
 
     pub fn item(&self, item: u32) -> Option<&ItemRow>

@@ -1,16 +1,19 @@
 //! Tables of rows that are well-keyed already, such as those of an initial population.
-ghost use Rattle.std.specs.Prelude.{◌≡◌};
+ghost use Rattle.std.specs.Prelude.{◌≡◌, IfOk};
 ghost use Rattle.tpcc_rows.specs.WellKeyed.{IsWellKeyed};
 ghost use Rattle.tpcc_tables.specs.Listed.{listed};
 
 use super::Tables;
 use crate::lists::Lists;
+use std::alloc::Global;
+use tpcc_keyed::{Names, Parts};
+use tpcc_money::NoMemory;
 
 impl Tables {
-    /// The tables of well-keyed rows. Nothing is searched and nothing copied.
-    pub fn filled(lists: Lists) -> Tables
+    /// The tables of well-keyed rows. Rows of orders are laid out by their districts.
+    pub fn filled(lists: Lists, alloc: Global) -> Result<Tables, NoMemory>
         requires keyed { IsWellKeyed (listed lists) }
-        ensures rows { result.rows ≡ listed lists }
+        ensures rows { IfOk result (λ tables. tables.rows ≡ listed lists) }
     {
         let Lists {
             warehouses,
@@ -23,18 +26,24 @@ impl Tables {
             items,
             stocks,
         } = lists;
-        Tables {
+        let names = Names::of(customers.as_slice(), alloc)?;
+        let orders = Parts::from_sorted(orders, alloc)?;
+        let order_lines = Parts::from_sorted(order_lines, alloc)?;
+        let new_orders = Parts::from_sorted(new_orders, alloc)?;
+        Ok(Tables {
             warehouses,
             districts,
             customers,
+            names,
             histories,
             orders,
             order_lines,
             new_orders,
             items,
             stocks,
+            are_open: false,
             order_room: 0,
             payment_room: 0,
-        }
+        })
     }
 }

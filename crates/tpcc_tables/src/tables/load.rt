@@ -5,7 +5,7 @@ ghost use Rattle.tpcc_tables.specs.Loads as loads;
 
 use super::Tables;
 use crate::faults::{self, LoadFault};
-use crate::insertion;
+use tpcc_keyed::insertion;
 use tpcc_money::NoMemory;
 use tpcc_rows::row::Row;
 use tpcc_rows::rows::*;
@@ -74,6 +74,8 @@ impl Tables {
         if let Err(NoMemory) = insertion::insert(&mut self.districts, row) {
             return Err(LoadFault::NoMemory);
         }
+        self.are_open = false;
+        self.order_room = 0;
         Ok(())
     }
 
@@ -86,9 +88,13 @@ impl Tables {
         if let Some(fault) = faults::of_customer(self, &row) {
             return Err(fault);
         }
-        if let Err(NoMemory) = insertion::insert(&mut self.customers, row) {
+        if self.customers.reserve(1).is_err() {
             return Err(LoadFault::NoMemory);
         }
+        if let Err(NoMemory) = self.names.load(&row) {
+            return Err(LoadFault::NoMemory);
+        }
+        insertion::insert_one(&mut self.customers, row);
         Ok(())
     }
 
@@ -117,7 +123,7 @@ impl Tables {
         if let Some(fault) = faults::of_order(self, &row) {
             return Err(fault);
         }
-        if let Err(NoMemory) = insertion::insert(&mut self.orders, row) {
+        if let Err(NoMemory) = self.orders.load(row) {
             return Err(LoadFault::NoMemory);
         }
         self.order_room = 0;
@@ -133,7 +139,7 @@ impl Tables {
         if let Some(fault) = faults::of_order_line(self, &row) {
             return Err(fault);
         }
-        if let Err(NoMemory) = insertion::insert(&mut self.order_lines, row) {
+        if let Err(NoMemory) = self.order_lines.load(row) {
             return Err(LoadFault::NoMemory);
         }
         self.order_room = 0;
@@ -149,7 +155,7 @@ impl Tables {
         if let Some(fault) = faults::of_new_order(self, &row) {
             return Err(fault);
         }
-        if let Err(NoMemory) = insertion::insert(&mut self.new_orders, row) {
+        if let Err(NoMemory) = self.new_orders.load(row) {
             return Err(LoadFault::NoMemory);
         }
         self.order_room = 0;

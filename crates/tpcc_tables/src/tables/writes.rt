@@ -5,10 +5,13 @@ ghost use Rattle.tpcc_rows.specs.Ranges.{is_carrier};
 ghost use Rattle.tpcc_tables.specs.Writes.{with_payment, IsPayment, with_entered_order, IsOrder};
 
 use super::Tables;
-use crate::{delivery, insertion, place, supply};
+use crate::{delivery, place, rooms, supply};
 use tpcc_money::{Moment, NoMemory};
 use tpcc_rows::rows::*;
 use tpcc_rows::text::Text;
+
+/// For how many orders more room is made at once in each district.
+const SPARE_ORDERS: usize = 16;
 
 impl Tables {
     /// Makes room for one payment. A refused growth leaves all rows as they were.
@@ -28,14 +31,17 @@ impl Tables {
         ensures same { self.new.rows ≡ self.old.rows }
         ensures room { OnOk result (lines < self.new.order_room) }
     {
-        let room = u64::from(lines) + 1;
-        if self.orders.reserve(1).is_err()
-            || self.new_orders.reserve(1).is_err()
-            || self.order_lines.reserve(lines as usize).is_err()
-        {
-            return Err(NoMemory);
+        if !self.are_open {
+            let districts = self.districts.as_slice();
+            rooms::open_all(&mut self.orders, districts)?;
+            rooms::open_all(&mut self.order_lines, districts)?;
+            rooms::open_all(&mut self.new_orders, districts)?;
+            self.are_open = true;
         }
-        self.order_room = room;
+        rooms::make(&mut self.orders, 1, SPARE_ORDERS)?;
+        rooms::make(&mut self.new_orders, 1, SPARE_ORDERS)?;
+        rooms::make(&mut self.order_lines, lines as usize, 15 * SPARE_ORDERS)?;
+        self.order_room = u64::from(lines) + 1;
         Ok(())
     }
 
@@ -76,14 +82,14 @@ impl Tables {
     {
         place::raise_next_order(&mut self.districts, order.warehouse, order.district);
         supply::supply(&mut self.stocks, order.warehouse, lines);
-        insertion::insert_all(&mut self.order_lines, lines);
+        self.order_lines.append_all(lines);
         let waiting = NewOrderRow {
             order: order.id,
             district: order.district,
             warehouse: order.warehouse,
         };
-        insertion::insert_one(&mut self.new_orders, waiting);
-        insertion::insert_one(&mut self.orders, order);
+        self.new_orders.append(waiting);
+        self.orders.append(order);
         self.order_room = 0;
     }
 
@@ -104,11 +110,11 @@ impl Tables {
         ensures { self.new.rows ≡ after_delivery self.old.rows warehouse district order carrier moment }
     {
         let _seconds = moment.seconds();
-        let amount = delivery::amount(self.order_lines.as_slice(), warehouse, district, order);
-        let customer = delivery::customer_of(self.orders.as_slice(), warehouse, district, order);
+        let amount = delivery::amount(self.order_lines.lines_of(warehouse, district, order));
+        let customer = delivery::customer_of(&self.orders, warehouse, district, order);
         delivery::remove_new_order(&mut self.new_orders, warehouse, district, order);
         delivery::carry(&mut self.orders, warehouse, district, order, carrier);
-        delivery::stamp(&mut self.order_lines, warehouse, district, order, moment);
+        self.order_lines.stamp(warehouse, district, order, moment);
         delivery::charge(&mut self.customers, warehouse, district, customer, amount);
         self.order_room = 0;
     }

@@ -2,7 +2,8 @@ use Rattle.std.proofs.Common.{sym, ap, ◌∙◌}
 use Rattle.std.specs.Prelude.{position}
 use Rattle.tpcc_rows.specs.Tables.{is_customer, customer_key}
 use Rattle.tpcc_rows.specs.Delivery.{delivered_customer}
-use Rattle.tpcc_tables.proofs.PlaceLemmas.{found_row, written_row, unwritten, customers_apart}
+use Rattle.tpcc_keyed.proofs.PlaceLemmas.{found_row, written_row, unwritten}
+use Rattle.tpcc_tables.proofs.KeyTests.{customers_apart}
 use Rattle.tpcc_tables.proofs.delivery.charge.Goals as goal
 
 pub credit-requires-clause-balance : goal.credit-requires-clause-balance

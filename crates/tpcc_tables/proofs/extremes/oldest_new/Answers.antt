@@ -1,15 +1,11 @@
-use Rattle.std.proofs.Common.{rules, ◌∙◌}
-use Rattle.std.specs.Prelude.{◌&&◌, ◌==◌}
-use Rattle.std.proofs.lemmas.Iterator.{YieldsList-from_slice, YieldsList-from_map}
-use Rattle.std.proofs.lemmas.Iterator.Consumers.{YieldsList-at, YieldsList-from_filter, reduce_from_yields_List}
-use Rattle.tpcc_rows.specs.declared.rows.NewOrderRow.{NewOrderRow}
-use Rattle.tpcc_tables.proofs.ExtremeLemmas.{lesser_of, reduce_is_smallest}
+use Rattle.std.proofs.Common.{◌∙◌, ap, sym}
+use Rattle.std.specs.Option.{option_copied}
+use Rattle.tpcc_tables.proofs.ExtremeLemmas.{first_is_oldest, none_is_oldest}
 use Rattle.tpcc_tables.proofs.extremes.oldest_new.Goals as goal
 
-pub returns : goal.returns
-returns c =
-    reduce_from_yields_List lesser_of _ _ c.min.ensures.ran
-    (YieldsList-from_map _ (λ (r : NewOrderRow). r.order)
-    (YieldsList-at c.map.ensures.source (YieldsList-from_filter _ (λ (n : NewOrderRow). (n.warehouse == c.args.warehouse) && (n.district == c.args.district)) (YieldsList-from_slice c.args.rows.now (cc)) c.filter.ensures.closure (λ x b q k. search rules)))
-    c.map.ensures.closure (λ x r q k. search rules))
-    ∙ reduce_is_smallest _
+pub returns-in-Some : goal.returns-in-Some
+returns-in-Some c =
+    first_is_oldest c.args.warehouse c.args.district c.args.rows.now.rows c.part-waiting.result.now c.in-Some.row.now c.requires.keyed c.part-waiting.ensures (sym c.first.ensures.value ∙ ap option_copied c.in-Some.is)
+
+pub returns-in-None : goal.returns-in-None
+returns-in-None c = none_is_oldest c.args.warehouse c.args.district c.args.rows.now.rows c.part-waiting.result.now c.part-waiting.ensures (sym c.first.ensures.value ∙ ap option_copied c.in-None.is)

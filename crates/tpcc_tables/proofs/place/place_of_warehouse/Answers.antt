@@ -1,7 +1,8 @@
 use Rattle.std.proofs.Common.{◌∙◌, [], ◌∷◌}
 use Rattle.tpcc_rows.specs.Tables.{is_warehouse, warehouse_key}
-use Rattle.tpcc_tables.specs.Searches.{is_same_key}
-use Rattle.tpcc_tables.proofs.SearchLemmas.{same_position, warehouse_test}
+use Rattle.tpcc_keyed.specs.Searches.{is_same_key}
+use Rattle.tpcc_keyed.proofs.SearchLemmas.{same_position}
+use Rattle.tpcc_tables.proofs.KeyTests.{warehouse_test}
 use Rattle.tpcc_tables.proofs.place.place_of_warehouse.Goals as goal
 
 pub returns : goal.returns

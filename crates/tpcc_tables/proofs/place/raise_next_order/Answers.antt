@@ -2,7 +2,8 @@ use Rattle.std.proofs.Common.{sym, ap, ◌∙◌}
 use Rattle.std.specs.Prelude.{position}
 use Rattle.tpcc_rows.specs.Tables.{is_district, district_key}
 use Rattle.tpcc_rows.specs.NewOrder.{with_next_order}
-use Rattle.tpcc_tables.proofs.PlaceLemmas.{found_row, written_row, unwritten, districts_apart}
+use Rattle.tpcc_keyed.proofs.PlaceLemmas.{found_row, written_row, unwritten}
+use Rattle.tpcc_tables.proofs.KeyTests.{districts_apart}
 use Rattle.tpcc_tables.proofs.place.raise_next_order.Goals as goal
 
 pub raise-requires : goal.raise-requires

@@ -1,13 +1,16 @@
-use Rattle.std.proofs.Common.{◌≡◌, ◌∙◌, ◌≤◌, List, length, true, refl, sym, ap, subst, arith}
+use Rattle.std.proofs.Common.{◌≡◌, ◌∙◌, ◌≤◌, ◌<◌, List, length, true, refl, sym, ap, subst, arith}
 use Rattle.std.specs.List.{list_all}
 use Rattle.tpcc_rows.specs.declared.rows.OrderLineRow.{OrderLineRow}
 use Rattle.tpcc_rows.specs.Ranges.{is_within}
 use Rattle.tpcc_rows.specs.WellKeyed.{IsWellKeyed}
+use Rattle.tpcc_rows.specs.Tables.{is_district}
+use Rattle.tpcc_rows.specs.NewOrder.{with_next_order}
 use Rattle.tpcc_tables.specs.Held.{Held}
+use Rattle.tpcc_tables.proofs.ReadyLemmas.{ready-updated, ready-kept, keeps-same, parted}
 use Rattle.tpcc_tables.specs.View.{rows_of}
 use Rattle.tpcc_tables.specs.Writes.{IsOrder, with_entered_order}
 use Rattle.tpcc_tables.proofs.SupplyLemmas.{near_starts}
-use Rattle.tpcc_tables.proofs.EnterLemmas.{district_fits, enterable, entered_is_well_keyed, lines_in_order, written_rows}
+use Rattle.tpcc_tables.proofs.EnterLemmas.{district_fits, enterable, entered_is_well_keyed, lines_in_order, written_rows, owned}
 use Rattle.tpcc_tables.proofs.tables.Tables.append_order.Goals as goal
 
 pub raise_next_order-requires-clause-fits : goal.raise_next_order-requires-clause-fits
@@ -26,24 +29,42 @@ supply-requires-clause-quantities c =
     let known = enterable (rows_of c.self.inside) c.args.order c.args.lines.now (subst (λ (t : Held). IsOrder t.rows c.args.order c.args.lines.now) (sym c.self.view_is) c.requires.order) in
     known.quantities
 
-pub insert_all-requires-clause-keyed : goal.insert_all-requires-clause-keyed
-insert_all-requires-clause-keyed c =
+pub append_all-requires-clause-keyed : goal.append_all-requires-clause-keyed
+append_all-requires-clause-keyed c =
     lines_in_order (rows_of c.self.inside) c.args.order c.args.lines.now (subst (λ (t : Held). IsOrder t.rows c.args.order c.args.lines.now) (sym c.self.view_is) c.requires.order) c.self.invariant.well_keyed
 
 pub invariant_of-self : goal.invariant_of-self
 invariant_of-self c =
-    let written = written_rows (rows_of c.self.inside) c.args.order c.args.lines.now c.args.lines.now c.raise_next_order.new.rows.items c.insert_one-2.new.rows.items c.insert_all.new.rows.items c.insert_one.new.rows.items c.supply.new.rows.items
-    refl c.raise_next_order.ensures c.insert_one-2.ensures c.insert_all.ensures c.insert_one.ensures c.supply.ensures in
+    let written = written_rows (rows_of c.self.inside) c.args.order c.args.lines.now c.args.lines.now c.raise_next_order.new.rows.items c.append-2.new.self.rows c.append_all.new.self.rows c.append.new.self.rows c.supply.new.rows.items
+    refl c.raise_next_order.ensures c.append-2.ensures.rows c.append_all.ensures.rows c.append.ensures.rows c.supply.ensures in
     record {
       well_keyed = subst IsWellKeyed (sym written) (entered_is_well_keyed (rows_of c.self.inside) c.args.order c.args.lines.now (subst (λ (t : Held). IsOrder t.rows c.args.order c.args.lines.now) (sym c.self.view_is) c.requires.order) c.self.invariant.well_keyed);
-      order = λ lt. absurd (omega (arith, lt));
-      new_order = λ lt. absurd (omega (arith, lt));
-      lines = λ lt. absurd (omega (arith, lt));
+      names = c.self.invariant.names;
+      ready = rw c.raise_next_order.ensures (ready-updated c.self.inside.are_open 0 (is_district c.args.order.warehouse c.args.order.district) with_next_order c.self.inside.districts.items c.append-2.new.self c.append_all.new.self c.append.new.self (λ d. refl)
+          (ready-kept c.self.inside.are_open c.self.inside.order_room c.self.inside.districts.items c.self.inside.orders c.append-2.new.self c.self.inside.order_lines c.append_all.new.self c.self.inside.new_orders c.append.new.self (keeps-same _ _ c.append-2.ensures.owners) (keeps-same _ _ c.append_all.ensures.owners) (keeps-same _ _ c.append.ensures.owners) c.self.invariant.ready));
       payments = c.self.invariant.payments;
     }
 
 pub returns : goal.returns
 returns c =
-    written_rows (rows_of c.self.inside) c.args.order c.args.lines.now c.args.lines.now c.raise_next_order.new.rows.items c.insert_one-2.new.rows.items c.insert_all.new.rows.items c.insert_one.new.rows.items c.supply.new.rows.items
-    refl c.raise_next_order.ensures c.insert_one-2.ensures c.insert_all.ensures c.insert_one.ensures c.supply.ensures
+    written_rows (rows_of c.self.inside) c.args.order c.args.lines.now c.args.lines.now c.raise_next_order.new.rows.items c.append-2.new.self.rows c.append_all.new.self.rows c.append.new.self.rows c.supply.new.rows.items
+    refl c.raise_next_order.ensures c.append-2.ensures.rows c.append_all.ensures.rows c.append.ensures.rows c.supply.ensures
     ∙ ap (λ (t : Held). with_entered_order t.rows c.args.order c.args.lines.now) c.self.view_is
+
+pub append_all-requires-clause-owners : goal.append_all-requires-clause-owners
+append_all-requires-clause-owners c =
+    let room = subst (λ (t : Held). length c.args.lines.now < t.order_room) (sym c.self.view_is) c.requires.room in
+    let parts = parted c.self.inside.are_open c.self.inside.order_room (length c.args.lines.now) c.self.inside.districts.items c.self.inside.orders c.self.inside.order_lines c.self.inside.new_orders c.self.invariant.ready room in
+    (owned c.self.inside.order_lines.owners (rows_of c.self.inside) c.args.order c.args.lines.now (subst (λ (t : Held). IsOrder t.rows c.args.order c.args.lines.now) (sym c.self.view_is) c.requires.order) parts.lines).lines_are
+
+pub append-requires-clause-owner : goal.append-requires-clause-owner
+append-requires-clause-owner c =
+    let room = subst (λ (t : Held). length c.args.lines.now < t.order_room) (sym c.self.view_is) c.requires.room in
+    let parts = parted c.self.inside.are_open c.self.inside.order_room (length c.args.lines.now) c.self.inside.districts.items c.self.inside.orders c.self.inside.order_lines c.self.inside.new_orders c.self.invariant.ready room in
+    (owned c.self.inside.new_orders.owners (rows_of c.self.inside) c.args.order c.args.lines.now (subst (λ (t : Held). IsOrder t.rows c.args.order c.args.lines.now) (sym c.self.view_is) c.requires.order) parts.news).news
+
+pub append-requires-2-clause-owner : goal.append-requires-2-clause-owner
+append-requires-2-clause-owner c =
+    let room = subst (λ (t : Held). length c.args.lines.now < t.order_room) (sym c.self.view_is) c.requires.room in
+    let parts = parted c.self.inside.are_open c.self.inside.order_room (length c.args.lines.now) c.self.inside.districts.items c.self.inside.orders c.self.inside.order_lines c.self.inside.new_orders c.self.invariant.ready room in
+    (owned c.self.inside.orders.owners (rows_of c.self.inside) c.args.order c.args.lines.now (subst (λ (t : Held). IsOrder t.rows c.args.order c.args.lines.now) (sym c.self.view_is) c.requires.order) parts.orders).order

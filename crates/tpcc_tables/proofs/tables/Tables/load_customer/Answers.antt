@@ -1,4 +1,8 @@
-use Rattle.std.proofs.Common.{sym, subst, ◌∙◌, ◌≡◌, None}
+use Rattle.std.proofs.Common.{sym, subst, ap, ◌∙◌, ◌≡◌, None}
+use Rattle.tpcc_rows.specs.Lists.{by_key, inserted}
+use Rattle.tpcc_rows.specs.Tables.{customer_key}
+use Rattle.tpcc_keyed.specs.Names.{name_of, name_before}
+use Rattle.tpcc_keyed.proofs.NameLaws.{names_loaded}
 use Rattle.tpcc_tables.specs.Held.{Held}
 use Rattle.tpcc_tables.specs.View.{rows_of}
 use Rattle.tpcc_tables.specs.Loads.{customer_fault}
@@ -9,9 +13,8 @@ pub invariant_of-self-2 : goal.invariant_of-self-2
 invariant_of-self-2 c =
     let fault = subst (λ (t : Held). customer_fault t.rows c.args.row ≡ None) (sym c.self.view_is) (sym c.of_customer.ensures ∙ c.in_default.is) in
     record {
-      well_keyed = rw c.in_default-insert.ensures.inserted (loaded_customer (rows_of c.self.inside) c.args.row fault c.self.invariant.well_keyed);
-      order = c.self.invariant.order;
-      new_order = c.self.invariant.new_order;
-      lines = c.self.invariant.lines;
+      well_keyed = rw (c.insert_one.ensures, c.reserve.ensures.items) (loaded_customer (rows_of c.self.inside) c.args.row fault c.self.invariant.well_keyed);
+      names = rw (c.in_default-load.ensures.loaded, c.insert_one.ensures, c.reserve.ensures.items) (ap (inserted name_before (name_of c.args.row)) c.self.invariant.names ∙ sym (names_loaded (by_key customer_key) c.args.row c.self.inside.customers.items));
+      ready = c.self.invariant.ready;
       payments = c.self.invariant.payments;
     }

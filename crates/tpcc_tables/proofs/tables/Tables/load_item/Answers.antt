@@ -10,8 +10,7 @@ invariant_of-self-2 c =
     let fault = subst (λ (t : Held). item_fault t.rows c.args.row ≡ None) (sym c.self.view_is) (sym c.of_item.ensures ∙ c.in_default.is) in
     record {
       well_keyed = rw c.in_default-insert.ensures.inserted (loaded_item (rows_of c.self.inside) c.args.row fault c.self.invariant.well_keyed);
-      order = c.self.invariant.order;
-      new_order = c.self.invariant.new_order;
-      lines = c.self.invariant.lines;
+      names = c.self.invariant.names;
+      ready = c.self.invariant.ready;
       payments = c.self.invariant.payments;
     }

@@ -1,5 +1,6 @@
 use Rattle.std.proofs.Common.{sym, subst, ◌∙◌, ◌≡◌, None, arith}
 use Rattle.tpcc_tables.specs.Held.{Held}
+use Rattle.tpcc_tables.proofs.ReadyLemmas.{ready-kept, ready-grown}
 use Rattle.tpcc_tables.specs.View.{rows_of}
 use Rattle.tpcc_tables.specs.Loads.{new_order_fault}
 use Rattle.tpcc_tables.proofs.LoadLemmas.{loaded_new_order}
@@ -9,9 +10,17 @@ pub invariant_of-self-2 : goal.invariant_of-self-2
 invariant_of-self-2 c =
     let fault = subst (λ (t : Held). new_order_fault t.rows c.args.row ≡ None) (sym c.self.view_is) (sym c.of_new_order.ensures ∙ c.in_default.is) in
     record {
-      well_keyed = rw c.in_default-insert.ensures.inserted (loaded_new_order (rows_of c.self.inside) c.args.row fault c.self.invariant.well_keyed);
-      order = λ lt. absurd (omega (arith, lt));
-      new_order = λ lt. absurd (omega (arith, lt));
-      lines = λ lt. absurd (omega (arith, lt));
+      well_keyed = rw c.in_default-load.ensures.loaded (loaded_new_order (rows_of c.self.inside) c.args.row fault c.self.invariant.well_keyed);
+      names = c.self.invariant.names;
+      ready = ready-kept c.self.inside.are_open c.self.inside.order_room c.self.inside.districts.items c.self.inside.orders c.self.inside.orders c.self.inside.order_lines c.self.inside.order_lines c.self.inside.new_orders c.load.new.self (λ k h. h) (λ k h. h) c.load.ensures.kept c.self.invariant.ready;
+      payments = c.self.invariant.payments;
+    }
+
+pub invariant_of-self : goal.invariant_of-self
+invariant_of-self c =
+    record {
+      well_keyed = rw c.in-Err.ensures.same c.self.invariant.well_keyed;
+      names = c.self.invariant.names;
+      ready = ready-grown c.self.inside.are_open c.self.inside.order_room c.self.inside.districts.items c.self.inside.orders c.self.inside.orders c.self.inside.order_lines c.self.inside.order_lines c.self.inside.new_orders c.load.new.self (λ k h. h) (λ k h. h) c.in-Err.ensures.kept (omega arith) (omega arith) (omega (arith, c.in-Err.ensures.room)) c.self.invariant.ready;
       payments = c.self.invariant.payments;
     }

@@ -1,7 +1,10 @@
-use Rattle.std.proofs.Common.{rules, refl, sym, subst}
+use Rattle.std.proofs.Common.{rules, refl, sym, subst, ◌∙◌}
 use Rattle.tpcc_tables.specs.Held.{Held}
 use Rattle.tpcc_tables.specs.View.{rows_of}
-use Rattle.tpcc_tables.specs.Writes.{with_payment, IsPayment}
+use Rattle.tpcc_rows.specs.Tables.{is_district, is_customer}
+use Rattle.tpcc_tables.specs.Writes.{with_payment, IsPayment, richer_district, charged_customer}
+use Rattle.tpcc_keyed.proofs.NameLaws.{names_kept}
+use Rattle.tpcc_tables.proofs.ReadyLemmas.{ready-updated}
 use Rattle.tpcc_tables.proofs.PayLemmas.{payable, paid_is_well_keyed}
 use Rattle.tpcc_tables.proofs.tables.Tables.pay.Goals as goal
 
@@ -36,9 +39,8 @@ invariant_of-self c =
     let k = subst (λ (t : Held). IsPayment t.rows c.args.history c.args.information) (sym c.self.view_is) c.requires.payment in
     record {
       well_keyed = rw (c.pay_warehouse.ensures, c.pay_district.ensures, c.pay_customer.ensures, c.append_history.ensures) (paid_is_well_keyed (rows_of c.self.inside) c.args.history c.args.information k c.self.invariant.well_keyed);
-      order = c.self.invariant.order;
-      new_order = c.self.invariant.new_order;
-      lines = c.self.invariant.lines;
+      names = rw c.pay_customer.ensures (c.self.invariant.names ∙ sym (names_kept (is_customer c.args.history.customer_warehouse c.args.history.customer_district c.args.history.customer) (charged_customer c.args.history.amount c.args.information) (λ x. refl) c.self.inside.customers.items));
+      ready = rw c.pay_district.ensures (ready-updated c.self.inside.are_open c.self.inside.order_room (is_district c.args.history.warehouse c.args.history.district) (richer_district c.args.history.amount) c.self.inside.districts.items c.self.inside.orders c.self.inside.order_lines c.self.inside.new_orders (λ d. refl) c.self.invariant.ready);
       payments = search rules;
     }
 

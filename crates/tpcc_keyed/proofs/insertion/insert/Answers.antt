@@ -1,0 +1,16 @@
+use Rattle.std.proofs.Common.{◌∙◌, ap, not, insert, arith}
+use Rattle.std.specs.List.{prefix_len}
+use Rattle.std.proofs.lemmas.List.Sums.{prefix_len-le-length}
+use Rattle.tpcc_rows.specs.Lists.{by_key}
+use Rattle.tpcc_rows.proofs.BodyLemmas.{insert_is_inserted}
+use Rattle.tpcc_keyed.proofs.insertion.insert.Goals as goal
+
+pub insert-requires : goal.insert-requires
+insert-requires g c =
+    let place = c.place_for-place.ensures ∙ ap (prefix_len (λ row. not (by_key g.T.Keyed.key c.args.added row))) c.as_slice.ensures.value in
+    omega (arith, place, prefix_len-le-length (λ row. not (by_key g.T.Keyed.key c.args.added row)) c.args.rows.now.items)
+
+pub returns-in-Ok-clause-inserted : goal.returns-in-Ok-clause-inserted
+returns-in-Ok-clause-inserted g c =
+    let place = c.place_for-place.ensures ∙ ap (prefix_len (λ row. not (by_key g.T.Keyed.key c.args.added row))) c.as_slice.ensures.value in
+    c.in-Ok.ensures.items ∙ ap (λ i. insert c.args.rows.now.items i c.args.added) place ∙ insert_is_inserted (by_key g.T.Keyed.key) c.args.added c.args.rows.now.items

@@ -1,0 +1,24 @@
+use Rattle.std.proofs.Common.{◌∙◌, ap, not, insert, arith}
+use Rattle.std.specs.List.{prefix_len}
+use Rattle.std.proofs.lemmas.List.Sums.{prefix_len-le-length}
+use Rattle.tpcc_rows.proofs.BodyLemmas.{insert_is_inserted}
+use Rattle.tpcc_keyed.specs.Names.{name_before, is_in_order}
+use Rattle.tpcc_keyed.proofs.OrderLemmas.{in_order-inserted}
+use Rattle.tpcc_keyed.proofs.NameLemmas.{name_order}
+use Rattle.tpcc_keyed.proofs.names.insert.Goals as goal
+
+pub insert-requires : goal.insert-requires
+insert-requires c =
+    let place = c.place_for-place.ensures ∙ ap (prefix_len (λ name. not (name_before c.args.added name))) c.as_slice.ensures.value in
+    omega (arith, place, prefix_len-le-length (λ name. not (name_before c.args.added name)) c.args.names.now.items)
+
+pub returns-in-Ok-clause-inserted : goal.returns-in-Ok-clause-inserted
+returns-in-Ok-clause-inserted c =
+    let place = c.place_for-place.ensures ∙ ap (prefix_len (λ name. not (name_before c.args.added name))) c.as_slice.ensures.value in
+    c.in-Ok.ensures.items ∙ ap (λ i. insert c.args.names.now.items i c.args.added) place ∙ insert_is_inserted name_before c.args.added c.args.names.now.items
+
+pub returns-in-Ok-clause-order : goal.returns-in-Ok-clause-order
+returns-in-Ok-clause-order c =
+    let place = c.place_for-place.ensures ∙ ap (prefix_len (λ name. not (name_before c.args.added name))) c.as_slice.ensures.value in
+    ap (is_in_order name_before) (c.in-Ok.ensures.items ∙ ap (λ i. insert c.args.names.now.items i c.args.added) place ∙ insert_is_inserted name_before c.args.added c.args.names.now.items)
+    ∙ in_order-inserted name_before name_order c.args.added c.args.names.now.items c.requires.order

@@ -1,0 +1,6 @@
+use Rattle.std.proofs.Common.{arith}
+use Rattle.tpcc_keyed.proofs.NameLemmas.{named_from_start}
+use Rattle.tpcc_keyed.proofs.names.place_of.Goals as goal
+
+pub returns-clause-order : goal.returns-clause-order
+returns-clause-order c = omega (arith, c.start_of-start.ensures.start, c.end_of-end.ensures.end, named_from_start c.args.warehouse c.args.district c.args.last.now c.args.names.now)

@@ -1,0 +1,20 @@
+use Rattle.std.proofs.Common.{◌+◌, ◌-◌, refl, subst, sym, take, drop, length}
+use Rattle.std.proofs.lemmas.List.{take_rest}
+use Rattle.tpcc_keyed.specs.declared.parts.part.Part.{Part}
+use Rattle.tpcc_keyed.specs.PartWords.{AreRead}
+use Rattle.tpcc_keyed.proofs.ReadLemmas.{ascending_rest, run_further, run_read}
+use Rattle.tpcc_keyed.proofs.parts.reading.read_run.Goals as goal
+
+pub run_len-count-requires : goal.run_len-count-requires
+run_len-count-requires g c = record {
+  keyed = ascending_rest g.T.Keyed.key c.args.start c.args.rows.now (take (length c.args.rows.now - c.args.start) (drop c.args.start c.args.rows.now)) (take_rest c.args.rows.now c.args.start) c.requires.keyed;
+}
+
+pub returns : goal.returns
+returns g c =
+    let run : Part g.row.T.Denot = record { owner = c.owner-owner.result; rows = c.in-Ok.run' } in
+    let seen = take (length c.args.rows.now - c.args.start) (drop c.args.start c.args.rows.now) in (
+      run_further g.T.Keyed.key c.args.rows.now c.requires.keyed c.args.start c.args.parts.now.items c.requires.read c.requires.more seen (take_rest c.args.rows.now c.args.start) c.index-rest-0.result c.index-rest-0.is c.owner-owner.result c.owner-owner.ensures c.run_len-count.result c.run_len-count.ensures run refl c.in-Ok.ensures.items,
+      subst (AreRead g.T.Keyed.key c.args.rows.now (c.args.start + c.run_len-count.result)) (sym c.in-Ok-push.ensures.items)
+          (run_read g.T.Keyed.key c.args.rows.now c.requires.keyed c.args.start c.args.parts.now.items c.requires.read c.requires.more seen (take_rest c.args.rows.now c.args.start) c.index-rest-0.result c.index-rest-0.is c.owner-owner.result c.owner-owner.ensures c.run_len-count.result c.run_len-count.ensures run refl c.in-Ok.ensures.items),
+    )

@@ -1,0 +1,5 @@
+pub mod Searches
+pub mod Parts
+pub mod PartWords
+pub mod PartsView
+pub mod Names

@@ -1,0 +1,280 @@
+//! Rows with a primary key.
+ghost use Rattle.std.specs.Prelude.{[], ◌∷◌, ◌≡◌, take};
+ghost use Rattle.tpcc_rows.specs.Lists.{key_before};
+ghost use Rattle.tpcc_keyed.specs.Searches.{is_same_key};
+ghost use Rattle.tpcc_keyed.specs.Parts.{district_numbers};
+
+use tpcc_rows::keys::*;
+use tpcc_rows::rows::*;
+
+/// A row whose key is a list of numbers; the first that differs decides.
+pub trait Keyed: Copy {
+    ghost use Rattle.std.specs.Prelude.{ℕ, List};
+
+    /// The columns of the key alone.
+    type Key;
+
+    ghost key: { Self → List ℕ };
+
+    ghost numbers: { Self.Key → List ℕ };
+
+    fn comes_before(&self, other: &Self) -> bool
+        ensures { result ≡ key_before (key self.now) (key other.now) };
+
+    fn is_before(&self, sought: &Self::Key) -> bool
+        ensures { result ≡ key_before (key self.now) (numbers sought.now) };
+
+    fn has_key(&self, sought: &Self::Key) -> bool
+        ensures { result ≡ is_same_key (key self.now) (numbers sought.now) };
+}
+
+/// A row of a district: the key begins with the district's two numbers.
+pub trait Owned: Keyed {
+    fn owner(&self) -> DistrictKey
+        ensures { district_numbers result ≡ take 2 (Self.key self.now) };
+
+    fn owner_of(key: &Self::Key) -> DistrictKey
+        ensures { district_numbers result ≡ take 2 (Self.numbers key.now) };
+}
+
+impl Keyed for WarehouseRow {
+    type Key = WarehouseKey;
+
+    ghost use Rattle.tpcc_rows.specs.Tables.{warehouse_key};
+
+    ghost key = { warehouse_key };
+
+    ghost numbers = { λ k. k.warehouse ∷ [] };
+
+    fn comes_before(&self, other: &WarehouseRow) -> bool {
+        self.id < other.id
+    }
+
+    fn is_before(&self, sought: &WarehouseKey) -> bool {
+        self.id < sought.warehouse
+    }
+
+    fn has_key(&self, sought: &WarehouseKey) -> bool {
+        self.id == sought.warehouse
+    }
+}
+
+impl Keyed for DistrictRow {
+    type Key = DistrictKey;
+
+    ghost use Rattle.tpcc_rows.specs.Tables.{district_key};
+
+    ghost key = { district_key };
+
+    ghost numbers = { λ k. k.warehouse ∷ k.district ∷ [] };
+
+    fn comes_before(&self, other: &DistrictRow) -> bool {
+        (self.warehouse, self.id) < (other.warehouse, other.id)
+    }
+
+    fn is_before(&self, sought: &DistrictKey) -> bool {
+        (self.warehouse, self.id) < (sought.warehouse, sought.district)
+    }
+
+    fn has_key(&self, sought: &DistrictKey) -> bool {
+        self.warehouse == sought.warehouse && self.id == sought.district
+    }
+}
+
+impl Keyed for CustomerRow {
+    type Key = CustomerKey;
+
+    ghost use Rattle.tpcc_rows.specs.Tables.{customer_key};
+
+    ghost key = { customer_key };
+
+    ghost numbers = { λ k. k.warehouse ∷ k.district ∷ k.customer ∷ [] };
+
+    fn comes_before(&self, other: &CustomerRow) -> bool {
+        (self.warehouse, self.district, self.id) < (other.warehouse, other.district, other.id)
+    }
+
+    fn is_before(&self, sought: &CustomerKey) -> bool {
+        (self.warehouse, self.district, self.id)
+            < (sought.warehouse, sought.district, sought.customer)
+    }
+
+    fn has_key(&self, sought: &CustomerKey) -> bool {
+        self.warehouse == sought.warehouse
+            && self.district == sought.district
+            && self.id == sought.customer
+    }
+}
+
+impl Keyed for OrderRow {
+    type Key = OrderKey;
+
+    ghost use Rattle.tpcc_rows.specs.Tables.{order_key};
+
+    ghost key = { order_key };
+
+    ghost numbers = { λ k. k.warehouse ∷ k.district ∷ k.order ∷ [] };
+
+    fn comes_before(&self, other: &OrderRow) -> bool {
+        (self.warehouse, self.district, self.id) < (other.warehouse, other.district, other.id)
+    }
+
+    fn is_before(&self, sought: &OrderKey) -> bool {
+        (self.warehouse, self.district, self.id) < (sought.warehouse, sought.district, sought.order)
+    }
+
+    fn has_key(&self, sought: &OrderKey) -> bool {
+        self.warehouse == sought.warehouse
+            && self.district == sought.district
+            && self.id == sought.order
+    }
+}
+
+impl Keyed for OrderLineRow {
+    type Key = OrderLineKey;
+
+    ghost use Rattle.tpcc_rows.specs.Tables.{order_line_key};
+
+    ghost key = { order_line_key };
+
+    ghost numbers = { λ k. k.warehouse ∷ k.district ∷ k.order ∷ k.number ∷ [] };
+
+    fn comes_before(&self, other: &OrderLineRow) -> bool {
+        (self.warehouse, self.district, self.order, self.number)
+            < (other.warehouse, other.district, other.order, other.number)
+    }
+
+    fn is_before(&self, sought: &OrderLineKey) -> bool {
+        (self.warehouse, self.district, self.order, self.number)
+            < (
+                sought.warehouse,
+                sought.district,
+                sought.order,
+                sought.number,
+            )
+    }
+
+    fn has_key(&self, sought: &OrderLineKey) -> bool {
+        self.warehouse == sought.warehouse
+            && self.district == sought.district
+            && self.order == sought.order
+            && self.number == sought.number
+    }
+}
+
+impl Keyed for NewOrderRow {
+    type Key = NewOrderKey;
+
+    ghost use Rattle.tpcc_rows.specs.Tables.{new_order_key};
+
+    ghost key = { new_order_key };
+
+    ghost numbers = { λ k. k.warehouse ∷ k.district ∷ k.order ∷ [] };
+
+    fn comes_before(&self, other: &NewOrderRow) -> bool {
+        (self.warehouse, self.district, self.order) < (other.warehouse, other.district, other.order)
+    }
+
+    fn is_before(&self, sought: &NewOrderKey) -> bool {
+        (self.warehouse, self.district, self.order)
+            < (sought.warehouse, sought.district, sought.order)
+    }
+
+    fn has_key(&self, sought: &NewOrderKey) -> bool {
+        self.warehouse == sought.warehouse
+            && self.district == sought.district
+            && self.order == sought.order
+    }
+}
+
+impl Keyed for ItemRow {
+    type Key = ItemKey;
+
+    ghost use Rattle.tpcc_rows.specs.Tables.{item_key};
+
+    ghost key = { item_key };
+
+    ghost numbers = { λ k. k.item ∷ [] };
+
+    fn comes_before(&self, other: &ItemRow) -> bool {
+        self.id < other.id
+    }
+
+    fn is_before(&self, sought: &ItemKey) -> bool {
+        self.id < sought.item
+    }
+
+    fn has_key(&self, sought: &ItemKey) -> bool {
+        self.id == sought.item
+    }
+}
+
+impl Keyed for StockRow {
+    type Key = StockKey;
+
+    ghost use Rattle.tpcc_rows.specs.Tables.{stock_key};
+
+    ghost key = { stock_key };
+
+    ghost numbers = { λ k. k.warehouse ∷ k.item ∷ [] };
+
+    fn comes_before(&self, other: &StockRow) -> bool {
+        (self.warehouse, self.item) < (other.warehouse, other.item)
+    }
+
+    fn is_before(&self, sought: &StockKey) -> bool {
+        (self.warehouse, self.item) < (sought.warehouse, sought.item)
+    }
+
+    fn has_key(&self, sought: &StockKey) -> bool {
+        self.warehouse == sought.warehouse && self.item == sought.item
+    }
+}
+
+impl Owned for OrderRow {
+    fn owner(&self) -> DistrictKey {
+        DistrictKey {
+            warehouse: self.warehouse,
+            district: self.district,
+        }
+    }
+
+    fn owner_of(key: &OrderKey) -> DistrictKey {
+        DistrictKey {
+            warehouse: key.warehouse,
+            district: key.district,
+        }
+    }
+}
+
+impl Owned for OrderLineRow {
+    fn owner(&self) -> DistrictKey {
+        DistrictKey {
+            warehouse: self.warehouse,
+            district: self.district,
+        }
+    }
+
+    fn owner_of(key: &OrderLineKey) -> DistrictKey {
+        DistrictKey {
+            warehouse: key.warehouse,
+            district: key.district,
+        }
+    }
+}
+
+impl Owned for NewOrderRow {
+    fn owner(&self) -> DistrictKey {
+        DistrictKey {
+            warehouse: self.warehouse,
+            district: self.district,
+        }
+    }
+
+    fn owner_of(key: &NewOrderKey) -> DistrictKey {
+        DistrictKey {
+            warehouse: key.warehouse,
+            district: key.district,
+        }
+    }
+}

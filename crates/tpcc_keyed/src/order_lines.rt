@@ -1,0 +1,52 @@
+//! The lines of one order, which lie side by side in their district's part.
+ghost use Rattle.std.specs.Prelude.{◌≡◌, filter, true, Some, vec_capacity};
+ghost use Rattle.tpcc_rows.specs.Lists.{is_ascending, updated};
+ghost use Rattle.tpcc_rows.specs.Tables.{is_line_of, order_line_key};
+
+use crate::parts::Parts;
+use crate::parts::part::Part;
+use crate::parts::place::place_of;
+use crate::runs;
+use tpcc_money::Moment;
+use tpcc_rows::DistrictKey;
+use tpcc_rows::rows::OrderLineRow;
+
+fn stamp(part: &mut Part<OrderLineRow>, warehouse: u32, district: u32, order: u32, moment: Moment)
+    requires keyed { is_ascending order_line_key part.old.rows.items ≡ true }
+    ensures owner { part.new.owner ≡ part.old.owner }
+    ensures rows { part.new.rows.items ≡ updated (is_line_of warehouse district order) (λ l. record l { delivered = Some moment }) part.old.rows.items }
+    ensures capacity { vec_capacity part.new.rows ≡ vec_capacity part.old.rows }
+{
+    runs::stamp(&mut part.rows, warehouse, district, order, moment);
+}
+
+impl Parts<OrderLineRow> {
+    /// The lines of an order.
+    pub fn lines_of(&self, warehouse: u32, district: u32, order: u32) -> &[OrderLineRow]
+        requires keyed { is_ascending order_line_key self.now.rows ≡ true }
+        ensures { result.now ≡ filter (is_line_of warehouse district order) self.now.rows }
+    {
+        let part = self.part(DistrictKey {
+            warehouse,
+            district,
+        });
+        runs::lines_of(part, warehouse, district, order)
+    }
+
+    /// The moment of delivery of an order's lines, set.
+    pub fn stamp(&mut self, warehouse: u32, district: u32, order: u32, moment: Moment)
+        requires keyed { is_ascending order_line_key self.old.rows ≡ true }
+        ensures rows { self.new.rows ≡ updated (is_line_of warehouse district order) (λ l. record l { delivered = Some moment }) self.old.rows }
+        ensures owners { self.new.owners ≡ self.old.owners }
+        ensures room { self.new.room ≡ self.old.room }
+    {
+        let owner = DistrictKey {
+            warehouse,
+            district,
+        };
+        let Some(place) = place_of(self.parts.as_slice(), owner) else {
+            return;
+        };
+        stamp(&mut self.parts[place], warehouse, district, order, moment);
+    }
+}

@@ -1,0 +1,32 @@
+//! Room for more rows in each part.
+ghost use Rattle.std.specs.Prelude.{◌≡◌, ◌≤◌, ℕ, All, OnOk, map, vec_capacity};
+ghost use Rattle.tpcc_keyed.specs.PartWords.{shown, HasRoom};
+
+use crate::keyed::Owned;
+use crate::parts::part::Part;
+use tpcc_money::NoMemory;
+
+/// Room for so many more rows in a part. A refused growth leaves its rows and its room.
+fn grow<T: Owned>(part: &mut Part<T>, room: usize) -> Result<(), NoMemory>
+    ensures owner { part.new.owner ≡ part.old.owner }
+    ensures rows { part.new.rows.items ≡ part.old.rows.items }
+    ensures capacity { vec_capacity part.old.rows ≤ vec_capacity part.new.rows }
+    ensures grown { OnOk result (HasRoom room part.new) }
+{
+    match part.rows.reserve(room) {
+        Ok(()) => Ok(()),
+        Err(_) => Err(NoMemory),
+    }
+}
+
+/// Room for so many more rows in each part. A refused growth leaves all rows and the room there was.
+pub fn grow_all<T: Owned>(parts: &mut Vec<Part<T>>, room: usize) -> Result<(), NoMemory>
+    ensures same { map shown parts.new.items ≡ map shown parts.old.items }
+    ensures kept { (less : ℕ) → All (HasRoom less) parts.old.items → All (HasRoom less) parts.new.items }
+    ensures grown { OnOk result (All (HasRoom room) parts.new.items) }
+{
+    for place in 0..parts.len() {
+        grow(&mut parts[place], room)?;
+    }
+    Ok(())
+}

@@ -1,0 +1,33 @@
+//! Rows searched by halves, in ascending order of their keys.
+ghost use Rattle.std.specs.Prelude.{◌≡◌, find, position, true};
+ghost use Rattle.std.specs.Option.{option_copied};
+ghost use Rattle.tpcc_rows.specs.Lists.{is_ascending, key_before};
+ghost use Rattle.tpcc_keyed.specs.Searches.{is_same_key};
+
+use crate::keyed::Keyed;
+
+/// The place of the row of a key.
+pub fn place_of<T: Keyed>(rows: &[T], key: &T::Key) -> Option<usize>
+    requires keyed { is_ascending T.key rows.now ≡ true }
+    ensures { result ≡ position (λ row. is_same_key (T.key row) (T.numbers key.now)) rows.now }
+{
+    let place = rows.partition_point(
+        |row: &T| -> bool
+            ensures { result ≡ key_before (T.key row.now) (T.numbers key.entry.now) }
+        { row.is_before(key) },
+    );
+    let row = rows.get(place)?;
+    if row.has_key(key) {
+        return Some(place);
+    }
+    None
+}
+
+/// The row of a key.
+pub fn find<'a, T: Keyed>(rows: &'a [T], key: &T::Key) -> Option<&'a T>
+    requires keyed { is_ascending T.key rows.now ≡ true }
+    ensures { option_copied result ≡ find (λ row. is_same_key (T.key row) (T.numbers key.now)) rows.now }
+{
+    let place = place_of(rows, key)?;
+    Some(&rows[place])
+}

@@ -1,8 +1,0 @@
-use Rattle.std.proofs.Common.{◌∙◌, [], ◌∷◌}
-use Rattle.tpcc_rows.specs.Tables.{is_new_order, new_order_key}
-use Rattle.tpcc_tables.specs.Searches.{is_same_key}
-use Rattle.tpcc_tables.proofs.SearchLemmas.{same_position, new_order_test}
-use Rattle.tpcc_tables.proofs.delivery.place_of_new_order.Goals as goal
-
-pub returns : goal.returns
-returns c = c.place_of.ensures ∙ same_position (λ row. is_same_key (new_order_key row) (c.args.warehouse ∷ c.args.district ∷ c.args.order ∷ [])) (is_new_order c.args.warehouse c.args.district c.args.order) (new_order_test c.args.warehouse c.args.district c.args.order) c.args.rows.now
