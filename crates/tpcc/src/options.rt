@@ -6,7 +6,7 @@ ghost use Rattle.tpcc_run.specs.Outcome.{IsPlan};
 
 use crate::fault::ProgramFault;
 use clap::error::ErrorKind;
-use clap::{Arg, ArgAction, ArgMatches, Command, value_parser};
+use clap::{Arg, ArgAction, ArgMatches, Command, Error, value_parser};
 use std::alloc::{AllocError, Global};
 use std::convert::AsStr;
 use tpcc_audit::table_named;
@@ -61,6 +61,7 @@ impl Asked {
     }
 }
 
+// An option whose value is a number.
 fn number<'a>(alloc: Global, name: &'static str) -> Arg<'a> {
     Arg::new(alloc, name)
         .long(name)
@@ -68,41 +69,75 @@ fn number<'a>(alloc: Global, name: &'static str) -> Arg<'a> {
         .value_parser(value_parser!(u32))
 }
 
-/// A command with the options of the opening.
-fn with_opening<'a>(alloc: Global, name: &'static str) -> Result<Command<'a>, AllocError> {
-    let seed = Arg::new(alloc, "seed")
+fn seed<'a>(alloc: Global) -> Arg<'a> {
+    Arg::new(alloc, "seed")
         .long("seed")
         .action(ArgAction::Set)
-        .value_parser(value_parser!(u64));
-    let moment = number(alloc, "moment");
-    let seeded = Arg::new(alloc, "seeded")
+        .value_parser(value_parser!(u64))
+}
+
+fn seeded<'a>(alloc: Global) -> Arg<'a> {
+    Arg::new(alloc, "seeded")
         .long("seeded")
-        .action(ArgAction::SetTrue);
-    Command::new(alloc, name)
-        .arg(number(alloc, "warehouses"))?
-        .arg(number(alloc, "customers"))?
-        .arg(number(alloc, "items"))?
-        .arg(seed)?
-        .arg(moment)?
-        .arg(seeded)
+        .action(ArgAction::SetTrue)
+}
+
+fn table<'a>(alloc: Global) -> Arg<'a> {
+    Arg::new(alloc, "table")
+        .required(true)
+        .action(ArgAction::Set)
+}
+
+// The command with an option more, where it was made.
+fn with_option<'a>(
+    command: Result<Command<'a>, AllocError>,
+    option: Arg<'a>,
+) -> Result<Command<'a>, AllocError> {
+    command?.arg(option)
+}
+
+fn with_number<'a>(
+    alloc: Global,
+    command: Result<Command<'a>, AllocError>,
+    name: &'static str,
+) -> Result<Command<'a>, AllocError> {
+    with_option(command, number(alloc, name))
+}
+
+// A command with the options of the opening.
+fn with_opening<'a>(alloc: Global, name: &'static str) -> Result<Command<'a>, AllocError> {
+    let command = with_number(alloc, Ok(Command::new(alloc, name)), "warehouses");
+    let command = with_number(alloc, command, "customers");
+    let command = with_number(alloc, command, "items");
+    let command = with_option(command, seed(alloc));
+    let command = with_number(alloc, command, "moment");
+    with_option(command, seeded(alloc))
+}
+
+fn dump<'a>(alloc: Global) -> Result<Command<'a>, AllocError> {
+    with_option(with_opening(alloc, "dump"), table(alloc))
+}
+
+fn run<'a>(alloc: Global) -> Result<Command<'a>, AllocError> {
+    let command = with_number(alloc, with_opening(alloc, "run"), "terminals");
+    let command = with_number(alloc, command, "servers");
+    let command = with_number(alloc, command, "cards");
+    with_number(alloc, command, "retire")
+}
+
+// The program with a command more, where that was made.
+fn with_command<'a>(
+    program: Command<'a>,
+    command: Result<Command<'a>, AllocError>,
+) -> Result<Command<'a>, AllocError> {
+    program.subcommand(command?)
 }
 
 fn program<'a>(alloc: Global) -> Result<Command<'a>, AllocError> {
-    let script = with_opening(alloc, "script")?;
-    let run = with_opening(alloc, "run")?
-        .arg(number(alloc, "terminals"))?
-        .arg(number(alloc, "servers"))?
-        .arg(number(alloc, "cards"))?
-        .arg(number(alloc, "retire"))?;
-    let table = Arg::new(alloc, "table")
-        .required(true)
-        .action(ArgAction::Set);
-    let dump = with_opening(alloc, "dump")?.arg(table)?;
-    Command::new(alloc, "tpcc")
-        .subcommand_required(true)
-        .subcommand(script)?
-        .subcommand(dump)?
-        .subcommand(run)
+    let program = Command::new(alloc, "tpcc").subcommand_required(true);
+    let program = with_command(program, with_opening(alloc, "script"))?;
+    let program = with_command(program, dump(alloc))?;
+    with_command(program, run(alloc))
 }
 
 // A number of an option's range.
@@ -191,11 +226,23 @@ pub fn read_words<'a, S: AsStr>(alloc: Global, words: &'a [S]) -> Result<Asked, 
         return Err(ProgramFault::NoMemory);
     };
     match command.try_get_matches_from(words) {
-        Ok(matches) => match matches.subcommand() {
-            Some((name, options)) => read_options(read_task(name, options)?, options),
-            None => Err(ProgramFault::Arguments),
-        },
-        Err(error) if error.kind() == ErrorKind::OutOfMemory => Err(ProgramFault::NoMemory),
-        Err(_) => Err(ProgramFault::Arguments),
+        Ok(matches) => read_matches(&matches),
+        Err(error) => Err(fault_of(&error)),
+    }
+}
+
+fn read_matches(matches: &ArgMatches<'_>) -> Result<Asked, ProgramFault>
+    ensures plan { IfOk result (λ asked. HasPlan asked.task) }
+{
+    match matches.subcommand() {
+        Some((name, options)) => read_options(read_task(name, options)?, options),
+        None => Err(ProgramFault::Arguments),
+    }
+}
+
+fn fault_of(error: &Error) -> ProgramFault {
+    match error.kind() {
+        ErrorKind::OutOfMemory => ProgramFault::NoMemory,
+        _ => ProgramFault::Arguments,
     }
 }
