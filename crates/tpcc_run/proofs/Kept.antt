@@ -1,5 +1,5 @@
 -- Receipts that were kept stand in the fronts of purses that were kept.
-use Rattle.std.proofs.Common.{◌≡◌, ℕ, zero, suc, ◌+◌, ◌<◌, List, [], ◌∷◌, ◌++◌, length, slice_index_or, refl, sym, subst, Some, arith, All, ⊎_elim}
+use Rattle.std.proofs.Common.{◌≡◌, ℕ, zero, suc, List, [], ◌∷◌, ◌++◌, length, refl, sym, subst, Some, arith, ⊎_elim}
 use Rattle.std.specs.Prelude.{slice_get, Bool, true, false, if◌then◌else◌}
 use Rattle.std.proofs.lemmas.List.{length-append, get_or_append_left}
 use Rattle.std.proofs.lemmas.List.Elements.{All-append}

@@ -5,6 +5,7 @@ use Rattle.tpcc_population.specs.declared.opening.Opening.{Opening}
 use Rattle.tpcc_book.specs.Past.{Past, IsKept, rise_of}
 use Rattle.tpcc_terminal.specs.declared.receipts.Receipt.{Receipt}
 use Rattle.tpcc_terminal.specs.Report.{report_text}
+use Rattle.tpcc_audit.specs.declared.settlement.Totals.{Totals}
 use Rattle.tpcc_run.specs.declared.plan.Plan.{Plan}
 
 -- the ranges of a plan
@@ -15,6 +16,15 @@ pub record IsPlan (plan : Plan) : Type 0 where
   pub servers_most : plan.servers ≤ 16
   pub cards_most : plan.cards ≤ 100000
   pub retire_most : plan.retire ≤ 100000
+
+-- the totals of a book of the opening: its entries, what its purses paid, and the rise of W_YTD
+pub record HasTotals (opening : Opening) (totals : Totals) : Type 0 where
+  pub book : Past
+  pub opening_is : book.opening ≡ opening
+  pub kept : IsKept book
+  pub entries_is : totals.entries ≡ length book.entries
+  pub paid_is : totals.paid ≡ rise_of book
+  pub rise_is : totals.rise ≡ rise_of book
 
 -- the report of a book of the opening: its entries, and what its purses paid, which is the rise of W_YTD
 pub record HasReported (opening : Opening) (before after : Option (List ℕ)) : Type 0 where

@@ -67,6 +67,17 @@ pub(crate) fn ask_once<N: Naming, T: Seating, C: Turning, R: Wait>(
     }
 }
 
+/// Nothing was asked, since memory was refused.
+pub(crate) fn stopped<N: Naming, T: Seating, C>(operator: Operator<N, T, C>) -> Asked<N, T, C>
+    ensures operator { result.operator ≡ Some operator }
+{
+    Asked {
+        operator: Some(operator),
+        delivered: false,
+        fault: Some(RunFault::NoMemory),
+    }
+}
+
 // Keeps the receipt, or tells that there was no room for it.
 fn note<N: Naming, T: Seating>(
     terminal: &mut Terminal,

@@ -3,15 +3,14 @@ ghost use Rattle.std.specs.Prelude.{◌≡◌, IfSome};
 ghost use Rattle.tpcc_mailbox.specs.Tokens.{identity, idle_origin};
 ghost use Rattle.tpcc_terminal.specs.Receipts.{AllStand};
 
-use crate::asking::{Asked, ask_once};
+use crate::asking::Asked;
 use crate::operator::Operator;
 use crate::plan::Plan;
 use crate::promises::Back;
-use crate::terminals::stopped;
+use crate::terminals::{Role, ask_next};
 use std::alloc::{AllocError, Global};
 use std::sync::Wait;
 use tpcc_book::{Naming, Seating};
-use tpcc_rows::Request;
 use tpcc_server::{JobMailboxes, Turning};
 
 /// Asks for deliveries until none is queued or one is refused (2.7.2).
@@ -37,14 +36,19 @@ pub(crate) fn drain<
     let moment = plan.moment;
     let mut operator = operator;
     for _ in rt.forever() {
-        let Ok(call) = make(alloc) else {
-            return stopped(operator);
-        };
         let Asked {
             operator: back,
             delivered,
             fault,
-        } = ask_once(rt, mailboxes, operator, Request::Deliver(moment), call);
+        } = ask_next(
+            rt,
+            alloc,
+            mailboxes,
+            operator,
+            Role::Deliveries,
+            make,
+            moment,
+        );
         let goes_on = delivered && fault.is_none();
         match back {
             Some(home) if goes_on => operator = home,

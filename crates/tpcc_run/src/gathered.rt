@@ -29,6 +29,17 @@ impl<N: Naming, T: Seating> Gathered<N, T> {
         }
     }
 
+    // Of a run whose first growth was refused.
+    pub(crate) fn refused(alloc: Global) -> Gathered<N, T>
+        ensures receipts { result.receipts.items ≡ [] }
+    {
+        Gathered {
+            purses: Vec::new(alloc),
+            receipts: Vec::new(alloc),
+            fault: Some(RunFault::NoMemory),
+        }
+    }
+
     // Want of memory comes before a purse that is missing.
     pub(crate) fn note(&mut self, fault: RunFault)
         requires seen { AllSeen self.old.purses.items self.old.receipts.items }

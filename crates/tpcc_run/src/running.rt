@@ -1,9 +1,8 @@
 //! A run.
-ghost use Rattle.std.specs.Prelude.{◌≡◌, ◌≤◌, IfOk};
+ghost use Rattle.std.specs.Prelude.{◌≡◌, IfOk};
 ghost use Rattle.tpcc_population.specs.declared.opening.Opening.{Opening};
-ghost use Rattle.std.specs.Io.KnownBytes.{Appends};
-ghost use Rattle.tpcc_terminal.specs.Report.{report_text};
-ghost use Rattle.tpcc_run.specs.Outcome.{HasReported, IsPlan};
+ghost use Rattle.tpcc_audit.specs.Settlement.{AllSeen};
+ghost use Rattle.tpcc_run.specs.Outcome.{HasReported, HasTotals, IsPlan};
 
 use crate::fault::RunFault;
 use crate::gathered::Gathered;
@@ -15,10 +14,11 @@ use std::marker::Brand;
 use std::sync::Wait;
 use std::thread::Threads;
 use tpcc_audit::{Totals, report, settle};
-use tpcc_book::{Blanks, Naming, Seating, UnnamedTurns};
+use tpcc_book::{Blanks, Naming, SeatedPurse, Seating, Turns, UnnamedTurns};
 use tpcc_mailbox::Mailboxes;
 use tpcc_population::{Opening, Scale};
 use tpcc_server::{Job, JobAnswer, Turning};
+use tpcc_terminal::Receipt;
 
 /// Runs terminals, servers and a delivery runner on the book of an opening, each in a thread of its own;
 /// `make` gives the call of each job. Once all are joined it settles the book with the purses and writes
@@ -36,7 +36,7 @@ pub fn run<
     requires make { F.IsAlwaysCallable make }
     ensures reported { IfOk result (λ w. HasReported opening.now (W.contents out) (W.contents w)) }
 {
-    by_name::<Brand, W, C, F, R>(rt, alloc, opening, plan, out, make, Blanks::new())
+    by_name::<Brand, W, C, F, R>(rt, alloc, opening, plan, out, &make, Blanks::new())
 }
 
 // The same with a name for the book.
@@ -52,34 +52,27 @@ fn by_name<
     opening: &Opening,
     plan: &Plan,
     out: W,
-    make: F,
+    make: &F,
     blanks: Blanks,
 ) -> Result<W, RunFault>
     requires plan { IsPlan plan.now }
-    requires make { F.IsAlwaysCallable make }
+    requires make { F.IsAlwaysCallable make.now }
     requires entries { blanks.entries.name ≡ N.entries }
     requires cents { blanks.cents.name ≡ N.cents }
     ensures reported { IfOk result (λ w. HasReported opening.now (W.contents out) (W.contents w)) }
 {
-    match UnnamedTurns::<N>::start(alloc, opening, blanks) {
-        Ok(turns) => by_seats::<N, Brand, W, C, F, R>(
-            rt,
-            alloc,
-            scale_of(opening),
-            plan,
-            out,
-            make,
-            turns,
-        ),
-        Err(_) => Err(RunFault::NoMemory),
-    }
+    let scale = scale_of(opening);
+    let Ok(turns) = UnnamedTurns::<N>::start(alloc, opening, blanks) else {
+        return Err(RunFault::NoMemory);
+    };
+    let totals = by_seats::<N, Brand, C, F, R>(rt, alloc, scale, plan, make, turns)?;
+    written(&totals, out, opening)
 }
 
-// The same with a name for the seats.
+// What the run comes to, with a name for the seats.
 fn by_seats<
     N: Naming + Send + Sync,
     T: Seating + Send + Sync,
-    W: Write + Drop,
     C: Turning + Send,
     F: Fn(Global) -> Result<C, AllocError> + Sync,
     R: Threads + Wait + Sync,
@@ -88,41 +81,87 @@ fn by_seats<
     alloc: Global,
     scale: Scale,
     plan: &Plan,
-    out: W,
-    make: F,
+    make: &F,
     turns: UnnamedTurns<N>,
-) -> Result<W, RunFault>
+) -> Result<Totals, RunFault>
     requires plan { IsPlan plan.now }
-    requires make { F.IsAlwaysCallable make }
+    requires make { F.IsAlwaysCallable make.now }
     requires name { turns.table ≡ T.table }
-    ensures reported { IfOk result (λ w. HasReported turns.opening (W.contents out) (W.contents w)) }
+    ensures settled { IfOk result (HasTotals turns.opening) }
 {
     let (turns, first) = turns.named::<T>();
+    let all = gathered(rt, alloc, scale, plan, make, &turns, first);
+    settled(turns, all)
+}
+
+// The purses and receipts that come back.
+fn gathered<
+    N: Naming + Send + Sync,
+    T: Seating + Send + Sync,
+    C: Turning + Send,
+    F: Fn(Global) -> Result<C, AllocError> + Sync,
+    R: Threads + Wait + Sync,
+>(
+    rt: &R,
+    alloc: Global,
+    scale: Scale,
+    plan: &Plan,
+    make: &F,
+    turns: &Turns<N, T>,
+    first: SeatedPurse<N, T>,
+) -> Gathered<N, T>
+    requires plan { IsPlan plan.now }
+    requires make { F.IsAlwaysCallable make.now }
+    requires room { first.purse.room ≡ 10000 }
+    ensures seen { AllSeen result.purses.items result.receipts.items }
+{
     let count = plan.terminals as usize + 1;
-    let Ok((mailboxes, idles, serving)) = Mailboxes::<Job<N, T, C>, JobAnswer<N, T>>::new(
-        alloc, count,
-    ) else {
-        return Err(RunFault::NoMemory);
-    };
+    match Mailboxes::<Job<N, T, C>, JobAnswer<N, T>>::new(alloc, count) {
+        Ok((mailboxes, idles, serving)) => work(
+            rt, alloc, &mailboxes, turns, idles, serving, first, make, scale, plan,
+        ),
+        Err(_) => Gathered::refused(alloc),
+    }
+}
+
+// The totals of a run that nothing stopped.
+fn settled<N: Naming, T: Seating>(
+    turns: Turns<N, T>,
+    all: Gathered<N, T>,
+) -> Result<Totals, RunFault>
+    requires seen { AllSeen all.purses.items all.receipts.items }
+    ensures settled { IfOk result (HasTotals turns) }
+{
     let Gathered {
         purses,
         receipts,
         fault,
-    } = work(
-        rt, alloc, &mailboxes, &turns, idles, serving, first, &make, scale, plan,
-    );
-    if let Some(fault) = fault {
-        return Err(fault);
+    } = all;
+    match fault {
+        Some(fault) => Err(fault),
+        None => totals_of(turns, purses, receipts.as_slice()),
     }
-    match settle(turns, purses, receipts.as_slice()) {
-        Ok((_book, totals)) => written(&totals, out),
+}
+
+fn totals_of<N: Naming, T: Seating>(
+    turns: Turns<N, T>,
+    purses: Vec<SeatedPurse<N, T>>,
+    receipts: &[Receipt],
+) -> Result<Totals, RunFault>
+    requires seen { AllSeen purses.items receipts.now }
+    ensures settled { IfOk result (HasTotals turns) }
+{
+    match settle(turns, purses, receipts) {
+        Ok((_book, totals)) => Ok(totals),
         Err(_left) => Err(RunFault::Missing),
     }
 }
 
-fn written<W: Write + Drop>(totals: &Totals, out: W) -> Result<W, RunFault>
-    ensures written { IfOk result (λ w. Appends (W.contents out) (W.contents w) (report_text totals.now.entries totals.now.paid totals.now.rise)) }
+fn written<W: Write + Drop>(totals: &Totals, out: W, opening: &Opening) -> Result<W, RunFault>
+    requires totals { HasTotals opening.now totals.now }
+    ensures reported { IfOk result (λ w. HasReported opening.now (W.contents out) (W.contents w)) }
 {
+    let _ = opening;
     match report(totals, out) {
         Ok(out) => Ok(out),
         Err(_) => Err(RunFault::Write),

@@ -3,8 +3,7 @@ ghost use Rattle.std.specs.Prelude.{◌≡◌, IfSome};
 ghost use Rattle.tpcc_mailbox.specs.Tokens.{identity, idle_origin};
 ghost use Rattle.tpcc_terminal.specs.Receipts.{AllStand};
 
-use crate::asking::{Asked, ask_once};
-use crate::fault::RunFault;
+use crate::asking::{Asked, ask_once, stopped};
 use crate::operator::Operator;
 use crate::plan::Plan;
 use crate::promises::Back;
@@ -17,7 +16,7 @@ use tpcc_server::{JobMailboxes, Turning};
 use tpcc_terminal::Terminal;
 
 /// What a terminal asks.
-#[derive(Clone, Copy, Debug)]
+#[derive(Clone, Copy)]
 pub(crate) enum Role {
     /// The requests of its cards.
     Cards,
@@ -33,6 +32,38 @@ fn next_request(role: Role, terminal: &mut Terminal, moment: Moment) -> Result<R
         Role::Cards => terminal.next(moment),
         Role::Deliveries => Ok(Request::Deliver(moment)),
     }
+}
+
+/// Asks the next request, by a call of its own.
+pub(crate) fn ask_next<
+    N: Naming,
+    T: Seating,
+    C: Turning,
+    F: Fn(Global) -> Result<C, AllocError>,
+    R: Wait,
+>(
+    rt: &R,
+    alloc: Global,
+    mailboxes: &JobMailboxes<N, T, C>,
+    operator: Operator<N, T, C>,
+    role: Role,
+    make: &F,
+    moment: Moment,
+) -> Asked<N, T, C>
+    requires origin { idle_origin operator.idle ≡ identity mailboxes.now }
+    requires receipts { AllStand operator.purse.front operator.terminal.receipts }
+    requires make { F.IsAlwaysCallable make.now }
+    ensures origin { IfSome result.operator (λ s. idle_origin s.idle ≡ identity mailboxes.now) }
+    ensures receipts { IfSome result.operator (λ s. AllStand s.purse.front s.terminal.receipts) }
+{
+    let mut operator = operator;
+    let Ok(call) = make(alloc) else {
+        return stopped(operator);
+    };
+    let Ok(request) = next_request(role, &mut operator.terminal, moment) else {
+        return stopped(operator);
+    };
+    ask_once(rt, mailboxes, operator, request, call)
 }
 
 /// Asks the plan's number of requests, each by a call of its own. It stops where memory is refused, and
@@ -62,17 +93,11 @@ pub(crate) fn ask_all<
     let moment = plan.moment;
     let mut operator = operator;
     for _ in 0..cards {
-        let Ok(call) = make(alloc) else {
-            return stopped(operator);
-        };
-        let Ok(request) = next_request(role, &mut operator.terminal, moment) else {
-            return stopped(operator);
-        };
         let Asked {
             operator: back,
             delivered: _,
             fault,
-        } = ask_once(rt, mailboxes, operator, request, call);
+        } = ask_next(rt, alloc, mailboxes, operator, role, make, moment);
         match back {
             Some(home) if fault.is_none() => operator = home,
             other => {
@@ -86,14 +111,5 @@ pub(crate) fn ask_all<
     Back {
         operator: Some(operator),
         fault: None,
-    }
-}
-
-pub(crate) fn stopped<N: Naming, T: Seating, C>(operator: Operator<N, T, C>) -> Back<N, T, C>
-    ensures operator { result.operator ≡ Some operator }
-{
-    Back {
-        operator: Some(operator),
-        fault: Some(RunFault::NoMemory),
     }
 }

@@ -1,25 +1,20 @@
 -- A session between two requests.
-use Rattle.std.proofs.Common.{◌≡◌, ◌∙◌, sym, refl, ap, subst, ℕ, ◌+◌, List, [], ◌∷◌, ◌++◌, arith}
-use Rattle.std.specs.Prelude.{Bool, cond, Option, Some, None, Result, Ok, Err, ◌==◌, true}
-use Rattle.std.specs.List.{count_by}
-use Rattle.std.specs.Option.{option_or}
+use Rattle.std.proofs.Common.{◌≡◌, ◌∙◌, sym, refl, ap, ℕ, ◌+◌, List, [], ◌∷◌, ◌++◌, arith}
+use Rattle.std.specs.Prelude.{Bool, cond, Option, Some, Result, Ok, Err, ◌==◌, true}
 use Rattle.std.proofs.lemmas.List.Sums.{sum_by_push}
 use Rattle.std.proofs.lemmas.Bool.Decides.{nat_tests}
 use Rattle.tpcc_rows.specs.declared.entry.Entry.{Entry}
 use Rattle.tpcc_rows.specs.declared.requests.Request.{Request}
 use Rattle.tpcc_rows.specs.declared.refusals.Refusal.{Refusal}
-use Rattle.tpcc_rows.specs.declared.refusals.Refusal.TheVariants.{NoMemory}
 use Rattle.tpcc_rows.specs.declared.replies.Reply.{Reply}
 use Rattle.tpcc_rows.specs.Replay.{count_of}
 use Rattle.tpcc_rows.specs.Turn.{reply_to}
 use Rattle.tpcc_book.specs.Past.{Past}
 use Rattle.tpcc_book.specs.Purses.{Held}
 use Rattle.tpcc_book.specs.Told.{Told}
-use Rattle.tpcc_book.specs.Turn.{turn_refusal, Accepts, Refuses}
 use Rattle.tpcc_book.specs.Serve.{IsServed}
-use Rattle.tpcc_script.specs.Book.{Book, terminal, accepting, request_refusal}
-use Rattle.tpcc_script.specs.Session.{IsAtHand, seen}
-use Rattle.tpcc_script.specs.Steps.{IsTurn}
+use Rattle.tpcc_script.specs.Book.{terminal}
+use Rattle.tpcc_script.specs.Session.{IsAtHand}
 
 -- one more entry of the terminal
 count-push : (t : ℕ) (entries : List Entry) (e : Entry) → e.terminal ≡ t → count_of t (entries ++ e ∷ []) ≡ count_of t entries + 1

@@ -6,12 +6,12 @@ use Rattle.tpcc_rows.proofs.Small.{computed, opening, times}
 use Rattle.tpcc_terminal.proofs.WorkedScreens.{shown, lines}
 use Rattle.tpcc_script.specs.declared.fault.ScriptFault.{ScriptFault}
 use Rattle.tpcc_script.specs.declared.fault.ScriptFault.TheVariants.{Bad, Cut, LongLine}
-use Rattle.tpcc_script.specs.Script.{script_of, call_of, order_of, payment_of, status_of, stock_of, delivery_of, deliver_of}
+use Rattle.tpcc_script.specs.Script.{script_of, call_of, call_named, later_named, order_of, payment_of, status_of, stock_of, delivery_of, deliver_of}
 use Rattle.tpcc_book.specs.Turn.{turn_refusal}
 use Rattle.tpcc_script.specs.Book.{Book, screen_of, book_after, screens_of}
 
 unfoldable pub run : Unit {0}
-unfolding computed shown number_up_to amount_of script_of call_of order_of payment_of status_of stock_of delivery_of deliver_of screen_of book_after turn_refusal
+unfolding computed shown number_up_to amount_of script_of call_of call_named later_named order_of payment_of status_of stock_of delivery_of deliver_of screen_of book_after turn_refusal
 run = tt
 
 abbrev start : Book

@@ -124,18 +124,27 @@ abbrev pub alone : Call → List (List ℕ) → Option Call
 alone call [] = Some call
 alone call (word ∷ words) = None
 
-abbrev pub call_of_words : List (List ℕ) → Option Call
-call_of_words [] = None
-call_of_words (name ∷ words) =
-    if bytes_eq name (codes "new-order") then option_map Ask (order_of words)
-    else if bytes_eq name (codes "payment") then option_map Ask (payment_of words)
-    else if bytes_eq name (codes "status") then option_map Ask (status_of words)
-    else if bytes_eq name (codes "stock") then option_map Ask (stock_of words)
-    else if bytes_eq name (codes "delivery") then option_map Ask (delivery_of words)
+-- what the words behind a name say, of a delivery or a call
+unfoldable pub later_named : List ℕ → List (List ℕ) → Option Call
+later_named name words =
+    if bytes_eq name (codes "delivery") then option_map Ask (delivery_of words)
     else if bytes_eq name (codes "deliver") then option_map Ask (deliver_of words)
     else if bytes_eq name (codes "check") then alone Check words
     else if bytes_eq name (codes "results") then alone Results words
     else None
+
+-- what the words behind a name say
+unfoldable pub call_named : List ℕ → List (List ℕ) → Option Call
+call_named name words =
+    if bytes_eq name (codes "new-order") then option_map Ask (order_of words)
+    else if bytes_eq name (codes "payment") then option_map Ask (payment_of words)
+    else if bytes_eq name (codes "status") then option_map Ask (status_of words)
+    else if bytes_eq name (codes "stock") then option_map Ask (stock_of words)
+    else later_named name words
+
+abbrev pub call_of_words : List (List ℕ) → Option Call
+call_of_words [] = None
+call_of_words (name ∷ words) = call_named name words
 
 -- the request or call that a line says; any other line is bad
 unfoldable pub call_of : List ℕ → Option Call

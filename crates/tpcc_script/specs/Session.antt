@@ -1,5 +1,5 @@
 -- A script's book, and the purse of its terminal.
-use Rattle.std.specs.Prelude.{ℕ, ◌≡◌, [], Option, Some}
+use Rattle.std.specs.Prelude.{◌≡◌, [], Option, Some}
 use Rattle.tpcc_population.specs.declared.opening.Opening.{Opening}
 use Rattle.tpcc_population.specs.Opening.{opening_state}
 use Rattle.tpcc_rows.specs.Replay.{count_of}

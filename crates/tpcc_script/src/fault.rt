@@ -30,7 +30,7 @@ pub enum ScriptFault {
 }
 
 /// Why words say no request and no call.
-#[derive(Clone, Copy, Debug, PartialEq, Eq)]
+#[derive(Clone, Copy)]
 pub enum ParseFault {
     /// They are none of the forms.
     Bad,

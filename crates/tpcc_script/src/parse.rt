@@ -182,21 +182,11 @@ fn alone(call: Call, words: &[&[u8]]) -> Result<Call, ParseFault>
     }
 }
 
-fn call(alloc: Global, words: &[&[u8]]) -> Result<Call, ParseFault>
-    ensures { Gives (λ c. c) result (call_of_words (map (λ w. w.now) words.now)) }
+#[tactic(auto, unfolding(crate::specs::Script::later_named))]
+fn later_named(name: &[u8], words: &[&[u8]]) -> Result<Call, ParseFault>
+    ensures { Gives (λ c. c) result (script.later_named name.now (map (λ w. w.now) words.now)) }
 {
-    let [name, words @ ..] = words else {
-        return Err(ParseFault::Bad);
-    };
-    if is_word(name, b"new-order") {
-        ask(order(alloc, words))
-    } else if is_word(name, b"payment") {
-        ask(payment(words))
-    } else if is_word(name, b"status") {
-        ask(status(words))
-    } else if is_word(name, b"stock") {
-        ask(stock(words))
-    } else if is_word(name, b"delivery") {
+    if is_word(name, b"delivery") {
         ask(delivery(words))
     } else if is_word(name, b"deliver") {
         ask(deliver(words))
@@ -206,6 +196,32 @@ fn call(alloc: Global, words: &[&[u8]]) -> Result<Call, ParseFault>
         alone(Call::Results, words)
     } else {
         Err(ParseFault::Bad)
+    }
+}
+
+#[tactic(auto, unfolding(crate::specs::Script::call_named))]
+fn call_named(alloc: Global, name: &[u8], words: &[&[u8]]) -> Result<Call, ParseFault>
+    ensures { Gives (λ c. c) result (script.call_named name.now (map (λ w. w.now) words.now)) }
+{
+    if is_word(name, b"new-order") {
+        ask(order(alloc, words))
+    } else if is_word(name, b"payment") {
+        ask(payment(words))
+    } else if is_word(name, b"status") {
+        ask(status(words))
+    } else if is_word(name, b"stock") {
+        ask(stock(words))
+    } else {
+        later_named(name, words)
+    }
+}
+
+fn call(alloc: Global, words: &[&[u8]]) -> Result<Call, ParseFault>
+    ensures { Gives (λ c. c) result (call_of_words (map (λ w. w.now) words.now)) }
+{
+    match words {
+        [name, words @ ..] => call_named(alloc, name, words),
+        [] => Err(ParseFault::Bad),
     }
 }
 

@@ -1,4 +1,3 @@
-use Rattle.std.proofs.Common.{◌≡◌}
 use Rattle.tpcc_run.proofs.Kept.{stand_after}
 use Rattle.tpcc_run.proofs.asking.ask_once.Goals as goal
 

@@ -1,4 +1,4 @@
-use Rattle.std.proofs.Common.{◌≡◌, ◌∙◌, ◌∷◌, [], ◌++◌, ap, List}
+use Rattle.std.proofs.Common.{◌∙◌, ◌∷◌, [], ◌++◌, ap, List}
 use Rattle.std.specs.Prelude.{is_ok}
 use Rattle.tpcc_book.specs.Seats.{Seated}
 use Rattle.tpcc_run.proofs.Kept.{seen_appended}

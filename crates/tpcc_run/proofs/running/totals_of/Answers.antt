@@ -1,0 +1,6 @@
+use Rattle.tpcc_run.proofs.Reported.{totals_of}
+use Rattle.tpcc_run.proofs.running.totals_of.Goals as goal
+
+pub returns-in-Ok : goal.returns-in-Ok
+returns-in-Ok g c =
+    record { settled = totals_of c.args.turns c.args.purses.items c.args.receipts.now c.in-Ok._book c.in-Ok.totals c.in-Ok.ensures.settled }
