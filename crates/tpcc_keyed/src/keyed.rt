@@ -18,21 +18,26 @@ pub trait Keyed: Copy {
 
     ghost numbers: { Self.Key → List ℕ };
 
+    /// Whether this row's key is before another row's.
     fn comes_before(&self, other: &Self) -> bool
         ensures { result ≡ key_before (key self.now) (key other.now) };
 
+    /// Whether this row's key is before a sought one.
     fn is_before(&self, sought: &Self::Key) -> bool
         ensures { result ≡ key_before (key self.now) (numbers sought.now) };
 
+    /// Whether this row is the one of a key.
     fn has_key(&self, sought: &Self::Key) -> bool
         ensures { result ≡ is_same_key (key self.now) (numbers sought.now) };
 }
 
 /// A row of a district: the key begins with the district's two numbers.
 pub trait Owned: Keyed {
+    /// The district of the row.
     fn owner(&self) -> DistrictKey
         ensures { district_numbers result ≡ take 2 (Self.key self.now) };
 
+    /// The district of the row that a key names.
     fn owner_of(key: &Self::Key) -> DistrictKey
         ensures { district_numbers result ≡ take 2 (Self.numbers key.now) };
 }

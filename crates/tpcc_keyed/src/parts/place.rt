@@ -12,6 +12,7 @@ use std::alloc::Global;
 use tpcc_money::NoMemory;
 use tpcc_rows::DistrictKey;
 
+/// Whether a district stands before another one: by warehouse, then by its own number.
 pub fn is_before(key: DistrictKey, other: DistrictKey) -> bool
     ensures { result ≡ key_before (district_numbers key) (district_numbers other) }
 {
