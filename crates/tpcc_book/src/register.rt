@@ -10,9 +10,10 @@ use std::alloc::Global;
 use std::marker::Model;
 use tpcc_delivery::Queue;
 use tpcc_journal::Journal;
+use tpcc_laws::laws;
 use tpcc_money::{Cents, NoMemory};
 use tpcc_population::{Opening, fill, opening_is_sound};
-use tpcc_rows::{Refusal, Reply, Request, laws};
+use tpcc_rows::{Refusal, Reply, Request};
 use tpcc_tables::tables::Tables;
 
 /// Tables, queue and journal of one opening. Whenever it can be seen, its rows satisfy the

@@ -15,8 +15,8 @@ ghost use Rattle.tpcc_core.specs.SeatSteps.{waiting};
 ghost use Rattle.tpcc_core.specs.Shares.{AddsUp};
 ghost use Rattle.tpcc_core.specs.Traces.{entries_by, entries_from, IsRecorded, IsAllOrAllButLast};
 
+use tpcc_laws::laws;
 use tpcc_population::{Opening, opening_is_sound};
-use tpcc_rows::laws;
 
 /// The book's rows are consistent (3.3.2) and are the opening's followed by its journal one transaction at a time, and
 /// each entry is what its request gave at its place.

@@ -9,10 +9,10 @@ use Rattle.tpcc_rows.specs.declared.rows.OrderLineRow.{OrderLineRow}
 use Rattle.tpcc_rows.specs.Lists.{is_ascending}
 use Rattle.tpcc_rows.specs.Ranges.{is_order_line_row, is_amount_within, is_exact_text}
 use Rattle.tpcc_rows.specs.Tables.{order_line_key}
-use Rattle.tpcc_rows.proofs.ListLemmas.{total-append}
-use Rattle.tpcc_rows.proofs.Numbers.{amount_within}
-use Rattle.tpcc_rows.proofs.OrderParents.{split}
-use Rattle.tpcc_rows.proofs.RemoveLemmas.{found_passes}
+use Rattle.tpcc_laws.proofs.ListLemmas.{total-append}
+use Rattle.tpcc_laws.proofs.Numbers.{amount_within}
+use Rattle.tpcc_rows.proofs.Booleans.{split}
+use Rattle.tpcc_laws.proofs.RemoveLemmas.{found_passes}
 use Rattle.tpcc_tables.specs.Loads.{is_order_line}
 use Rattle.tpcc_delivery.specs.Runs.{amount_of}
 use Rattle.tpcc_delivery.proofs.LineLemmas.{lines_below, more_lines}

@@ -8,8 +8,8 @@ use Rattle.tpcc_rows.specs.declared.rows.OrderLineRow.{OrderLineRow}
 use Rattle.tpcc_rows.specs.Lists.{is_ascending, key_before}
 use Rattle.tpcc_rows.specs.Ranges.{is_order_line_row, is_within, is_amount_within, is_exact_text, is_null_or, is_moment, is_warehouse_id, is_item_id}
 use Rattle.tpcc_rows.specs.Tables.{is_line_of, order_line_key}
-use Rattle.tpcc_rows.proofs.Numbers.{within}
-use Rattle.tpcc_rows.proofs.OrderParents.{split}
+use Rattle.tpcc_laws.proofs.Numbers.{within}
+use Rattle.tpcc_rows.proofs.Booleans.{split}
 use Rattle.tpcc_tables.specs.Loads.{is_order_line}
 
 -- the lines of an order with numbers below one

@@ -9,8 +9,8 @@ use Rattle.tpcc_rows.specs.declared.requests.QueuedTicket.{QueuedTicket}
 use Rattle.tpcc_rows.specs.Delivery.{queue_with}
 use Rattle.tpcc_rows.specs.Ranges.{is_within, is_carrier, is_moment, is_queued_ticket}
 use Rattle.tpcc_rows.specs.WellKeyed.{IsQueueInRange}
-use Rattle.tpcc_rows.proofs.Numbers.{within, is_in}
-use Rattle.tpcc_rows.proofs.OrderParents.{split}
+use Rattle.tpcc_laws.proofs.Numbers.{within, is_in}
+use Rattle.tpcc_rows.proofs.Booleans.{split}
 
 moment_in : (n : ℕ) → n < 4102444800 → is_moment n ≡ true
 moment_in n h = grind (arith, nat_tests)

@@ -1,2 +1,3 @@
+mod Elements
 mod LogLemmas
 pub mod TallyLemmas

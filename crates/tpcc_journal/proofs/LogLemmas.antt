@@ -7,7 +7,7 @@ use Rattle.tpcc_rows.specs.declared.entry.Entry.{Entry}
 use Rattle.tpcc_rows.specs.declared.replies.DistrictDelivery.{DistrictDelivery}
 use Rattle.tpcc_rows.specs.declared.replies.Delivered.{Delivered}
 use Rattle.tpcc_rows.specs.Replay.{district_delivery, district_deliveries, whole_ticket}
-use Rattle.tpcc_rows.proofs.Elements.{are_rest}
+use Rattle.tpcc_journal.proofs.Elements.{are_rest}
 
 then_one : {X : Type 0} (o : Option X) (ls ms : List X) → cons_option o (ls ++ ms) ≡ cons_option o ls ++ ms
 then_one None ls ms = refl

@@ -7,7 +7,7 @@ use Rattle.std.specs.List.{list_all, list_any}
 use Rattle.std.proofs.lemmas.Bool.Decides.{nat_tests}
 use Rattle.std.proofs.lemmas.List.Quantifiers.{position-Some}
 use Rattle.tpcc_rows.specs.Lists.{updated, inserted, inserted_all, is_ascending, key_before}
-use Rattle.tpcc_rows.proofs.ListLemmas.{has_one, one_of_key, updated_absent, not_taken}
+use Rattle.tpcc_laws.proofs.ListLemmas.{has_one, one_of_key, updated_absent, not_taken}
 use Rattle.tpcc_keyed.specs.Searches.{is_same_key}
 use Rattle.tpcc_keyed.proofs.PlaceLemmas.{found_there, none_before}
 

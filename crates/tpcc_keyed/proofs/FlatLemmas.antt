@@ -4,7 +4,7 @@ use Rattle.std.specs.Prelude.{filter, find, Some, ◌&&◌, ◌||◌, not, if◌
 use Rattle.std.specs.List.{list_all, list_any}
 use Rattle.std.proofs.lemmas.List.Folds.{list_all-append, list_any-append}
 use Rattle.tpcc_rows.specs.Lists.{updated, inserted}
-use Rattle.tpcc_rows.proofs.ListLemmas.{filter-append, has_one, updated_absent}
+use Rattle.tpcc_laws.proofs.ListLemmas.{filter-append, has_one, updated_absent}
 use Rattle.tpcc_keyed.proofs.ChangeLemmas.{kept_all}
 use Rattle.tpcc_keyed.proofs.SearchLemmas.{none_found}
 

@@ -7,8 +7,8 @@ use Rattle.tpcc_rows.specs.declared.keys.DistrictKey.{DistrictKey}
 use Rattle.tpcc_rows.specs.declared.rows.OrderLineRow.{OrderLineRow}
 use Rattle.tpcc_rows.specs.Lists.{is_ascending, key_before, updated}
 use Rattle.tpcc_rows.specs.Tables.{is_line_of, order_line_key}
-use Rattle.tpcc_rows.proofs.DeliveryKeys.{list_all-filter}
-use Rattle.tpcc_rows.proofs.ListLemmas.{list_all-updated}
+use Rattle.tpcc_laws.proofs.DeliveryKeys.{list_all-filter}
+use Rattle.tpcc_laws.proofs.ListLemmas.{list_all-updated}
 use Rattle.tpcc_keyed.specs.declared.parts.part.Part.{Part}
 use Rattle.tpcc_keyed.specs.Parts.{is_of}
 use Rattle.tpcc_keyed.specs.PartWords.{owns}

@@ -8,8 +8,8 @@ use Rattle.std.proofs.lemmas.List.Elements.{All-set, AllWithin-kept, AllWithin-m
 use Rattle.std.proofs.lemmas.List.Folds.{flat_map-map}
 use Rattle.tpcc_rows.specs.declared.keys.DistrictKey.{DistrictKey}
 use Rattle.tpcc_rows.specs.Lists.{by_key, inserted, is_ascending}
-use Rattle.tpcc_rows.proofs.InsertLemmas.{list_all-inserted}
-use Rattle.tpcc_rows.proofs.OrderKeys.{apart, ascending-inserted}
+use Rattle.tpcc_laws.proofs.InsertLemmas.{list_all-inserted}
+use Rattle.tpcc_laws.proofs.OrderKeys.{apart, ascending-inserted}
 use Rattle.tpcc_keyed.specs.declared.parts.part.Part.{Part}
 use Rattle.tpcc_keyed.specs.Searches.{is_same_key}
 use Rattle.tpcc_keyed.specs.Parts.{district_numbers, is_of, has_owner}

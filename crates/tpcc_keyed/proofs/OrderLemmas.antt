@@ -13,9 +13,9 @@ use Rattle.std.proofs.lemmas.List.Sorted.{ranks_by, sorted_far, sum_by-IsPermuta
 use Rattle.std.proofs.lemmas.List.Sums.{sum_by-cons}
 use Rattle.std.proofs.lemmas.Grind.{common_steps}
 use Rattle.tpcc_rows.specs.Lists.{inserted, inserted_all, sorted}
-use Rattle.tpcc_rows.proofs.ListLemmas.{list_all-mono}
-use Rattle.tpcc_rows.proofs.InsertLemmas.{list_all-inserted, length-inserted_all}
-use Rattle.tpcc_rows.proofs.OrderParents.{split, both_true}
+use Rattle.tpcc_laws.proofs.ListLemmas.{list_all-mono}
+use Rattle.tpcc_laws.proofs.InsertLemmas.{list_all-inserted, length-inserted_all}
+use Rattle.tpcc_rows.proofs.Booleans.{split, both_true}
 use Rattle.tpcc_keyed.specs.Names.{is_in_order}
 
 both : (b : Bool) → b ≡ true → b ≡ false → ⊥

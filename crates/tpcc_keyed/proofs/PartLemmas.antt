@@ -4,8 +4,8 @@ use Rattle.std.specs.Prelude.{Option, Some, None, ◌||◌, not, filter, find, f
 use Rattle.std.specs.List.{list_all, list_any}
 use Rattle.tpcc_rows.specs.declared.keys.DistrictKey.{DistrictKey}
 use Rattle.tpcc_rows.specs.Lists.{key_before, updated}
-use Rattle.tpcc_rows.proofs.ListLemmas.{has_one, list_all-mono, one_of_key}
-use Rattle.tpcc_rows.proofs.RemoveLemmas.{found_passes}
+use Rattle.tpcc_laws.proofs.ListLemmas.{has_one, list_all-mono, one_of_key}
+use Rattle.tpcc_laws.proofs.RemoveLemmas.{found_passes}
 use Rattle.tpcc_keyed.specs.declared.parts.part.Part.{Part}
 use Rattle.tpcc_keyed.specs.Searches.{is_same_key}
 use Rattle.tpcc_keyed.specs.Parts.{district_numbers, is_of}

@@ -5,7 +5,7 @@ use Rattle.std.specs.List.{list_any, position_or_len}
 use Rattle.std.proofs.lemmas.Bool.Decides.{nat_tests}
 use Rattle.std.proofs.lemmas.List.Quantifiers.{position-Some}
 use Rattle.tpcc_rows.specs.Lists.{updated, is_ascending, key_before}
-use Rattle.tpcc_rows.proofs.ListLemmas.{one_of_key, set_is_updated, updated_absent}
+use Rattle.tpcc_laws.proofs.ListLemmas.{one_of_key, set_is_updated, updated_absent}
 
 found_at : {X : Type 0} (passes : X → Bool) (xs : List X) (i : ℕ) (d : X) → i < length xs → passes (get_or xs i d) ≡ true → ((k : ℕ) → k < i → passes (get_or xs k d) ≡ false) → find passes xs ≡ Some (get_or xs i d)
 found_at passes [] i d lt e first = absurd (omega arith)

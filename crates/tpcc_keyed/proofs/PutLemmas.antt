@@ -10,9 +10,9 @@ use Rattle.std.proofs.lemmas.List.Quantifiers.{position-Some}
 use Rattle.std.proofs.lemmas.List.Sums.{sum_by-set}
 use Rattle.tpcc_rows.specs.declared.keys.DistrictKey.{DistrictKey}
 use Rattle.tpcc_rows.specs.Lists.{by_key, inserted, is_ascending, key_before, updated}
-use Rattle.tpcc_rows.proofs.DeliveryKeys.{list_all-filter}
-use Rattle.tpcc_rows.proofs.InsertLemmas.{list_all-inserted}
-use Rattle.tpcc_rows.proofs.ListLemmas.{list_all-mono}
+use Rattle.tpcc_laws.proofs.DeliveryKeys.{list_all-filter}
+use Rattle.tpcc_laws.proofs.InsertLemmas.{list_all-inserted}
+use Rattle.tpcc_laws.proofs.ListLemmas.{list_all-mono}
 use Rattle.tpcc_keyed.specs.declared.parts.part.Part.{Part}
 use Rattle.tpcc_keyed.specs.Searches.{is_same_key}
 use Rattle.tpcc_keyed.specs.Parts.{district_numbers, is_of}

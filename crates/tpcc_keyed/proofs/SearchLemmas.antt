@@ -5,8 +5,8 @@ use Rattle.std.specs.List.{list_all, list_any, prefix_len, position_or_len}
 use Rattle.std.specs.List.Sorted.{IsPartitionPoint, IsPartitionedBy}
 use Rattle.std.proofs.lemmas.Bool.Decides.{nat_tests}
 use Rattle.tpcc_rows.specs.Lists.{is_ascending, key_before, inserted, inserted_all, by_key}
-use Rattle.tpcc_rows.proofs.OrderKeys.{key_before_trans}
-use Rattle.tpcc_rows.proofs.InsertLemmas.{list_all-inserted}
+use Rattle.tpcc_laws.proofs.OrderKeys.{key_before_trans}
+use Rattle.tpcc_laws.proofs.InsertLemmas.{list_all-inserted}
 use Rattle.tpcc_keyed.specs.Searches.{is_same_key}
 use Rattle.tpcc_keyed.proofs.PlaceLemmas.{none_before}
 

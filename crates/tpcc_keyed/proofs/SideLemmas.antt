@@ -3,7 +3,7 @@ use Rattle.std.proofs.Common.{◌≡◌, ◌∙◌, ℕ, Bool, true, false, List
 use Rattle.std.specs.Prelude.{◌&&◌, not, if◌then◌else◌}
 use Rattle.std.specs.List.{list_all}
 use Rattle.tpcc_rows.specs.Lists.{key_before, is_ascending}
-use Rattle.tpcc_rows.proofs.ListLemmas.{has_one}
+use Rattle.tpcc_laws.proofs.ListLemmas.{has_one}
 use Rattle.tpcc_keyed.proofs.FlatLemmas.{outer_sides}
 
 -- E: an entry with its key columns; X: its rows, whose key columns begin with the entry's

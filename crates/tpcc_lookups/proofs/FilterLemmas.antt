@@ -4,7 +4,7 @@ use Rattle.std.specs.Prelude.{filter, find, ◌&&◌, ◌==◌, nat_lt, nat_le}
 use Rattle.std.specs.List.{list_all, list_any}
 use Rattle.std.proofs.lemmas.Bool.Decides.{nat_tests}
 use Rattle.tpcc_rows.specs.Lists.{key_before, is_ascending}
-use Rattle.tpcc_rows.proofs.ListLemmas.{none_later}
+use Rattle.tpcc_laws.proofs.ListLemmas.{none_later}
 use Rattle.tpcc_lookups.specs.Found.{found_list}
 
 -- the rows that pass, with a number below n, and those whose number is n

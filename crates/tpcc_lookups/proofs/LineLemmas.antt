@@ -9,8 +9,8 @@ use Rattle.tpcc_rows.specs.Lookups.{status_line}
 use Rattle.tpcc_rows.specs.Ranges.{is_order_line_row, is_order_id, is_district_id, is_warehouse_id, is_item_id, is_within, is_null_or, is_moment, is_amount_within, is_exact_text}
 use Rattle.tpcc_rows.specs.Tables.{Rows, is_line_of, lines_of, order_lines_in, order_line_key}
 use Rattle.tpcc_rows.specs.WellKeyed.{IsWellKeyed}
-use Rattle.tpcc_rows.proofs.Numbers.{within}
-use Rattle.tpcc_rows.proofs.OrderParents.{split}
+use Rattle.tpcc_laws.proofs.Numbers.{within}
+use Rattle.tpcc_rows.proofs.Booleans.{split}
 use Rattle.tpcc_tables.specs.Loads.{is_order_line, find_order_line}
 use Rattle.tpcc_lookups.specs.Found.{found_list}
 use Rattle.tpcc_lookups.proofs.FilterLemmas.{below, exactly, filter-next, filter-key, filter-agree, filter-same, filter-nothing, filter-twice}

@@ -11,12 +11,12 @@ use Rattle.tpcc_rows.specs.declared.requests.Line.{Line}
 use Rattle.tpcc_rows.specs.Ranges.{is_within, is_item_row, is_stock_row, is_count, greatest_stock_ytd, is_amount_within}
 use Rattle.tpcc_rows.specs.Tables.{Rows, is_item, is_stock, find_item, find_stock, item_at, stock_at, no_item, no_stock}
 use Rattle.tpcc_rows.specs.WellKeyed.{IsInRange}
-use Rattle.tpcc_rows.proofs.ListLemmas.{list_all-mono}
-use Rattle.tpcc_rows.proofs.RemoveLemmas.{found_passes}
-use Rattle.tpcc_rows.proofs.OrderParents.{split}
-use Rattle.tpcc_rows.proofs.OrderRanges.{amount_fits}
-use Rattle.tpcc_rows.proofs.DeliveryKeeps.{some_of}
-use Rattle.tpcc_rows.proofs.Numbers.{amount_within}
+use Rattle.tpcc_laws.proofs.ListLemmas.{list_all-mono}
+use Rattle.tpcc_laws.proofs.RemoveLemmas.{found_passes}
+use Rattle.tpcc_rows.proofs.Booleans.{split}
+use Rattle.tpcc_laws.proofs.OrderRanges.{amount_fits}
+use Rattle.tpcc_laws.proofs.DeliveryKeeps.{some_of}
+use Rattle.tpcc_laws.proofs.Numbers.{amount_within}
 use Rattle.tpcc_new_order.specs.Supplied.{numbers_of, is_servable_line}
 use Rattle.tpcc_new_order.specs.Tests.{overruns_of, overruns_with}
 

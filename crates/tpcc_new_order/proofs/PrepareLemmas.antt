@@ -13,12 +13,12 @@ use Rattle.tpcc_rows.specs.Ranges.{is_within, is_district_row}
 use Rattle.tpcc_rows.specs.Tables.{Rows, is_district, find_item, find_stock, no_warehouse, no_district, no_customer}
 use Rattle.tpcc_rows.specs.WellKeyed.{IsInRange, IsStocked}
 use Rattle.tpcc_rows.specs.NewOrder.{is_rolled_back, order_refusal, order_refusal_by_input, order_refusal_by_range, order_input_tests, accepted_order, rolled_back_order, amount_of, entered_line, order_reply, rows_after_order, after_order}
-use Rattle.tpcc_rows.proofs.ListLemmas.{list_all_both}
-use Rattle.tpcc_rows.proofs.RemoveLemmas.{found_passes}
-use Rattle.tpcc_rows.proofs.PaymentRanges.{district_tells, district_key_is}
-use Rattle.tpcc_rows.proofs.TurnKeeps.{all_false, some_if}
-use Rattle.tpcc_rows.proofs.TurnKeys.{lines_stocked}
-use Rattle.tpcc_rows.proofs.Numbers.{within, not_false}
+use Rattle.tpcc_laws.proofs.ListLemmas.{list_all_both}
+use Rattle.tpcc_laws.proofs.RemoveLemmas.{found_passes}
+use Rattle.tpcc_laws.proofs.PaymentRanges.{district_tells, district_key_is}
+use Rattle.tpcc_laws.proofs.TurnKeeps.{all_false, some_if}
+use Rattle.tpcc_laws.proofs.TurnKeys.{lines_stocked}
+use Rattle.tpcc_laws.proofs.Numbers.{within, not_false}
 use Rattle.tpcc_tables.specs.Writes.{IsOrderOf}
 use Rattle.tpcc_tables.proofs.EnterLemmas.{order_is, enterable}
 use Rattle.tpcc_new_order.specs.declared.written.NewRows.{NewRows}

@@ -6,8 +6,8 @@ use Rattle.tpcc_rows.specs.declared.rows.StockRow.{StockRow}
 use Rattle.tpcc_rows.specs.declared.requests.Line.{Line}
 use Rattle.tpcc_rows.specs.Ranges.{is_within, is_stock_row, is_text, is_exact_text, greatest_count, greatest_stock_ytd}
 use Rattle.tpcc_rows.specs.NewOrder.{quantity_after, stock_after_line, stock_after}
-use Rattle.tpcc_rows.proofs.OrderParents.{split}
-use Rattle.tpcc_rows.proofs.Numbers.{within}
+use Rattle.tpcc_rows.proofs.Booleans.{split}
+use Rattle.tpcc_laws.proofs.Numbers.{within}
 use Rattle.tpcc_new_order.specs.Supplied.{numbers_of, numbers_after_line, IsNear}
 
 abbrev supplied : ℕ → ℕ → Line → Bool

@@ -5,7 +5,6 @@
 pub mod entry;
 pub mod few;
 pub mod keys;
-pub mod laws;
 mod numerals;
 pub mod refusals;
 pub mod replies;

@@ -9,3 +9,7 @@ pub mod Ordering
 pub mod EmptyBook
 pub mod Sessions
 pub mod Names
+mod NumeralLaws
+mod PartLaws
+mod WordLaws
+pub mod RequestLaws

@@ -2,7 +2,7 @@
 use Rattle.std.proofs.Common.{◌≡◌, refl, ℕ, List, [], ◌∷◌, ◌++◌}
 use Rattle.std.specs.Prelude.{Some, None, Option, codes, flat_map, replicate}
 use Rattle.tpcc_money.specs.Numerals.{number_up_to, amount_of}
-use Rattle.tpcc_rows.proofs.Small.{computed, opening, times}
+use Rattle.tpcc_laws.proofs.Small.{computed, opening, times}
 use Rattle.tpcc_terminal.proofs.WorkedScreens.{shown, lines}
 use Rattle.tpcc_script.specs.declared.fault.ScriptFault.{ScriptFault}
 use Rattle.tpcc_script.specs.declared.fault.ScriptFault.TheVariants.{Bad, Cut, LongLine}

@@ -1,4 +1,5 @@
 pub mod Script
+pub mod Sayable
 pub mod Book
 pub mod Run
 pub mod Steps

@@ -4,6 +4,7 @@
 mod call;
 mod engine;
 mod fault;
+pub mod laws;
 mod parse;
 mod reader;
 #[cfg(test)]

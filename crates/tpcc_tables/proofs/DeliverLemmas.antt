@@ -4,7 +4,7 @@ use Rattle.std.specs.Prelude.{ℤ, ◌+ℤ◌, pos}
 use Rattle.std.proofs.lemmas.Int.{ints}
 use Rattle.std.proofs.lemmas.List.{take_more}
 use Rattle.tpcc_money.specs.Amounts.{total}
-use Rattle.tpcc_rows.proofs.ListLemmas.{total-append}
+use Rattle.tpcc_laws.proofs.ListLemmas.{total-append}
 
 pub total_more : {X : Type 0} (column : X → ℤ) (xs : List X) (i : ℕ) (x : X) → i < length xs → x ≡ get_or xs i x → total column (take (i + 1) xs) ≡ total column (take i xs) +ℤ column x
 total_more column xs i x lt e =

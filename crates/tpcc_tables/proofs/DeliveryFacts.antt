@@ -14,14 +14,14 @@ use Rattle.tpcc_rows.specs.Ranges.{is_balance, is_total, is_count, is_text, is_e
 use Rattle.tpcc_rows.specs.Tables.{Rows, is_customer, is_order, is_new_order, is_line_of, find_customer, customer_at, order_at, no_customer}
 use Rattle.tpcc_rows.specs.WellKeyed.{IsInRange, IsWellKeyed}
 use Rattle.tpcc_rows.specs.Delivery.{order_amount, district_refusal, delivery_tests, after_delivery, delivered_customer}
-use Rattle.tpcc_rows.proofs.DeliveryKeeps.{carried, stamped}
-use Rattle.tpcc_rows.proofs.DeliveryKeys.{delivery_is_keyed, delivery_has_parents}
-use Rattle.tpcc_rows.proofs.DeliveryRanges.{delivery_in_range}
-use Rattle.tpcc_rows.proofs.ListLemmas.{list_all-mono}
-use Rattle.tpcc_rows.proofs.Numbers.{amount_within, balance_fits, count_fits, not_false}
-use Rattle.tpcc_rows.proofs.OrderParents.{split}
-use Rattle.tpcc_rows.proofs.RemoveLemmas.{found_passes}
-use Rattle.tpcc_rows.proofs.TurnKeeps.{all_false}
+use Rattle.tpcc_laws.proofs.DeliveryKeeps.{carried, stamped}
+use Rattle.tpcc_laws.proofs.DeliveryKeys.{delivery_is_keyed, delivery_has_parents}
+use Rattle.tpcc_laws.proofs.DeliveryRanges.{delivery_in_range}
+use Rattle.tpcc_laws.proofs.ListLemmas.{list_all-mono}
+use Rattle.tpcc_laws.proofs.Numbers.{amount_within, balance_fits, count_fits, not_false}
+use Rattle.tpcc_rows.proofs.Booleans.{split}
+use Rattle.tpcc_laws.proofs.RemoveLemmas.{found_passes}
+use Rattle.tpcc_laws.proofs.TurnKeeps.{all_false}
 
 abbrev is_paid : OrderLineRow → Bool
 is_paid l = is_amount_within (pos 0) (pos 999999) l.amount

@@ -14,18 +14,18 @@ use Rattle.tpcc_rows.specs.Lists.{updated, inserted, inserted_all, by_key, is_as
 use Rattle.tpcc_rows.specs.Tables.{Rows, is_district, find_district, order_key, order_line_key, new_order_key}
 use Rattle.tpcc_rows.specs.WellKeyed.{IsWellKeyed, IsInRange}
 use Rattle.tpcc_rows.specs.NewOrder.{after_order, order_refusal, order_refusal_by_input, order_input_tests, order_row, order_line_row, order_line_rows, stock_after, with_next_order}
-use Rattle.tpcc_rows.proofs.Numbers.{within, not_false}
-use Rattle.tpcc_rows.proofs.OrderInRange.{order_in_range}
-use Rattle.tpcc_rows.proofs.OrderParents.{split, both_true}
-use Rattle.tpcc_rows.proofs.DeliveryKeeps.{some_of}
+use Rattle.tpcc_laws.proofs.Numbers.{within, not_false}
+use Rattle.tpcc_laws.proofs.OrderInRange.{order_in_range}
+use Rattle.tpcc_rows.proofs.Booleans.{split, both_true}
+use Rattle.tpcc_laws.proofs.DeliveryKeeps.{some_of}
 use Rattle.std.proofs.lemmas.Bool.Decides.{nat_tests}
 use Rattle.tpcc_rows.specs.declared.keys.DistrictKey.{DistrictKey}
 use Rattle.tpcc_keyed.specs.Parts.{has_owner}
 use Rattle.tpcc_tables.specs.Ready.{is_open}
 use Rattle.tpcc_tables.proofs.ReadyLemmas.{open-found}
-use Rattle.tpcc_rows.proofs.RemoveLemmas.{found_passes}
-use Rattle.tpcc_rows.proofs.TurnKeeps.{all_false, first_none}
-use Rattle.tpcc_rows.proofs.TurnKeys.{order_is_sound}
+use Rattle.tpcc_laws.proofs.RemoveLemmas.{found_passes}
+use Rattle.tpcc_laws.proofs.TurnKeeps.{all_false, first_none}
+use Rattle.tpcc_laws.proofs.TurnKeys.{order_is_sound}
 use Rattle.tpcc_tables.specs.Writes.{line_of, waiting, with_entered_order, IsOrderOf, IsOrder}
 
 lines_from : (rows : Rows) (order : Order) (n : ℕ) (ls : List Line) → map line_of (map (λ line. order_line_row rows order line.0 line.1) (enumerate_from n ls)) ≡ ls

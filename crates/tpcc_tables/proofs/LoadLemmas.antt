@@ -17,13 +17,14 @@ use Rattle.tpcc_rows.specs.Lists.{inserted, by_key, is_ascending}
 use Rattle.tpcc_rows.specs.Ranges.{is_warehouse_row, is_district_row, is_customer_row, is_history_row, is_order_row, is_order_line_row, is_new_order_row, is_item_row, is_stock_row}
 use Rattle.tpcc_rows.specs.Tables.{Rows, warehouse_key, district_key, customer_key, order_key, order_line_key, new_order_key, item_key, stock_key, is_warehouse, is_district, is_customer, is_order, is_new_order, is_item, is_stock, find_warehouse, find_district, find_customer, find_order, find_new_order, find_item, find_stock, no_district}
 use Rattle.tpcc_rows.specs.WellKeyed.{HasParents, IsWellKeyed, has_warehouse, has_district, has_payer, has_customer, has_order, has_order_and_stock, has_warehouse_and_item, is_numbered_below_next}
-use Rattle.tpcc_rows.proofs.ListLemmas.{list_all-mono}
-use Rattle.tpcc_rows.proofs.InsertLemmas.{list_all-inserted, find-inserted_other}
-use Rattle.tpcc_rows.proofs.OrderKeys.{apart, ascending-inserted}
-use Rattle.tpcc_rows.proofs.OrderParents.{found-inserted_more, both_true, split}
-use Rattle.tpcc_rows.proofs.RemoveLemmas.{found_passes}
-use Rattle.tpcc_rows.proofs.DeliveryKeeps.{some_of}
-use Rattle.tpcc_rows.proofs.OrderKeeps.{both_equal, all_equal}
+use Rattle.tpcc_laws.proofs.ListLemmas.{list_all-mono}
+use Rattle.tpcc_laws.proofs.InsertLemmas.{list_all-inserted, find-inserted_other}
+use Rattle.tpcc_laws.proofs.OrderKeys.{apart, ascending-inserted}
+use Rattle.tpcc_rows.proofs.Booleans.{both_true, split}
+use Rattle.tpcc_laws.proofs.OrderParents.{found-inserted_more}
+use Rattle.tpcc_laws.proofs.RemoveLemmas.{found_passes}
+use Rattle.tpcc_laws.proofs.DeliveryKeeps.{some_of}
+use Rattle.tpcc_laws.proofs.OrderKeeps.{both_equal, all_equal}
 use Rattle.tpcc_tables.specs.Loads.{is_order_line, find_order_line, with_warehouse, with_district, with_customer, with_history, with_order, with_order_line, with_new_order, with_item, with_stock, fault_of, warehouse_fault, district_fault, customer_fault, history_fault, is_order_in_range, order_fault, order_line_fault, new_order_fault, item_fault, stock_fault}
 
 fault_none : (in_range has_parents is_taken : Bool) → fault_of in_range has_parents is_taken ≡ None → (in_range ≡ true) × (has_parents ≡ true) × (is_taken ≡ false)

@@ -4,7 +4,7 @@ use Rattle.std.specs.Prelude.{◌&&◌, find}
 use Rattle.std.specs.List.{list_all}
 use Rattle.std.proofs.lemmas.List.{take_more}
 use Rattle.std.proofs.lemmas.List.Folds.{list_all-append}
-use Rattle.tpcc_rows.proofs.OrderParents.{both_true}
+use Rattle.tpcc_rows.proofs.Booleans.{both_true}
 use Rattle.tpcc_rows.specs.declared.keys.DistrictKey.{DistrictKey}
 use Rattle.tpcc_rows.specs.declared.rows.DistrictRow.{DistrictRow}
 use Rattle.tpcc_rows.specs.declared.rows.OrderRow.{OrderRow}
@@ -12,7 +12,7 @@ use Rattle.tpcc_rows.specs.declared.rows.OrderLineRow.{OrderLineRow}
 use Rattle.tpcc_rows.specs.declared.rows.NewOrderRow.{NewOrderRow}
 use Rattle.tpcc_rows.specs.Lists.{updated}
 use Rattle.tpcc_rows.specs.Tables.{district_key}
-use Rattle.tpcc_rows.proofs.ListLemmas.{list_all-mono, key-chosen}
+use Rattle.tpcc_laws.proofs.ListLemmas.{list_all-mono, key-chosen}
 use Rattle.tpcc_keyed.specs.Parts.{Kept, has_owner}
 use Rattle.tpcc_tables.specs.Ready.{is_open, IsOpen, IsReady, IsOpening}
 

@@ -11,10 +11,10 @@ use Rattle.tpcc_rows.specs.Lists.{updated, key_before, is_ascending}
 use Rattle.tpcc_rows.specs.Ranges.{is_within, is_stock_row, is_text, is_exact_text, greatest_count, greatest_stock_ytd}
 use Rattle.tpcc_rows.specs.Tables.{stock_key}
 use Rattle.tpcc_rows.specs.NewOrder.{quantity_after, stock_after_line, stock_after}
-use Rattle.tpcc_rows.proofs.ListLemmas.{ascending-updated, list_all-updated, list_all-mono}
-use Rattle.tpcc_rows.proofs.BodyLemmas.{lines_one_by_one}
-use Rattle.tpcc_rows.proofs.OrderParents.{split, both_true}
-use Rattle.tpcc_rows.proofs.Numbers.{within}
+use Rattle.tpcc_laws.proofs.ListLemmas.{ascending-updated, list_all-updated, list_all-mono}
+use Rattle.tpcc_laws.proofs.BodyLemmas.{lines_one_by_one}
+use Rattle.tpcc_rows.proofs.Booleans.{split, both_true}
+use Rattle.tpcc_laws.proofs.Numbers.{within}
 use Rattle.tpcc_tables.specs.Writes.{line_of}
 use Rattle.tpcc_tables.specs.Supplies.{is_supplied_by, HasRoomFor, is_near}
 

@@ -9,9 +9,9 @@ listed l =
       districts = l.districts.items;
       customers = l.customers.items;
       histories = l.histories.items;
-      orders = l.orders.items;
-      order_lines = l.order_lines.items;
-      new_orders = l.new_orders.items;
+      orders = l.orders.rows;
+      order_lines = l.order_lines.rows;
+      new_orders = l.new_orders.rows;
       items = l.items.items;
       stocks = l.stocks.items;
     }

@@ -1,5 +1,6 @@
 pub mod WorkedScreens
 pub mod Chains
+mod RequestLemmas
 pub mod Decks
 pub mod Districts
 pub mod Drawn

@@ -2,5 +2,6 @@ pub mod Adding
 pub mod Cards
 pub mod Receipts
 pub mod Report
+pub mod RequestLines
 pub mod Screens
 pub mod Terminals

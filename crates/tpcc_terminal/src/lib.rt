@@ -9,6 +9,8 @@ mod drafts;
 mod draws;
 mod home;
 pub mod laws;
+#[cfg(test)]
+mod line_tests;
 mod lines;
 mod new_order;
 mod order_status;
@@ -18,6 +20,7 @@ mod receipt_tests;
 mod receipts;
 mod refusal;
 mod report;
+mod request_lines;
 mod stock_level;
 mod terminal;
 #[cfg(test)]
@@ -30,4 +33,5 @@ pub use answers::{broken_screen, consistent_screen, refusal_screen, reply_screen
 pub use lines::Screen;
 pub use receipts::{Numbered, Receipt};
 pub use report::Report;
+pub use request_lines::request_line;
 pub use terminal::Terminal;

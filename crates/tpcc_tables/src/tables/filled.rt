@@ -6,11 +6,11 @@ ghost use Rattle.tpcc_tables.specs.Listed.{listed};
 use super::Tables;
 use crate::lists::Lists;
 use std::alloc::Global;
-use tpcc_keyed::{Names, Parts};
+use tpcc_keyed::Names;
 use tpcc_money::NoMemory;
 
 impl Tables {
-    /// The tables of well-keyed rows. Rows of orders are laid out by their districts.
+    /// The tables of well-keyed rows.
     pub fn filled(lists: Lists, alloc: Global) -> Result<Tables, NoMemory>
         requires keyed { IsWellKeyed (listed lists) }
         ensures rows { IfOk result (λ tables. tables.rows ≡ listed lists) }
@@ -27,9 +27,6 @@ impl Tables {
             stocks,
         } = lists;
         let names = Names::of(customers.as_slice(), alloc)?;
-        let orders = Parts::from_sorted(orders, alloc)?;
-        let order_lines = Parts::from_sorted(order_lines, alloc)?;
-        let new_orders = Parts::from_sorted(new_orders, alloc)?;
         Ok(Tables {
             warehouses,
             districts,

@@ -1,7 +1,7 @@
 use Rattle.std.proofs.Common.{◌∙◌, ap, not, insert, arith}
 use Rattle.std.specs.List.{prefix_len}
 use Rattle.std.proofs.lemmas.List.Sums.{prefix_len-le-length}
-use Rattle.tpcc_rows.proofs.BodyLemmas.{insert_is_inserted}
+use Rattle.tpcc_laws.proofs.BodyLemmas.{insert_is_inserted}
 use Rattle.tpcc_keyed.specs.Names.{name_before, is_in_order}
 use Rattle.tpcc_keyed.proofs.OrderLemmas.{in_order-inserted}
 use Rattle.tpcc_keyed.proofs.NameLemmas.{name_order}

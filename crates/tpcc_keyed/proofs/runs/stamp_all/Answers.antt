@@ -1,5 +1,5 @@
 use Rattle.std.proofs.Common.{◌∙◌, arith}
-use Rattle.tpcc_rows.proofs.DeliveryKeeps.{stamped}
+use Rattle.tpcc_laws.proofs.DeliveryKeeps.{stamped}
 use Rattle.tpcc_keyed.proofs.StretchLemmas.{mapped_more, mapped_all}
 use Rattle.tpcc_keyed.proofs.runs.stamp_all.Goals as goal
 

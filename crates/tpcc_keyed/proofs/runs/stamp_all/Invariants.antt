@@ -1,5 +1,5 @@
 use Rattle.std.proofs.Common.{◌≡◌, ◌++◌, map, take, drop}
-use Rattle.tpcc_rows.proofs.DeliveryKeeps.{stamped}
+use Rattle.tpcc_laws.proofs.DeliveryKeeps.{stamped}
 use Rattle.tpcc_keyed.proofs.runs.stamp_all.Given as goal
 
 abbrev pub invariant-loop-line : goal.invariant-loop-line

@@ -1,5 +1,5 @@
 use Rattle.std.proofs.Common.{◌∙◌, ◌-◌, ◌++◌, take, drop}
-use Rattle.tpcc_rows.proofs.DeliveryKeeps.{stamped}
+use Rattle.tpcc_laws.proofs.DeliveryKeeps.{stamped}
 use Rattle.tpcc_keyed.proofs.StretchLemmas.{changed}
 use Rattle.tpcc_keyed.proofs.RunLemmas.{lines_changed}
 use Rattle.tpcc_keyed.proofs.runs.stamp_among.Goals as goal

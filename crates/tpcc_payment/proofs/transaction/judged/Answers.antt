@@ -1,6 +1,6 @@
 use Rattle.std.proofs.Common.{arith}
-use Rattle.tpcc_rows.proofs.Numbers.{is_in, amount_within}
-use Rattle.tpcc_rows.proofs.PaymentFacts.{payment_facts}
+use Rattle.tpcc_laws.proofs.Numbers.{is_in, amount_within}
+use Rattle.tpcc_laws.proofs.PaymentFacts.{payment_facts}
 use Rattle.std.specs.Prelude.{pos}
 use Rattle.std.proofs.lemmas.Int.{ints}
 use Rattle.tpcc_payment.proofs.PrepareLemmas.{named_fits, prepared_is}

@@ -1,7 +1,7 @@
 use Rattle.std.proofs.Common.{◌≡◌, ◌∙◌, sym, ap, [], ◌∷◌, find, Some, None}
 use Rattle.tpcc_rows.specs.declared.rows.OrderRow.{OrderRow}
 use Rattle.tpcc_rows.specs.Tables.{is_order, order_key}
-use Rattle.tpcc_rows.proofs.DeliveryKeeps.{carried}
+use Rattle.tpcc_laws.proofs.DeliveryKeeps.{carried}
 use Rattle.tpcc_keyed.specs.Searches.{is_same_key}
 use Rattle.tpcc_keyed.proofs.SearchLemmas.{same_find}
 use Rattle.tpcc_keyed.proofs.ChangeLemmas.{replaced, same_updated, same_key_is, found_passes, unfound_updated}

@@ -3,7 +3,7 @@ use Rattle.std.specs.List.{list_any}
 use Rattle.tpcc_rows.specs.declared.rows.OrderLineRow.{OrderLineRow}
 use Rattle.tpcc_rows.specs.Lists.{is_ascending, updated}
 use Rattle.tpcc_rows.specs.Tables.{is_line_of, order_line_key}
-use Rattle.tpcc_rows.proofs.ListLemmas.{updated_absent}
+use Rattle.tpcc_laws.proofs.ListLemmas.{updated_absent}
 use Rattle.tpcc_keyed.specs.Parts.{Kept}
 use Rattle.tpcc_keyed.specs.PartWords.{is_part, HasRoom}
 use Rattle.tpcc_keyed.proofs.LineLemmas.{length_updated, line_asks, owns_updated}

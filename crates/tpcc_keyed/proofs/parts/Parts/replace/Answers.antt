@@ -2,7 +2,7 @@ use Rattle.std.proofs.Common.{◌≡◌, ◌∙◌, ap, sym, arith, length, Some
 use Rattle.std.specs.Prelude.{take}
 use Rattle.std.specs.List.{list_any}
 use Rattle.tpcc_rows.specs.Lists.{is_ascending, updated}
-use Rattle.tpcc_rows.proofs.ListLemmas.{updated_absent}
+use Rattle.tpcc_laws.proofs.ListLemmas.{updated_absent}
 use Rattle.tpcc_keyed.specs.declared.parts.part.Part.{Part}
 use Rattle.tpcc_keyed.specs.Searches.{is_same_key}
 use Rattle.tpcc_keyed.specs.Parts.{Kept, district_numbers}

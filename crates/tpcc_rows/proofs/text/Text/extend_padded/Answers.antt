@@ -1,4 +1,4 @@
-use Rattle.std.proofs.Common.{rules, arith, ap, sym, ◌∙◌, ◌≡◌, ◌-◌, ◌++◌, decimal, length, take, length-append, append_assoc}
+use Rattle.std.proofs.Common.{rules, arith, ap, ◌∙◌, ◌≡◌, ◌-◌, ◌++◌, decimal, length, take, length-append, append_assoc}
 use Rattle.std.specs.Prelude.{ℕ, replicate}
 use Rattle.std.specs.List.{list_all}
 use Rattle.tpcc_money.specs.Texts.{padded}

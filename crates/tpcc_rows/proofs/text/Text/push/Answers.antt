@@ -1,6 +1,6 @@
 use Rattle.std.proofs.Common.{arith, refl, rules, true}
 use Rattle.tpcc_rows.specs.Printable.{is_printable}
-use Rattle.tpcc_rows.proofs.OrderParents.{both_true}
+use Rattle.tpcc_rows.proofs.Booleans.{both_true}
 use Rattle.tpcc_rows.proofs.text.Text.push.Goals as goal
 
 pub extend-requires : goal.extend-requires

@@ -7,7 +7,7 @@ use Rattle.tpcc_rows.specs.declared.rows.OrderLineRow.{OrderLineRow}
 use Rattle.tpcc_rows.specs.Tables.{is_customer, is_order, is_line_of, no_order}
 use Rattle.tpcc_rows.specs.WellKeyed.{IsWellKeyed}
 use Rattle.tpcc_rows.specs.Delivery.{district_refusal, after_delivery, delivered_customer}
-use Rattle.tpcc_rows.proofs.Numbers.{is_in}
+use Rattle.tpcc_laws.proofs.Numbers.{is_in}
 use Rattle.tpcc_tables.specs.Held.{Held}
 use Rattle.tpcc_keyed.proofs.NameLaws.{names_kept}
 use Rattle.tpcc_tables.proofs.ReadyLemmas.{ready-kept, keeps-same}

@@ -1,5 +1,0 @@
-use Rattle.tpcc_rows.proofs.CheckLemmas.{nothing_broken, none_broken}
-use Rattle.tpcc_rows.proofs.laws.nothing_broken.Goals as goal
-
-pub returns : goal.returns
-returns c = λ rows. (nothing_broken rows, none_broken rows)

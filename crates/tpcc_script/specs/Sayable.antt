@@ -1,0 +1,38 @@
+-- Requests that a line of a script can say: numbers of 32 bits, moments and amounts in their ranges, names of letters.
+use Rattle.std.specs.Prelude.{ℕ, Bool, ◌&&◌, nat_le, List, length, ℤ, pos, negsuc, false}
+use Rattle.std.specs.List.{list_all}
+use Rattle.tpcc_rows.specs.declared.requests.Who.{Who}
+use Rattle.tpcc_rows.specs.declared.requests.Who.TheVariants.{Number, Name}
+use Rattle.tpcc_rows.specs.declared.requests.Line.{Line}
+use Rattle.tpcc_rows.specs.declared.requests.Request.{Request}
+use Rattle.tpcc_rows.specs.declared.requests.Request.TheVariants as ask
+use Rattle.tpcc_script.specs.Script.{is_last_name}
+
+abbrev pub is_number : ℕ → Bool
+is_number n = nat_le n 4294967295
+
+abbrev pub is_moment : ℕ → Bool
+is_moment n = nat_le n 4102444799
+
+-- 0.00 to 9,999,999,999.99
+abbrev pub is_amount : ℤ → Bool
+is_amount (pos cents) = nat_le cents 999999999999
+is_amount (negsuc cents) = false
+
+abbrev pub is_customer_word : Who → Bool
+is_customer_word (Number number) = is_number number
+is_customer_word (Name last) = is_last_name last
+
+abbrev pub is_order_line : Line → Bool
+is_order_line l = is_number l.item && (is_number l.supply && is_number l.quantity)
+
+-- at most 100 lines, so that the line of the script has at most 4,096 bytes
+abbrev pub is_sayable : Request → Bool
+is_sayable (ask.NewOrder o) =
+    is_number o.warehouse && (is_number o.district && (is_number o.customer && (is_moment o.moment && (list_all is_order_line o.lines && nat_le (length o.lines) 100))))
+is_sayable (ask.Payment p) =
+    is_number p.warehouse && (is_number p.district && (is_number p.customer_warehouse && (is_number p.customer_district && (is_customer_word p.who && (is_amount p.amount && is_moment p.moment)))))
+is_sayable (ask.Status s) = is_number s.warehouse && (is_number s.district && is_customer_word s.who)
+is_sayable (ask.Stock s) = is_number s.warehouse && (is_number s.district && is_number s.threshold)
+is_sayable (ask.Delivery t) = is_number t.warehouse && (is_number t.carrier && is_moment t.queued)
+is_sayable (ask.Deliver at) = is_moment at
