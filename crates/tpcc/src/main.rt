@@ -4,19 +4,8 @@
 ghost use Rattle.std.specs.Prelude.{IfOk};
 ghost use Rattle.tpcc_book.specs.Turn.{IsTurn};
 ghost use Rattle.tpcc_run.specs.Outcome.{IsPlan};
-ghost use Rattle.tpcc.specs.Tasks.{HasPlan};
+ghost use Rattle.tpcc_program.specs.Tasks.{HasPlan};
 
-mod fault;
-mod options;
-mod progress;
-#[cfg(test)]
-mod progress_tests;
-#[cfg(test)]
-mod tests;
-
-use fault::ProgramFault;
-use options::{Asked, Task, read_words};
-use progress::{Counting, Progress};
 use std::alloc::{AllocError, Global};
 use std::env::Env;
 use std::io::{self, Eprint, IsTerminal};
@@ -27,6 +16,7 @@ use std::time::Clock;
 use tpcc_audit::{DumpFault, dump};
 use tpcc_book::{Register, Turned};
 use tpcc_population::{Opening, fill};
+use tpcc_program::{Asked, Counting, ProgramFault, Progress, Task, read_words};
 use tpcc_rows::{Request, Table};
 use tpcc_run::Plan;
 use tpcc_script::run_script;

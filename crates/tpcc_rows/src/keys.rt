@@ -4,20 +4,20 @@
 //! then the row's own number.
 
 /// W_ID.
-#[derive(Clone, Copy, Debug, PartialEq, Eq, PartialOrd, Ord, Hash)]
+#[derive(Clone, Copy, PartialEq, Eq)]
 pub struct WarehouseKey {
     pub warehouse: u32,
 }
 
 /// (D_W_ID, D_ID).
-#[derive(Clone, Copy, Debug, PartialEq, Eq, PartialOrd, Ord, Hash)]
+#[derive(Clone, Copy, PartialEq, Eq)]
 pub struct DistrictKey {
     pub warehouse: u32,
     pub district: u32,
 }
 
 /// (C_W_ID, C_D_ID, C_ID).
-#[derive(Clone, Copy, Debug, PartialEq, Eq, PartialOrd, Ord, Hash)]
+#[derive(Clone, Copy, PartialEq, Eq)]
 pub struct CustomerKey {
     pub warehouse: u32,
     pub district: u32,
@@ -25,7 +25,7 @@ pub struct CustomerKey {
 }
 
 /// (NO_W_ID, NO_D_ID, NO_O_ID).
-#[derive(Clone, Copy, Debug, PartialEq, Eq, PartialOrd, Ord, Hash)]
+#[derive(Clone, Copy, PartialEq, Eq)]
 pub struct NewOrderKey {
     pub warehouse: u32,
     pub district: u32,
@@ -33,7 +33,7 @@ pub struct NewOrderKey {
 }
 
 /// (O_W_ID, O_D_ID, O_ID).
-#[derive(Clone, Copy, Debug, PartialEq, Eq, PartialOrd, Ord, Hash)]
+#[derive(Clone, Copy, PartialEq, Eq)]
 pub struct OrderKey {
     pub warehouse: u32,
     pub district: u32,
@@ -41,7 +41,7 @@ pub struct OrderKey {
 }
 
 /// (OL_W_ID, OL_D_ID, OL_O_ID, OL_NUMBER).
-#[derive(Clone, Copy, Debug, PartialEq, Eq, PartialOrd, Ord, Hash)]
+#[derive(Clone, Copy, PartialEq, Eq)]
 pub struct OrderLineKey {
     pub warehouse: u32,
     pub district: u32,
@@ -50,13 +50,13 @@ pub struct OrderLineKey {
 }
 
 /// I_ID.
-#[derive(Clone, Copy, Debug, PartialEq, Eq, PartialOrd, Ord, Hash)]
+#[derive(Clone, Copy, PartialEq, Eq)]
 pub struct ItemKey {
     pub item: u32,
 }
 
 /// (S_W_ID, S_I_ID).
-#[derive(Clone, Copy, Debug, PartialEq, Eq, PartialOrd, Ord, Hash)]
+#[derive(Clone, Copy, PartialEq, Eq)]
 pub struct StockKey {
     pub warehouse: u32,
     pub item: u32,

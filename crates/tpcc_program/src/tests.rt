@@ -1,7 +1,8 @@
 //! The words of the command line, and what they refuse.
-use super::*;
-use crate::options::Task;
+use crate::{ProgramFault, Task, read_words};
+use std::alloc::Global;
 use std::test::Fail;
+use tpcc_audit::DumpFault;
 use tpcc_money::Moment;
 use tpcc_population::ScaleFault;
 use tpcc_rows::Table;

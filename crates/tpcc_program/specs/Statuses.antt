@@ -6,8 +6,8 @@ use Rattle.tpcc_audit.specs.declared.fault.DumpFault.{DumpFault}
 use Rattle.tpcc_audit.specs.declared.fault.DumpFault.TheVariants as dump
 use Rattle.tpcc_run.specs.declared.fault.RunFault.{RunFault}
 use Rattle.tpcc_run.specs.declared.fault.RunFault.TheVariants as run
-use Rattle.tpcc.specs.declared.fault.ProgramFault.{ProgramFault}
-use Rattle.tpcc.specs.declared.fault.ProgramFault.TheVariants as program
+use Rattle.tpcc_program.specs.declared.fault.ProgramFault.{ProgramFault}
+use Rattle.tpcc_program.specs.declared.fault.ProgramFault.TheVariants as program
 
 -- 2 for what a script's lines say, 3 for reading and writing, 4 for memory
 abbrev pub status_of_script : ScriptFault → ℕ

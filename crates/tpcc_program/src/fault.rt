@@ -1,6 +1,6 @@
 //! Why the program ends early, with its line on standard error and its exit status.
 ghost use Rattle.std.specs.Prelude.{◌≡◌};
-ghost use Rattle.tpcc.specs.Statuses.{status_of};
+ghost use Rattle.tpcc_program.specs.Statuses.{status_of};
 
 use thiserror::Error;
 use tpcc_audit::DumpFault;

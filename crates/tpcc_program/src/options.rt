@@ -1,7 +1,7 @@
 //! What the words of the command line ask.
 ghost use Rattle.std.specs.Prelude.{◌≡◌, ◌≤◌, IfOk};
-ghost use Rattle.tpcc.specs.Openings.{named_opening};
-ghost use Rattle.tpcc.specs.Tasks.{HasPlan};
+ghost use Rattle.tpcc_program.specs.Openings.{named_opening};
+ghost use Rattle.tpcc_program.specs.Tasks.{HasPlan};
 ghost use Rattle.tpcc_run.specs.Outcome.{IsPlan};
 
 use crate::fault::ProgramFault;

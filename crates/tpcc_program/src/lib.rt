@@ -1,0 +1,15 @@
+//! The parts of the program: what the words of the command line ask, why the program ends early and with which
+//! status, and how far a run has come.
+#![tactic(auto)]
+
+mod fault;
+mod options;
+mod progress;
+#[cfg(test)]
+mod progress_tests;
+#[cfg(test)]
+mod tests;
+
+pub use fault::ProgramFault;
+pub use options::{Asked, Task, read_words};
+pub use progress::{Counting, Line, Progress};
