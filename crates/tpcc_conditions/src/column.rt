@@ -11,7 +11,7 @@ use tpcc_rows::rows::*;
 use tpcc_tables::tables::Tables;
 
 /// A column of those rows of a table that have a part of a key.
-#[derive(Clone, Copy, Debug)]
+#[derive(Clone, Copy)]
 pub enum Column {
     /// D_YTD of a warehouse.
     DistrictTotals(u32),

@@ -9,7 +9,7 @@ use tpcc_rows::row::Table;
 use tpcc_tables::tables::Tables;
 
 /// The conditions of clause 3.3.2.
-#[derive(Clone, Copy, Debug)]
+#[derive(Clone, Copy)]
 pub enum Condition {
     One,
     Two,

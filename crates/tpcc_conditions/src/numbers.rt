@@ -11,7 +11,7 @@ use tpcc_rows::rows::*;
 use tpcc_tables::tables::Tables;
 
 /// The numbers of a warehouse and district in a table.
-#[derive(Clone, Copy, Debug)]
+#[derive(Clone, Copy)]
 pub enum Numbers {
     /// O_ID.
     Orders(u32, u32),
