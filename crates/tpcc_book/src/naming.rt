@@ -44,9 +44,13 @@ impl<N: Naming> Ledger for PaidCents<N> {
 /// The two ledgers of a book that has not been started.
 #[derive(Drop)]
 pub struct Blanks {
+    /// For the entries that are journaled.
     pub entries: Blank,
+    /// For the cents that are paid.
     pub cents: Blank,
+    /// It has 10,001 parts.
     ghost all_entries: { entries.parts ≡ 10001 },
+    /// It has 10,001 parts.
     ghost all_cents: { cents.parts ≡ 10001 },
 }
 

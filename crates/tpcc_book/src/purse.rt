@@ -49,14 +49,15 @@ impl<N: Naming> Purse<N> {
         self.entries
     }
 
-    /// The sum of the payments that were made by this purse.
+    /// The sum of the payments that were made by this purse, in cents.
     pub fn paid(&self) -> Cents
         ensures paid { result ≡ self.now.paid }
     {
         Cents::new(self.cents as i64)
     }
 
-    /// How many purses can still be split off, 10,000 at first.
+    /// How many purses can still be split off: of a book's first purse 10,000 less those that were split off, of any
+    /// other 0.
     pub fn room(&self) -> u32
         ensures room { result ≡ self.now.room }
     {

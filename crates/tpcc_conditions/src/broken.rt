@@ -10,6 +10,7 @@ use tpcc_rows::rows::*;
 pub struct Broken {
     /// 1 to 10 or 12.
     pub condition: u32,
+    /// W_ID of the row.
     pub warehouse: u32,
     /// 0 where the row is a warehouse's.
     pub district: u32,
@@ -17,6 +18,7 @@ pub struct Broken {
     pub number: u32,
 }
 
+/// A condition that fails at a WAREHOUSE row.
 pub fn at_warehouse(condition: u32, row: &WarehouseRow) -> Broken
     ensures { as_model result ≡ model.at_warehouse condition row.now }
 {
@@ -28,6 +30,7 @@ pub fn at_warehouse(condition: u32, row: &WarehouseRow) -> Broken
     }
 }
 
+/// A condition that fails at a DISTRICT row.
 pub fn at_district(condition: u32, row: &DistrictRow) -> Broken
     ensures { as_model result ≡ model.at_district condition row.now }
 {
@@ -39,6 +42,7 @@ pub fn at_district(condition: u32, row: &DistrictRow) -> Broken
     }
 }
 
+/// A condition that fails at an ORDER row.
 pub fn at_order(condition: u32, row: &OrderRow) -> Broken
     ensures { as_model result ≡ model.at_order condition row.now }
 {
@@ -50,6 +54,7 @@ pub fn at_order(condition: u32, row: &OrderRow) -> Broken
     }
 }
 
+/// A condition that fails at an ORDER-LINE row; the line's own number is not told.
 pub fn at_order_line(condition: u32, row: &OrderLineRow) -> Broken
     ensures { as_model result ≡ model.at_order_line condition row.now }
 {
@@ -61,6 +66,7 @@ pub fn at_order_line(condition: u32, row: &OrderLineRow) -> Broken
     }
 }
 
+/// A condition that fails at a CUSTOMER row.
 pub fn at_customer(condition: u32, row: &CustomerRow) -> Broken
     ensures { as_model result ≡ model.at_customer condition row.now }
 {

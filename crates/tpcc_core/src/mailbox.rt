@@ -6,7 +6,9 @@ use tpcc_rows::{Refusal, Reply, Request};
 /// A request with the purse that it is served by.
 #[derive(Drop)]
 pub struct Letter<P> {
+    /// What the terminal asks.
     pub request: Request,
+    /// The terminal's purse.
     pub purse: P,
 }
 
@@ -37,7 +39,9 @@ pub enum Hand<P> {
 /// What a terminal has of an answer that it collected: all but the purse.
 #[derive(Drop)]
 pub struct Collected {
+    /// The request that was served.
     pub request: Request,
+    /// Its reply, or why it was refused.
     pub outcome: Result<Reply, Refusal>,
     /// The place of its entry in the journal, counted from 0; None after a refusal.
     pub place: Option<u64>,

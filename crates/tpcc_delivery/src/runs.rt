@@ -13,6 +13,7 @@ use tpcc_tables::tables::Tables;
 /// A run that nothing refuses, with what it answers.
 #[derive(Clone, Copy, PartialEq, Eq)]
 pub struct PreparedRun {
+    /// What the run will answer.
     pub reply: Delivery,
 }
 

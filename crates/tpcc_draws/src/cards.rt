@@ -5,10 +5,15 @@ ghost use Rattle.tpcc_draws.specs.Cards.{cards};
 /// A card of a terminal's deck: which of the five transactions comes next.
 #[derive(Clone, Copy, Debug, PartialEq, Eq)]
 pub enum Card {
+    /// New-Order (2.4): ten of a deck's 23 cards.
     NewOrder,
+    /// Payment (2.5): ten of them.
     Payment,
+    /// Order-Status (2.6): one of them.
     OrderStatus,
+    /// Delivery (2.7): one of them.
     Delivery,
+    /// Stock-Level (2.8): one of them.
     StockLevel,
 }
 

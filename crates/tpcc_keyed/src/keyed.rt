@@ -14,8 +14,10 @@ pub trait Keyed: Copy {
     /// The columns of the key alone.
     type Key;
 
+    /// The key of a row, as the list of its numbers.
     ghost key: { Self → List ℕ };
 
+    /// The numbers of a key, in the same order.
     ghost numbers: { Self.Key → List ℕ };
 
     /// Whether this row's key is before another row's.

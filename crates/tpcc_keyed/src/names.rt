@@ -15,10 +15,15 @@ use tpcc_rows::text::Text;
 /// What the order of names looks at in a customer.
 #[derive(Clone, Copy, PartialEq, Eq)]
 pub struct CustomerName {
+    /// C_W_ID.
     pub warehouse: u32,
+    /// C_D_ID.
     pub district: u32,
+    /// C_LAST.
     pub last: Text<16>,
+    /// C_FIRST.
     pub first: Text<16>,
+    /// C_ID.
     pub id: u32,
 }
 

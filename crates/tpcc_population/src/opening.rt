@@ -8,12 +8,18 @@ use tpcc_money::Moment;
 /// How the tables start: each row by its numbers alone, or drawn from its own stream.
 #[derive(Clone, Copy)]
 pub enum Opening {
+    /// Each row is a plain formula of its numbers.
     Plain {
+        /// How large the tables start.
         scale: Scale,
     },
+    /// Each row is drawn from a stream of its own (4.3.2), named by the seed, the table and the row.
     Seeded {
+        /// How large the tables start.
         scale: Scale,
+        /// The seed of all streams.
         seed: u64,
+        /// C_SINCE, H_DATE, O_ENTRY_D and, of a delivered order, OL_DELIVERY_D of each row.
         moment: Moment,
     },
 }

@@ -31,12 +31,19 @@ pub enum Task {
 /// What the words ask.
 #[derive(Clone, Copy, Debug)]
 pub struct Asked {
+    /// What to do.
     pub task: Task,
+    /// `--warehouses`, else 1. Whether there is such a scale is told by [`Asked::opening`].
     pub warehouses: u32,
+    /// `--customers`: of each district; else 10.
     pub customers: u32,
+    /// `--items`, else 100.
     pub items: u32,
+    /// `--seed`, else 1.
     pub seed: u64,
+    /// `--moment`, in seconds since 1970, else 0.
     pub moment: Moment,
+    /// Whether `--seeded` is among the words: else the opening is plain and has neither seed nor moment.
     pub seeded: bool,
 }
 

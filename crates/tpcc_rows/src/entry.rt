@@ -9,6 +9,8 @@ pub struct Entry {
     pub terminal: u32,
     /// How many entries of this terminal stand before this one: 0, 1, 2 and so on.
     pub number: u64,
+    /// The request, as it was asked.
     pub request: Request,
+    /// What it was answered.
     pub reply: Reply,
 }

@@ -7,6 +7,7 @@ use std::marker::Model;
 
 /// A value for places that are not used.
 pub trait Blank: Copy {
+    /// The value.
     ghost blank: { Self };
 
     /// That value; nothing shows it.

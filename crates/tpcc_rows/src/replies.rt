@@ -18,9 +18,13 @@ pub enum Brand {
 /// A line of an accepted order (2.4.3.3).
 #[derive(Clone, Copy, PartialEq, Eq)]
 pub struct EnteredLine {
+    /// OL_NUMBER: the line's place in the request, from 1.
     pub number: u32,
+    /// OL_SUPPLY_W_ID.
     pub supply: u32,
+    /// OL_I_ID.
     pub item: u32,
+    /// OL_QUANTITY.
     pub quantity: u32,
     /// I_PRICE.
     pub price: Cents,
@@ -30,6 +34,7 @@ pub struct EnteredLine {
     pub stock: u32,
     /// I_NAME.
     pub name: Text<24>,
+    /// The brand of the line's item and stock.
     pub brand: Brand,
 }
 
@@ -70,31 +75,46 @@ pub type EnteredLines = Few<EnteredLine, 15>;
 /// An order that was entered (2.4.3.3).
 #[derive(Clone, Copy, PartialEq, Eq)]
 pub struct AcceptedOrder {
+    /// W_ID.
     pub warehouse: u32,
+    /// D_ID.
     pub district: u32,
+    /// C_ID.
     pub customer: u32,
+    /// C_LAST.
     pub last: Text<16>,
+    /// C_CREDIT.
     pub credit: Text<2>,
+    /// C_DISCOUNT.
     pub discount: Rate,
     /// O_ID.
     pub order: u32,
     /// O_OL_CNT.
     pub line_count: u32,
+    /// W_TAX.
     pub warehouse_tax: Rate,
+    /// D_TAX.
     pub district_tax: Rate,
+    /// O_ENTRY_D.
     pub entry_date: Moment,
     /// The order's total after discount and taxes, rounded half up to a cent.
     pub total: Cents,
+    /// The lines, in the order of the request.
     pub lines: EnteredLines,
 }
 
 /// An order with an unused item, which was rolled back (2.4.3.4).
 #[derive(Clone, Copy, PartialEq, Eq)]
 pub struct RolledBackOrder {
+    /// W_ID.
     pub warehouse: u32,
+    /// D_ID.
     pub district: u32,
+    /// C_ID.
     pub customer: u32,
+    /// C_LAST.
     pub last: Text<16>,
+    /// C_CREDIT.
     pub credit: Text<2>,
     /// The O_ID that the order would have had.
     pub order: u32,
@@ -103,31 +123,52 @@ pub struct RolledBackOrder {
 /// What became of a New-Order request.
 #[derive(Clone, Copy, PartialEq, Eq)]
 pub enum Entered {
+    /// All its items are there, and the order was entered.
     Accepted(AcceptedOrder),
+    /// Some line's item is unused: no row was changed (2.4.2.3).
     RolledBack(RolledBackOrder),
 }
 
 /// A payment that was made (2.5.3.3); all values are those after it.
 #[derive(Clone, Copy, PartialEq, Eq)]
 pub struct Paid {
+    /// W_ID: the warehouse that was paid.
     pub warehouse: u32,
+    /// D_ID: the district that was paid.
     pub district: u32,
+    /// C_W_ID.
     pub customer_warehouse: u32,
+    /// C_D_ID.
     pub customer_district: u32,
+    /// C_ID of the customer whom the request names.
     pub customer: u32,
+    /// H_DATE.
     pub date: Moment,
+    /// H_AMOUNT.
     pub amount: Cents,
+    /// W_STREET_1 to W_ZIP.
     pub warehouse_address: Address,
+    /// D_STREET_1 to D_ZIP.
     pub district_address: Address,
+    /// C_FIRST.
     pub first: Text<16>,
+    /// C_MIDDLE.
     pub middle: Text<2>,
+    /// C_LAST.
     pub last: Text<16>,
+    /// C_STREET_1 to C_ZIP.
     pub customer_address: Address,
+    /// C_PHONE.
     pub phone: Text<16>,
+    /// C_SINCE.
     pub since: Moment,
+    /// C_CREDIT.
     pub credit: Text<2>,
+    /// C_CREDIT_LIM.
     pub credit_limit: Cents,
+    /// C_BALANCE, after the payment.
     pub balance: Cents,
+    /// C_DISCOUNT.
     pub discount: Rate,
     /// The first 200 bytes of C_DATA, where the credit is bad.
     pub information: Option<Text<200>>,
@@ -136,10 +177,15 @@ pub struct Paid {
 /// A line of a customer's last order (2.6.3.3).
 #[derive(Clone, Copy, PartialEq, Eq)]
 pub struct StatusLine {
+    /// OL_SUPPLY_W_ID.
     pub supply: u32,
+    /// OL_I_ID.
     pub item: u32,
+    /// OL_QUANTITY.
     pub quantity: u32,
+    /// OL_AMOUNT.
     pub amount: Cents,
+    /// OL_DELIVERY_D: None until the order is delivered.
     pub delivered: Option<Moment>,
 }
 
@@ -167,20 +213,30 @@ pub type StatusLines = Few<StatusLine, 15>;
 pub struct LastOrder {
     /// O_ID.
     pub order: u32,
+    /// O_ENTRY_D.
     pub entry_date: Moment,
+    /// O_CARRIER_ID: None until the order is delivered.
     pub carrier: Option<u32>,
+    /// The lines, in ascending order of OL_NUMBER.
     pub lines: StatusLines,
 }
 
 /// What Order-Status answers (2.6.3.3).
 #[derive(Clone, Copy, PartialEq, Eq)]
 pub struct Status {
+    /// W_ID.
     pub warehouse: u32,
+    /// D_ID.
     pub district: u32,
+    /// C_ID of the customer whom the request names.
     pub customer: u32,
+    /// C_FIRST.
     pub first: Text<16>,
+    /// C_MIDDLE.
     pub middle: Text<2>,
+    /// C_LAST.
     pub last: Text<16>,
+    /// C_BALANCE.
     pub balance: Cents,
     /// None where the customer has no order.
     pub order: Option<LastOrder>,
@@ -189,8 +245,11 @@ pub struct Status {
 /// What Stock-Level answers (2.8.3.3).
 #[derive(Clone, Copy, PartialEq, Eq)]
 pub struct Level {
+    /// W_ID.
     pub warehouse: u32,
+    /// D_ID.
     pub district: u32,
+    /// The threshold of the request.
     pub threshold: u32,
     /// How many distinct items of the last 20 orders are below the threshold.
     pub low_stock: u32,
@@ -199,9 +258,11 @@ pub struct Level {
 /// One district of a ticket, run (2.7.4.2).
 #[derive(Clone, Copy, PartialEq, Eq)]
 pub struct DistrictDelivery {
+    /// The ticket whose district was run.
     pub ticket: Ticket,
     /// The moment of the run.
     pub at: Moment,
+    /// D_ID, 1 to 10.
     pub district: u32,
     /// The order that was delivered; None where the district had no NEW-ORDER row and was skipped.
     pub order: Option<u32>,
@@ -210,13 +271,16 @@ pub struct DistrictDelivery {
 /// What a Deliver request answers.
 #[derive(Clone, Copy, PartialEq, Eq)]
 pub enum Delivery {
+    /// A district of the first ticket was run.
     District(DistrictDelivery),
+    /// No ticket was queued, and no row was changed.
     NoneQueued,
 }
 
 /// The ten runs of one ticket, as the delivery result log has them (2.7.2.2).
 #[derive(Clone, Copy, PartialEq, Eq)]
 pub struct Delivered {
+    /// The ticket of the tenth run.
     pub ticket: Ticket,
     /// The moment of the tenth run.
     pub at: Moment,
@@ -227,10 +291,16 @@ pub struct Delivered {
 /// What an accepted request is answered.
 #[derive(Clone, Copy, PartialEq, Eq)]
 pub enum Reply {
+    /// Of a New-Order.
     Entered(Entered),
+    /// Of a Payment.
     Paid(Paid),
+    /// Of an Order-Status.
     Status(Status),
+    /// Of a Stock-Level.
     Level(Level),
+    /// Of a Delivery: the ticket that was queued.
     Queued(Ticket),
+    /// Of a Deliver: what its run did.
     Delivery(Delivery),
 }

@@ -15,7 +15,10 @@ use tpcc_money::{Cents, Moment, NoMemory};
 /// A customer by C_ID or by C_LAST (2.5.1.2, 2.6.1.2).
 #[derive(Clone, Copy, PartialEq, Eq)]
 pub enum Who {
+    /// By C_ID.
     Number(u32),
+    /// By C_LAST: of n customers of that name in the district, by C_FIRST and then C_ID, number n/2 rounded up
+    /// (2.5.2.2, 2.6.2.2).
     Name(Text<16>),
 }
 
@@ -104,21 +107,30 @@ impl Eq for Lines {
 /// A New-Order request (2.4.1): 5 to 15 lines.
 #[derive(Drop, PartialEq, Eq)]
 pub struct Order {
+    /// W_ID: the home warehouse.
     pub warehouse: u32,
+    /// D_ID.
     pub district: u32,
+    /// C_ID: a customer of that district.
     pub customer: u32,
     /// O_ENTRY_D.
     pub moment: Moment,
+    /// The lines, which take the numbers 1, 2 and so on.
     pub lines: Lines,
 }
 
 /// A Payment request (2.5.1): the warehouse and district that are paid, and the customer who pays.
 #[derive(Clone, Copy, PartialEq, Eq)]
 pub struct Payment {
+    /// W_ID: the warehouse that is paid.
     pub warehouse: u32,
+    /// D_ID: the district that is paid.
     pub district: u32,
+    /// C_W_ID: it may be another than the one that is paid.
     pub customer_warehouse: u32,
+    /// C_D_ID.
     pub customer_district: u32,
+    /// The customer of that district who pays.
     pub who: Who,
     /// H_DATE.
     pub moment: Moment,
@@ -129,23 +141,31 @@ pub struct Payment {
 /// An Order-Status request (2.6.1).
 #[derive(Clone, Copy, PartialEq, Eq)]
 pub struct StatusQuery {
+    /// W_ID: the customer's warehouse.
     pub warehouse: u32,
+    /// D_ID: the customer's district.
     pub district: u32,
+    /// The customer of that district whose last order is asked for.
     pub who: Who,
 }
 
 /// A Stock-Level request (2.8.1): the threshold is 10 to 20.
 #[derive(Clone, Copy, PartialEq, Eq)]
 pub struct StockQuery {
+    /// W_ID: the warehouse whose stock is looked at.
     pub warehouse: u32,
+    /// D_ID: the district whose last 20 orders are looked at.
     pub district: u32,
+    /// An item is low in stock where its S_QUANTITY is below it.
     pub threshold: u32,
 }
 
 /// A Delivery request (2.7.1), as it waits in the queue: the carrier is 1 to 10.
 #[derive(Clone, Copy, PartialEq, Eq)]
 pub struct Ticket {
+    /// W_ID: the warehouse whose ten districts are delivered.
     pub warehouse: u32,
+    /// O_CARRIER_ID of the orders that it delivers.
     pub carrier: u32,
     /// The moment at which the ticket was queued (2.7.2.2).
     pub queued: Moment,
@@ -154,16 +174,22 @@ pub struct Ticket {
 /// A ticket in the queue with the district, 1 to 10, that its next run delivers.
 #[derive(Clone, Copy, PartialEq, Eq)]
 pub struct QueuedTicket {
+    /// The Delivery request.
     pub ticket: Ticket,
+    /// The district of the next run.
     pub next: u32,
 }
 
 /// One of the six requests.
 #[derive(Drop, PartialEq, Eq)]
 pub enum Request {
+    /// Enter an order (2.4).
     NewOrder(Order),
+    /// Pay into a warehouse and a district (2.5).
     Payment(Payment),
+    /// Show a customer's last order (2.6).
     Status(StatusQuery),
+    /// Count the items that are low in stock (2.8).
     Stock(StockQuery),
     /// Queue a ticket.
     Delivery(Ticket),

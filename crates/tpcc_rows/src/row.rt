@@ -7,14 +7,23 @@ use crate::rows::{
 /// The nine tables (1.3).
 #[derive(Clone, Copy, Debug, PartialEq, Eq, PartialOrd, Ord, Hash)]
 pub enum Table {
+    /// WAREHOUSE.
     Warehouse,
+    /// DISTRICT.
     District,
+    /// CUSTOMER.
     Customer,
+    /// HISTORY.
     History,
+    /// ORDER.
     Order,
+    /// ORDER-LINE.
     OrderLine,
+    /// NEW-ORDER.
     NewOrder,
+    /// ITEM.
     Item,
+    /// STOCK.
     Stock,
 }
 
@@ -36,27 +45,45 @@ impl Table {
 /// One row of one of the nine tables.
 #[derive(Clone, Copy, PartialEq, Eq)]
 pub enum Row {
+    /// Of WAREHOUSE.
     Warehouse(WarehouseRow),
+    /// Of DISTRICT.
     District(DistrictRow),
+    /// Of CUSTOMER.
     Customer(CustomerRow),
+    /// Of HISTORY.
     History(HistoryRow),
+    /// Of ORDER.
     Order(OrderRow),
+    /// Of ORDER-LINE.
     OrderLine(OrderLineRow),
+    /// Of NEW-ORDER.
     NewOrder(NewOrderRow),
+    /// Of ITEM.
     Item(ItemRow),
+    /// Of STOCK.
     Stock(StockRow),
 }
 
 /// A row that stands in its table. NEW-ORDER rows are plain numbers and go out by value.
 #[derive(Clone, Copy)]
 pub enum RowRef<'a> {
+    /// Of WAREHOUSE.
     Warehouse(&'a WarehouseRow),
+    /// Of DISTRICT.
     District(&'a DistrictRow),
+    /// Of CUSTOMER.
     Customer(&'a CustomerRow),
+    /// Of HISTORY.
     History(&'a HistoryRow),
+    /// Of ORDER.
     Order(&'a OrderRow),
+    /// Of ORDER-LINE.
     OrderLine(&'a OrderLineRow),
+    /// Of NEW-ORDER.
     NewOrder(NewOrderRow),
+    /// Of ITEM.
     Item(&'a ItemRow),
+    /// Of STOCK.
     Stock(&'a StockRow),
 }

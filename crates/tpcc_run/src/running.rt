@@ -22,7 +22,7 @@ use tpcc_terminal::Receipt;
 
 /// Runs terminals, servers and a delivery runner on the book of an opening, each in a thread of its own;
 /// `make` gives the call of each job. Once all are joined it settles the book with the purses and writes
-/// the report: the entries, what was paid, and the rise of W_YTD, which are equal. It waits.
+/// the report: the entries, and what was paid and the rise of W_YTD, which are equal. It waits.
 ///
 /// NoMemory where a growth or a thread was refused, Missing where a purse did not come back, Write where
 /// the writer fails.

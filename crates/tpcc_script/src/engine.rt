@@ -13,6 +13,7 @@ use tpcc_terminal::Screen;
 
 /// Tables with the journal that led to them.
 pub trait Engine {
+    /// What it is seen as: its rows, its queue and its journal.
     ghost book: { Self → Book };
 
     /// One turn: a transaction and its entry, or a refusal and no change.

@@ -30,7 +30,9 @@ impl<N: Naming, T: Seating, C> Model for Job<N, T, C> {
 
 /// What clauses see of a job. No value of it is made.
 pub struct Letter<N: Naming, T: Seating> {
+    /// The job's request.
     pub request: Request,
+    /// The job's purse.
     pub purse: SeatedPurse<N, T>,
 }
 

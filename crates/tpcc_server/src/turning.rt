@@ -7,6 +7,7 @@ use tpcc_rows::Request;
 /// What makes one turn of a register, once: it takes the request, the terminal and the number of entries
 /// that the terminal made.
 pub trait Turning: Drop {
+    /// Makes the turn, and spends the call.
     fn turn_once(
         self,
         register: &mut Register,
@@ -23,8 +24,11 @@ pub type Call = Box<dyn FnMut(&mut Register, Request, u32, u64) -> Turned + Send
 /// A boxed call that is known to make a turn.
 #[derive(Drop)]
 pub struct Turner {
+    /// The call.
     pub call: Call,
+    /// It may be called with any register, request, terminal and number.
     pub ghost takes: { TakesTurn (Call.pre call) },
+    /// Each call of it makes a turn.
     pub ghost turns: { MakesTurn (Call.post call) },
 }
 

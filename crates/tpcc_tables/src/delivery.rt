@@ -79,7 +79,7 @@ fn credit(row: &mut CustomerRow, amount: Cents)
     row.delivery_count += 1;
 }
 
-/// The balance of an order's customer raised by its amount.
+/// The balance of an order's customer raised by its amount, and C_DELIVERY_CNT by 1.
 pub fn charge(
     rows: &mut Vec<CustomerRow>,
     warehouse: u32,

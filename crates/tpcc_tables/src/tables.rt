@@ -20,6 +20,8 @@ use std::marker::Model;
 use tpcc_keyed::{Names, Parts};
 use tpcc_rows::rows::*;
 
+/// The nine tables (1.3), whose rows are always well-keyed: keys ascend, parents exist, and all columns are in their
+/// ranges. It is seen as its rows, and the room that was made for one more payment and one more order.
 #[derive(Drop)]
 pub struct Tables {
     warehouses: Vec<WarehouseRow>,
@@ -80,25 +82,29 @@ impl Tables {
         let _warehouses = &self.warehouses;
     }
 
+    /// The WAREHOUSE row of a key.
     pub fn warehouse(&self, warehouse: u32) -> Option<&WarehouseRow>
         ensures { option_copied result ≡ find_warehouse self.now.rows warehouse }
     {
         find::warehouse(self.warehouses.as_slice(), warehouse)
     }
 
+    /// The DISTRICT row of a key.
     pub fn district(&self, warehouse: u32, district: u32) -> Option<&DistrictRow>
         ensures { option_copied result ≡ find_district self.now.rows warehouse district }
     {
         find::district(self.districts.as_slice(), warehouse, district)
     }
 
+    /// The CUSTOMER row of a key.
     pub fn customer(&self, warehouse: u32, district: u32, customer: u32) -> Option<&CustomerRow>
         ensures { option_copied result ≡ find_customer self.now.rows warehouse district customer }
     {
         find::customer(self.customers.as_slice(), warehouse, district, customer)
     }
 
-    /// The customer who is chosen by a last name.
+    /// The customer who is chosen by a last name (2.5.2.2, 2.6.2.2): of n customers of that name in the district, by
+    /// C_FIRST and then C_ID, number n/2 rounded up.
     pub fn customer_by_name(
         &self,
         warehouse: u32,
@@ -113,6 +119,7 @@ impl Tables {
         }
     }
 
+    /// The ORDER row of a key.
     pub fn order(&self, warehouse: u32, district: u32, order: u32) -> Option<&OrderRow>
         ensures { option_copied result ≡ find_order self.now.rows warehouse district order }
     {
@@ -153,12 +160,14 @@ impl Tables {
         extremes::oldest_new(&self.new_orders, warehouse, district)
     }
 
+    /// The ITEM row of a key.
     pub fn item(&self, item: u32) -> Option<&ItemRow>
         ensures { option_copied result ≡ find_item self.now.rows item }
     {
         find::item(self.items.as_slice(), item)
     }
 
+    /// The STOCK row of a key: of an item in a warehouse.
     pub fn stock(&self, warehouse: u32, item: u32) -> Option<&StockRow>
         ensures { option_copied result ≡ find_stock self.now.rows warehouse item }
     {

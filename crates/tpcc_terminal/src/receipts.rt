@@ -17,12 +17,15 @@ pub struct Receipt {
     pub number: u64,
     /// The place of the entry in the journal, counted from 0.
     pub place: u64,
+    /// The request that was served.
     pub request: Request,
+    /// What it was answered.
     pub reply: Reply,
 }
 
 /// A purse, with a seat or without, tells its terminal and how many entries it has made.
 pub trait Numbered {
+    /// What it is seen as without its seat.
     ghost held: { Self → Held };
 
     /// The terminal whose purse it is.

@@ -7,8 +7,11 @@ use tpcc_money::Cents;
 /// rise of W_YTD over all warehouses. Its text is three lines.
 #[derive(Clone, Copy, Debug, PartialEq, Eq)]
 pub struct Report {
+    /// How many entries the journal has.
     pub entries: u64,
+    /// The sum of the payments in the purses, in cents.
     pub paid: Cents,
+    /// By how much the sum of W_YTD rose since the opening, in cents.
     pub rise: Cents,
 }
 

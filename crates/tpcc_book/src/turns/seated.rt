@@ -75,14 +75,15 @@ impl<N: Naming, T: Seating> SeatedPurse<N, T> {
         self.purse.entries()
     }
 
-    /// The sum of the payments that were made by this purse.
+    /// The sum of the payments that were made by this purse, in cents.
     pub fn paid(&self) -> Cents
         ensures paid { result ≡ self.now.purse.paid }
     {
         self.purse.paid()
     }
 
-    /// How many purses can still be split off, 10,000 at first.
+    /// How many purses can still be split off: of a book's first purse 10,000 less those that were split off, of any
+    /// other 0.
     pub fn room(&self) -> u32
         ensures room { result ≡ self.now.purse.room }
     {

@@ -11,7 +11,9 @@ use tpcc_rows::DistrictKey;
 /// The rows of one district.
 #[derive(Drop)]
 pub struct Part<T> {
+    /// The district.
     pub owner: DistrictKey,
+    /// Its rows, in ascending order of their keys.
     pub rows: Vec<T>,
 }
 

@@ -25,6 +25,7 @@ impl Tables {
     }
 
     /// The row at a place, from 0: in ascending order of keys, of HISTORY in order of appending.
+    /// None behind the last row.
     #[tactic(auto, unfolding(crate::specs::Positions::row_at))]
     pub fn row(&self, table: Table, position: usize) -> Option<RowRef<'_>>
         ensures { option_map lent_row result ≡ row_at self.now.rows table position }

@@ -46,8 +46,8 @@ impl Tables {
     }
 
     /// Pays the amount of a HISTORY row into its warehouse and district (2.5.2.2), takes it from
-    /// the customer's balance and appends the row. C_DATA becomes the information, where there is
-    /// one. Takes no memory.
+    /// the customer's balance, adds it to C_YTD_PAYMENT and 1 to C_PAYMENT_CNT, and appends the
+    /// row. C_DATA becomes the information, where there is one. Takes no memory.
     pub fn pay(&mut self, history: HistoryRow, information: Option<Text<500>>)
         requires room { 0 < self.old.payment_room }
         requires payment { IsPayment self.old.rows history information }
@@ -94,8 +94,8 @@ impl Tables {
     }
 
     /// Delivers a district's oldest new order (2.7.4.2): its NEW-ORDER row goes, its carrier and
-    /// the moment of delivery of its lines are set, and the sum of its lines is added to its
-    /// customer's balance. Takes no memory.
+    /// the moment of delivery of its lines are set, and its customer's balance rises by the sum of
+    /// its lines and C_DELIVERY_CNT by 1. Takes no memory.
     pub fn deliver(
         &mut self,
         warehouse: u32,
