@@ -61,7 +61,10 @@ fn next_district(rt: &impl Abort, waiting: &Queue) -> u32 {
 
 /// C_BALANCE of customer 8 of a district.
 fn balance(rt: &impl Abort, tables: &Tables, district: u32) -> Cents {
-    tables.customer(1, district, 8).expect(rt, "customer").balance
+    tables
+        .customer(1, district, 8)
+        .expect(rt, "customer")
+        .balance
 }
 
 /// O_CARRIER_ID of order 8 of a district.
@@ -102,7 +105,13 @@ fn ten_runs_of_a_ticket(rt: HostRuntime) {
     let at = Moment::new(180);
     for district in 1..11u32 {
         assert_eq!(rt; next_district(&rt, &waiting), district);
-        delivers(&rt, &mut tables, &mut waiting, at, run(at, district, Some(8)));
+        delivers(
+            &rt,
+            &mut tables,
+            &mut waiting,
+            at,
+            run(at, district, Some(8)),
+        );
     }
     assert_eq!(rt; waiting.len(), 0);
     let later = Moment::new(240);

@@ -54,7 +54,11 @@ fn put_lines(rt: &impl Abort, tables: &mut Tables, district: u32, order: u32) {
 
 /// A customer, the order, and its NEW-ORDER row.
 fn put_order(rt: &impl Abort, tables: &mut Tables, changed: Changed, district: u32, id: u32) {
-    put(rt, tables, Row::Customer(customer_of(changed, district, id)));
+    put(
+        rt,
+        tables,
+        Row::Customer(customer_of(changed, district, id)),
+    );
     put(rt, tables, Row::Order(order(district, id, true)));
     put_lines(rt, tables, district, id);
     if changed.without != Some((district, id)) {

@@ -78,9 +78,7 @@ fn of_five_items(rt: HostRuntime) {
 
 fn shows_fifteen(rt: &impl Abort, reply: &AcceptedOrder) {
     assert_eq!(rt; reply.total, Cents::new(1648));
-    let stocks = [
-        10, 100, 99, 98, 97, 96, 95, 94, 93, 92, 91, 90, 89, 88, 87,
-    ];
+    let stocks = [10, 100, 99, 98, 97, 96, 95, 94, 93, 92, 91, 90, 89, 88, 87];
     shows_stocks(rt, reply, &stocks);
 }
 
