@@ -33,11 +33,11 @@ fn run(at: Moment, district: u32, order: Option<u32>) -> Delivery {
     })
 }
 
-/// So many tickets of warehouse 1, queued.
-fn queued(rt: &(impl Abort + AllocGlobal), tables: &Tables, count: u32) -> Queue {
+/// A ticket, queued so many times.
+fn queued(rt: &(impl Abort + AllocGlobal), tables: &Tables, ticket: Ticket, count: u32) -> Queue {
     let mut waiting = Queue::new(rt.alloc());
     for _ in 0..count {
-        queue(tables, &mut waiting, ticket(1, 3)).expect(rt, "a ticket");
+        queue(tables, &mut waiting, ticket).expect(rt, "a ticket");
     }
     waiting
 }
@@ -89,7 +89,7 @@ fn is_delivered(rt: &impl Abort, tables: &Tables) {
 #[test]
 fn the_first_run_of_a_ticket(rt: HostRuntime) {
     let mut tables = opened(&rt, PLAIN);
-    let mut waiting = queued(&rt, &tables, 1);
+    let mut waiting = queued(&rt, &tables, ticket(1, 3), 1);
     let at = Moment::new(120);
     delivers(&rt, &mut tables, &mut waiting, at, run(at, 1, Some(8)));
     is_delivered(&rt, &tables);
@@ -101,7 +101,7 @@ fn the_first_run_of_a_ticket(rt: HostRuntime) {
 #[test]
 fn ten_runs_of_a_ticket(rt: HostRuntime) {
     let mut tables = opened(&rt, PLAIN);
-    let mut waiting = queued(&rt, &tables, 1);
+    let mut waiting = queued(&rt, &tables, ticket(1, 3), 1);
     let at = Moment::new(180);
     for district in 1..11u32 {
         assert_eq!(rt; next_district(&rt, &waiting), district);
@@ -144,7 +144,7 @@ fn three_tickets(rt: HostRuntime) {
         ..PLAIN
     };
     let mut tables = opened(&rt, left_out);
-    let mut waiting = queued(&rt, &tables, 3);
+    let mut waiting = queued(&rt, &tables, ticket(1, 3), 3);
     deliver_ten(&rt, &mut tables, &mut waiting, Some(8), Some(8));
     deliver_ten(&rt, &mut tables, &mut waiting, Some(10), Some(9));
     deliver_ten(&rt, &mut tables, &mut waiting, None, Some(10));
@@ -170,7 +170,7 @@ fn is_refused(
     refusal: Refusal,
 ) {
     let mut tables = opened_for(rt, balance_before, delivery_count);
-    let mut waiting = queued(rt, &tables, 1);
+    let mut waiting = queued(rt, &tables, ticket(1, 3), 1);
     let found = deliver_next(&mut tables, &mut waiting, Moment::new(120));
     assert!(rt; found == Err(refusal));
     assert_eq!(rt; next_district(rt, &waiting), 1);
@@ -190,7 +190,7 @@ fn refused_runs(rt: HostRuntime) {
 /// The run of an order of 15.00 of a customer with these columns is made.
 fn is_run(rt: &(impl Abort + AllocGlobal), balance: i64, delivery_count: u32) {
     let mut tables = opened_for(rt, balance, delivery_count);
-    let mut waiting = queued(rt, &tables, 1);
+    let mut waiting = queued(rt, &tables, ticket(1, 3), 1);
     let at = Moment::new(120);
     delivers(rt, &mut tables, &mut waiting, at, run(at, 1, Some(8)));
     assert_eq!(rt; next_district(rt, &waiting), 2);
@@ -204,7 +204,7 @@ fn runs_up_to_the_bounds(rt: HostRuntime) {
 }
 
 #[test]
-fn tickets_of_rows_that_do_not_exist(rt: HostRuntime) {
+fn tickets_of_no_warehouse_or_carrier(rt: HostRuntime) {
     let tables = opened(&rt, PLAIN);
     let mut waiting = Queue::new(rt.alloc());
     let cases = [
@@ -220,7 +220,7 @@ fn tickets_of_rows_that_do_not_exist(rt: HostRuntime) {
 #[test]
 fn refused_tickets(rt: HostRuntime) {
     let tables = opened(&rt, PLAIN);
-    let mut waiting = queued(&rt, &tables, 1000);
+    let mut waiting = queued(&rt, &tables, ticket(1, 10), 1000);
     for (carrier, refusal) in [(1u32, Refusal::QueueFull), (11, Refusal::Carrier)] {
         let refused = ticket(1, carrier);
         assert_eq!(rt; queue(&tables, &mut waiting, refused), Err(refusal));
@@ -228,21 +228,20 @@ fn refused_tickets(rt: HostRuntime) {
     assert_eq!(rt; waiting.len(), 1000);
 }
 
-#[test]
-fn a_ticket_in_two_halves(rt: HostRuntime) {
-    let tables = opened(&rt, PLAIN);
+/// A ticket, queued in two halves.
+fn queued_in_two_halves(rt: &(impl Abort + AllocGlobal), tables: &Tables) -> Queue {
     let mut waiting = Queue::new(rt.alloc());
-    prepare_ticket(&tables, &mut waiting, ticket(1, 3)).expect(&rt, "a ticket");
+    prepare_ticket(tables, &mut waiting, ticket(1, 3)).expect(rt, "a ticket");
     assert_eq!(rt; waiting.len(), 0);
     finish_ticket(&mut waiting, ticket(1, 3));
     waiting.in_range();
-    assert_eq!(rt; waiting.len(), 1);
+    waiting
 }
 
 #[test]
-fn a_run_in_two_halves(rt: HostRuntime) {
+fn in_two_halves(rt: HostRuntime) {
     let mut tables = opened(&rt, PLAIN);
-    let mut waiting = queued(&rt, &tables, 1);
+    let mut waiting = queued_in_two_halves(&rt, &tables);
     let at = Moment::new(120);
     let prepared = prepare_run(&tables, &waiting, at).expect(&rt, "a run");
     assert!(rt; prepared.reply == run(at, 1, Some(8)));

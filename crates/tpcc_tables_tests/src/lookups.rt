@@ -201,9 +201,11 @@ fn are_low(rt: &impl Abort, tables: &Tables, threshold: u32, low_stock: u32) {
     assert!(rt; stock_level(tables, &query) == Ok(level));
 }
 
+/// Of a hundred items, 1 to 9 and 91 to 100 are low; the ten orders have the items 1 to 50.
 #[test]
 fn counts_low_items(rt: HostRuntime) {
-    let tables = opened(&rt, TEN);
+    let hundred = Scale { items: 100, ..TEN };
+    let tables = opened(&rt, hundred);
     are_low(&rt, &tables, 10, 0);
     are_low(&rt, &tables, 20, 9);
 }

@@ -34,28 +34,41 @@ fn no_entries(rt: HostRuntime) {
     assert!(rt; journal.entry(0).is_none());
 }
 
-#[test]
-fn entries_are_counted(rt: HostRuntime) {
-    let journal = four_tickets(&rt);
+fn are_counted(rt: &impl Abort, journal: &Journal) {
     assert!(rt; !journal.is_empty());
     assert_eq!(rt; journal.len(), 4);
     assert_eq!(rt; journal.entries().len(), 4);
-    for (terminal, count) in [(1u32, 3u64), (2, 1), (3, 0)] {
-        assert_eq!(rt; journal.count_of(terminal), count);
-    }
+    assert!(rt; journal.entry(4).is_none());
+}
+
+fn is_count_of(rt: &impl Abort, journal: &Journal, terminal: u32, count: u64) {
+    assert_eq!(rt; journal.count_of(terminal), count);
+}
+
+#[test]
+fn entries_are_counted(rt: HostRuntime) {
+    let journal = four_tickets(&rt);
+    are_counted(&rt, &journal);
+    is_count_of(&rt, &journal, 1, 3);
+    is_count_of(&rt, &journal, 2, 1);
+    is_count_of(&rt, &journal, 3, 0);
+}
+
+/// The entry at a place tells that the ticket was queued.
+fn is_entry(rt: &impl Abort, journal: &Journal, place: usize, terminal: u32, number: u64) {
+    let entry = journal.entry(place).expect(rt, "entry");
+    assert_eq!(rt; entry.terminal, terminal);
+    assert_eq!(rt; entry.number, number);
+    assert!(rt; entry.reply == Reply::Queued(ticket()));
 }
 
 #[test]
 fn entries_by_terminal(rt: HostRuntime) {
     let journal = four_tickets(&rt);
-    let queued = Reply::Queued(ticket());
-    for (place, terminal, number) in [(0usize, 1u32, 0u64), (1, 2, 0), (2, 1, 1), (3, 1, 2)] {
-        let entry = journal.entry(place).expect(&rt, "entry");
-        assert_eq!(rt; entry.terminal, terminal);
-        assert_eq!(rt; entry.number, number);
-        assert!(rt; entry.reply == queued);
-    }
-    assert!(rt; journal.entry(4).is_none());
+    is_entry(&rt, &journal, 0, 1, 0);
+    is_entry(&rt, &journal, 1, 2, 0);
+    is_entry(&rt, &journal, 2, 1, 1);
+    is_entry(&rt, &journal, 3, 1, 2);
 }
 
 /// When the run of a district came: at 120 for district 1 and at 180 for the others.
