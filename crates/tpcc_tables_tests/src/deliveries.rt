@@ -33,11 +33,15 @@ fn run(at: Moment, district: u32, order: Option<u32>) -> Delivery {
     })
 }
 
+fn queue_once(rt: &impl Abort, tables: &Tables, waiting: &mut Queue, ticket: &Ticket) {
+    queue(tables, waiting, *ticket).expect(rt, "a ticket");
+}
+
 /// A ticket, queued so many times.
 fn queued(rt: &(impl Abort + AllocGlobal), tables: &Tables, ticket: Ticket, count: u32) -> Queue {
     let mut waiting = Queue::new(rt.alloc());
     for _ in 0..count {
-        queue(tables, &mut waiting, ticket).expect(rt, "a ticket");
+        queue_once(rt, tables, &mut waiting, &ticket);
     }
     waiting
 }
