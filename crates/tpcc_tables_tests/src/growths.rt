@@ -1,20 +1,20 @@
 //! One growth refused, whichever it is: the call that meets it tells so and changes nothing, and made again it
 //! answers as ever. Run with `rt try --test --fail-alloc N`: the first growths are those of the tables that rows are
 //! loaded into, the next one that of the payment.
-use crate::opening::{customer, district, put, warehouse};
 use crate::payments::payment;
+use crate::samples::{customer, district, put, warehouse};
 use std::alloc::AllocGlobal;
 use std::process::Abort;
 use tpcc_money::Cents;
 use tpcc_payment::pay;
-use tpcc_rows::{Refusal, Table, Text, Who};
+use tpcc_rows::{Refusal, Row, Table, Text, Who};
 use tpcc_tables::Tables;
 
 fn small_opening(rt: &(impl Abort + AllocGlobal)) -> Tables {
     let mut tables = Tables::empty(rt.alloc());
-    put(rt, &mut tables, warehouse(1));
-    put(rt, &mut tables, district(1, 1, 0));
-    put(rt, &mut tables, customer(1, 10));
+    put(rt, &mut tables, Row::Warehouse(warehouse(1)));
+    put(rt, &mut tables, Row::District(district(1)));
+    put(rt, &mut tables, Row::Customer(customer(1, 10)));
     tables
 }
 

@@ -1,10 +1,11 @@
 //! Loading, counting and looking up the rows of the opening.
-use crate::opening::{
-    customer, district, history, item, line, new_order, opened, order, put, stock, warehouse,
+use crate::opening::{TEN, opened};
+use crate::samples::{
+    customer, district, history, item, line, new_order, order, put, stock, warehouse,
 };
 use std::process::Abort;
 use tpcc_money::Cents;
-use tpcc_rows::{Row, RowRef, Table};
+use tpcc_rows::{DistrictRow, Row, RowRef, Table};
 use tpcc_tables::{LoadFault, Tables};
 
 fn has_rows(rt: &impl Abort, tables: &Tables, table: Table, count: usize) {
@@ -15,7 +16,7 @@ fn has_rows(rt: &impl Abort, tables: &Tables, table: Table, count: usize) {
 
 #[test]
 fn counts_rows(rt: HostRuntime) {
-    let tables = opened(&rt, 10_000);
+    let tables = opened(&rt, TEN);
     has_rows(&rt, &tables, Table::Warehouse, 1);
     has_rows(&rt, &tables, Table::District, 1);
     has_rows(&rt, &tables, Table::Customer, 10);
@@ -79,7 +80,7 @@ fn finds_items(rt: &impl Abort, tables: &Tables) {
 
 #[test]
 fn looks_rows_up(rt: HostRuntime) {
-    let tables = opened(&rt, 10_000);
+    let tables = opened(&rt, TEN);
     finds_customers(&rt, &tables);
     finds_orders(&rt, &tables);
     finds_lines(&rt, &tables);
@@ -97,45 +98,73 @@ fn is_refused(tables: &mut Tables, row: Row, fault: LoadFault) -> bool {
     }
 }
 
+/// A row that stands in the tables already.
+fn is_duplicate(rt: &impl Abort, tables: &mut Tables, row: Row) {
+    assert!(rt; is_refused(tables, row, LoadFault::Duplicate));
+}
+
+/// A row whose owner isn't there.
+fn is_orphan(rt: &impl Abort, tables: &mut Tables, row: Row) {
+    assert!(rt; is_refused(tables, row, LoadFault::NoParent));
+}
+
+/// A row with a field out of its range.
+fn is_out_of_range(rt: &impl Abort, tables: &mut Tables, row: Row) {
+    assert!(rt; is_refused(tables, row, LoadFault::Field));
+}
+
+fn district_elsewhere() -> DistrictRow {
+    DistrictRow {
+        warehouse: 2,
+        ..district(1)
+    }
+}
+
+fn district_past_its_total() -> DistrictRow {
+    DistrictRow {
+        ytd: Cents::new(1_000_000_000_000),
+        ..district(2)
+    }
+}
+
 fn refuses_homes(rt: &impl Abort, tables: &mut Tables) {
-    assert!(rt; is_refused(tables, warehouse(1), LoadFault::Duplicate));
-    assert!(rt; is_refused(tables, warehouse(101), LoadFault::Field));
-    assert!(rt; is_refused(tables, district(1, 1, 0), LoadFault::Duplicate));
-    assert!(rt; is_refused(tables, district(2, 1, 0), LoadFault::NoParent));
-    let past_total = district(1, 2, 1_000_000_000_000);
-    assert!(rt; is_refused(tables, past_total, LoadFault::Field));
+    is_duplicate(rt, tables, Row::Warehouse(warehouse(1)));
+    is_out_of_range(rt, tables, Row::Warehouse(warehouse(101)));
+    is_duplicate(rt, tables, Row::District(district(1)));
+    is_orphan(rt, tables, Row::District(district_elsewhere()));
+    is_out_of_range(rt, tables, Row::District(district_past_its_total()));
 }
 
 fn refuses_customers(rt: &impl Abort, tables: &mut Tables) {
-    assert!(rt; is_refused(tables, customer(1, 10), LoadFault::Duplicate));
-    assert!(rt; is_refused(tables, customer(2, 1), LoadFault::NoParent));
-    assert!(rt; is_refused(tables, customer(1, 3001), LoadFault::Field));
-    assert!(rt; is_refused(tables, history(11), LoadFault::NoParent));
-    assert!(rt; is_refused(tables, history(0), LoadFault::Field));
+    is_duplicate(rt, tables, Row::Customer(customer(1, 10)));
+    is_orphan(rt, tables, Row::Customer(customer(2, 1)));
+    is_out_of_range(rt, tables, Row::Customer(customer(1, 3001)));
+    is_orphan(rt, tables, Row::History(history(11)));
+    is_out_of_range(rt, tables, Row::History(history(0)));
 }
 
 fn refuses_orders(rt: &impl Abort, tables: &mut Tables) {
-    assert!(rt; is_refused(tables, order(10), LoadFault::Duplicate));
-    assert!(rt; is_refused(tables, order(11), LoadFault::Field));
-    assert!(rt; is_refused(tables, line(10, 5), LoadFault::Duplicate));
-    assert!(rt; is_refused(tables, line(11, 5), LoadFault::NoParent));
-    assert!(rt; is_refused(tables, line(10, 16), LoadFault::Field));
-    assert!(rt; is_refused(tables, new_order(8), LoadFault::Duplicate));
-    assert!(rt; is_refused(tables, new_order(11), LoadFault::NoParent));
-    assert!(rt; is_refused(tables, new_order(0), LoadFault::Field));
+    is_duplicate(rt, tables, Row::Order(order(1, 10, true)));
+    is_out_of_range(rt, tables, Row::Order(order(1, 11, true)));
+    is_duplicate(rt, tables, Row::OrderLine(line(10, 5, true)));
+    is_orphan(rt, tables, Row::OrderLine(line(11, 5, true)));
+    is_out_of_range(rt, tables, Row::OrderLine(line(10, 16, true)));
+    is_duplicate(rt, tables, Row::NewOrder(new_order(1, 8)));
+    is_orphan(rt, tables, Row::NewOrder(new_order(1, 11)));
+    is_out_of_range(rt, tables, Row::NewOrder(new_order(1, 0)));
 }
 
 fn refuses_items(rt: &impl Abort, tables: &mut Tables) {
-    assert!(rt; is_refused(tables, item(1), LoadFault::Duplicate));
-    assert!(rt; is_refused(tables, item(0), LoadFault::Field));
-    assert!(rt; is_refused(tables, stock(1), LoadFault::Duplicate));
-    assert!(rt; is_refused(tables, stock(51), LoadFault::NoParent));
-    assert!(rt; is_refused(tables, stock(0), LoadFault::Field));
+    is_duplicate(rt, tables, Row::Item(item(1)));
+    is_out_of_range(rt, tables, Row::Item(item(0)));
+    is_duplicate(rt, tables, Row::Stock(stock(1, 1)));
+    is_orphan(rt, tables, Row::Stock(stock(1, 51)));
+    is_out_of_range(rt, tables, Row::Stock(stock(1, 0)));
 }
 
 #[test]
 fn refuses_rows(rt: HostRuntime) {
-    let mut tables = opened(&rt, 10_000);
+    let mut tables = opened(&rt, TEN);
     refuses_homes(&rt, &mut tables);
     refuses_customers(&rt, &mut tables);
     refuses_orders(&rt, &mut tables);
@@ -156,7 +185,7 @@ fn item_at(tables: &Tables, position: usize) -> Option<u32> {
 fn keeps_keys_in_order(rt: HostRuntime) {
     let mut tables = Tables::empty(rt.alloc());
     for id in [3u32, 1, 2] {
-        put(&rt, &mut tables, item(id));
+        put(&rt, &mut tables, Row::Item(item(id)));
     }
     assert_eq!(rt; item_at(&tables, 0), Some(1));
     assert_eq!(rt; item_at(&tables, 1), Some(2));
@@ -165,7 +194,7 @@ fn keeps_keys_in_order(rt: HostRuntime) {
 
 #[test]
 fn makes_room(rt: HostRuntime) {
-    let mut tables = opened(&rt, 10_000);
+    let mut tables = opened(&rt, TEN);
     // A growth that is refused once leaves all rows, and the next one is made.
     if tables.reserve_order(15).is_err() {
         tables.reserve_order(15).expect(&rt, "room for an order");

@@ -1,5 +1,5 @@
 //! Payments on the opening.
-use crate::opening::opened;
+use crate::opening::{Scale, TEN, opened};
 use std::alloc::AllocGlobal;
 use std::process::Abort;
 use tpcc_money::{Cents, Moment, Rate};
@@ -81,7 +81,7 @@ fn counts_payments(rt: &impl Abort, tables: &Tables) {
 
 #[test]
 fn by_number(rt: HostRuntime) {
-    let mut tables = opened(&rt, 10_000);
+    let mut tables = opened(&rt, TEN);
     let reply = accepted(&rt, &mut tables, &payment(Who::Number(1), 100));
     shows_customer(&rt, &reply, 1, b"FIRST9998", Rate::new(100));
     assert_eq!(rt; warehouse_total(&rt, &tables), Cents::new(100_100));
@@ -98,7 +98,7 @@ fn shown_balance(rt: &impl Abort, tables: &mut Tables, payment: &Payment) -> Cen
 
 #[test]
 fn of_the_least_and_the_greatest_amount(rt: HostRuntime) {
-    let mut tables = opened(&rt, 10_000);
+    let mut tables = opened(&rt, TEN);
     let greatest = payment(Who::Number(1), 500_000);
     assert_eq!(rt;
         shown_balance(&rt, &mut tables, &greatest),
@@ -116,7 +116,7 @@ fn of_the_least_and_the_greatest_amount(rt: HostRuntime) {
 
 #[test]
 fn by_last_name(rt: HostRuntime) {
-    let mut tables = opened(&rt, 10_000);
+    let mut tables = opened(&rt, TEN);
     let name = Who::Name(Text::of(b"BARBARBAR"));
     let reply = accepted(&rt, &mut tables, &payment(name, 100));
     shows_customer(&rt, &reply, 7, b"FIRST9992", Rate::new(700));
@@ -156,7 +156,7 @@ fn keeps_notes(rt: &impl Abort, tables: &Tables, notes: &[u8]) {
 
 #[test]
 fn of_bad_credit(rt: HostRuntime) {
-    let mut tables = opened(&rt, 10_000);
+    let mut tables = opened(&rt, TEN);
     let request = payment(Who::Number(10), 100);
     for _ in 1..13 {
         assert_eq!(rt; refusal(&rt, &mut tables, &request), None);
@@ -170,7 +170,11 @@ fn of_bad_credit(rt: HostRuntime) {
 
 #[test]
 fn past_the_total_of_a_district(rt: HostRuntime) {
-    let mut tables = opened(&rt, 999_999_999_999);
+    let full = Scale {
+        district_ytd: 999_999_999_999,
+        ..TEN
+    };
+    let mut tables = opened(&rt, full);
     let request = payment(Who::Number(1), 100);
     assert_eq!(rt;
         refusal(&rt, &mut tables, &request),
@@ -183,7 +187,7 @@ fn past_the_total_of_a_district(rt: HostRuntime) {
 
 #[test]
 fn of_rows_that_do_not_exist(rt: HostRuntime) {
-    let mut tables = opened(&rt, 10_000);
+    let mut tables = opened(&rt, TEN);
     let cases = [
         (2u32, 1u32, 1u32, 1u32, 1u32, Refusal::NoWarehouse),
         (1, 2, 2, 1, 1, Refusal::NoWarehouse),

@@ -2,6 +2,12 @@
 #![tactic(auto)]
 
 #[cfg(test)]
+mod draws;
+#[cfg(test)]
+mod journals;
+#[cfg(test)]
+mod money;
+#[cfg(test)]
 mod refusals;
 #[cfg(test)]
 mod replies;

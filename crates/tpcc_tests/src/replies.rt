@@ -1,6 +1,7 @@
 //! Replies built by hand, and the lists of their lines.
 use crate::requests::ticket;
 use crate::rows::address;
+use std::process::Abort;
 use tpcc_money::{Cents, Moment, Rate};
 use tpcc_rows::{
     AcceptedOrder, Brand, Delivery, DistrictDelivery, Entered, EnteredLine, EnteredLines,
@@ -149,15 +150,18 @@ fn replies_equal_their_copies_alone(rt: HostRuntime) {
     }
 }
 
+fn is_entered_line(rt: &impl Abort, line: &EnteredLine, number: u32) {
+    assert_eq!(rt; line.number, number);
+    assert_eq!(rt; line.name.bytes(), b"ITEMNAME000020".as_slice());
+    assert_eq!(rt; line.amount, Cents::new(1190));
+}
+
 #[test]
 fn entered_lines_in_their_order(rt: HostRuntime) {
     let lines = entered_lines();
     assert_eq!(rt; lines.len(), 2);
-    for (line, number) in lines.as_slice().iter().zip([1u32, 2]) {
-        assert_eq!(rt; line.number, number);
-        assert_eq!(rt; line.name.bytes(), b"ITEMNAME000020".as_slice());
-        assert_eq!(rt; line.amount, Cents::new(1190));
-    }
+    is_entered_line(&rt, &lines.as_slice()[0], 1);
+    is_entered_line(&rt, &lines.as_slice()[1], 2);
 }
 
 #[test]

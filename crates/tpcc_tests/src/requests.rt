@@ -1,8 +1,7 @@
 //! Requests built by hand: their lines, and what each kind pays.
 use std::alloc::AllocGlobal;
 use std::process::Abort;
-use std::test::Fail;
-use tpcc_money::{Cents, Moment, NoMemory};
+use tpcc_money::{Cents, Moment};
 use tpcc_rows::{Line, Lines, Order, Payment, Request, StatusQuery, StockQuery, Text, Ticket, Who};
 
 fn line(item: u32) -> Line {
@@ -60,53 +59,56 @@ pub fn ticket() -> Ticket {
     }
 }
 
-#[test]
-fn lines_in_their_order(rt: HostRuntime) -> Result<(), Fail> {
+/// Lines of these items.
+fn lines(rt: &(impl Abort + AllocGlobal), items: &[u32]) -> Lines {
     let mut given = Vec::new(rt.alloc());
-    given.push(line(20))?;
-    given.push(line(26))?;
-    given.push(line(20))?;
-    let lines = Lines::new(given);
-    assert!(rt; lines.as_slice() == [line(20), line(26), line(20)].as_slice());
-    assert_eq!(rt; Lines::new(Vec::new(rt.alloc())).as_slice().len(), 0);
-    Ok(())
+    for item in items {
+        given.push(line(*item)).expect(rt, "a line");
+    }
+    Lines::new(given)
 }
 
-/// What a request pays, in cents.
-fn cents_paid(request: Request) -> i64 {
-    request.paid().value()
+#[test]
+fn lines_in_their_order(rt: HostRuntime) {
+    let given = [line(20), line(26), line(20)];
+    assert!(rt; lines(&rt, &[20, 26, 20]).as_slice() == given.as_slice());
+    assert_eq!(rt; lines(&rt, &[]).as_slice().len(), 0);
+}
+
+/// The request pays so many cents.
+fn pays(rt: &impl Abort, request: Request, cents: i64) {
+    assert_eq!(rt; request.paid().value(), cents);
 }
 
 #[test]
 fn a_payment_pays_its_amount(rt: HostRuntime) {
     let name = Who::Name(Text::of(b"BARBARBAR"));
-    assert_eq!(rt; cents_paid(Request::Payment(payment(Who::Number(1)))), 100);
-    assert_eq!(rt; cents_paid(Request::Payment(payment(name))), 100);
+    pays(&rt, Request::Payment(payment(Who::Number(1))), 100);
+    pays(&rt, Request::Payment(payment(name)), 100);
 }
 
 #[test]
 fn other_requests_pay_nothing(rt: HostRuntime) {
-    assert_eq!(rt; cents_paid(Request::NewOrder(new_order_request(&rt))), 0);
-    assert_eq!(rt; cents_paid(Request::Status(status_query())), 0);
-    assert_eq!(rt; cents_paid(Request::Stock(stock_query())), 0);
-    assert_eq!(rt; cents_paid(Request::Delivery(ticket())), 0);
-    assert_eq!(rt; cents_paid(Request::Deliver(Moment::new(120))), 0);
+    pays(&rt, Request::NewOrder(new_order_request(&rt)), 0);
+    pays(&rt, Request::Status(status_query()), 0);
+    pays(&rt, Request::Stock(stock_query()), 0);
+    pays(&rt, Request::Delivery(ticket()), 0);
+    pays(&rt, Request::Deliver(Moment::new(120)), 0);
 }
 
-/// Whether a copy of a request equals it.
-fn is_copied(source: Request) -> Result<bool, NoMemory> {
-    let copy = source.duplicate()?;
-    Ok(copy == source)
+/// A copy of the request equals it.
+fn is_copied(rt: &impl Abort, source: Request) {
+    let copy = source.duplicate().expect(rt, "a copy");
+    assert!(rt; copy == source);
 }
 
 #[test]
-fn copies_equal_their_source(rt: HostRuntime) -> Result<(), Fail> {
+fn copies_equal_their_source(rt: HostRuntime) {
     let name = Who::Name(Text::of(b"BARBARBAR"));
-    assert!(rt; is_copied(Request::NewOrder(new_order_request(&rt)))?);
-    assert!(rt; is_copied(Request::Payment(payment(name)))?);
-    assert!(rt; is_copied(Request::Status(status_query()))?);
-    assert!(rt; is_copied(Request::Stock(stock_query()))?);
-    assert!(rt; is_copied(Request::Delivery(ticket()))?);
-    assert!(rt; is_copied(Request::Deliver(Moment::new(120)))?);
-    Ok(())
+    is_copied(&rt, Request::NewOrder(new_order_request(&rt)));
+    is_copied(&rt, Request::Payment(payment(name)));
+    is_copied(&rt, Request::Status(status_query()));
+    is_copied(&rt, Request::Stock(stock_query()));
+    is_copied(&rt, Request::Delivery(ticket()));
+    is_copied(&rt, Request::Deliver(Moment::new(120)));
 }

@@ -147,13 +147,21 @@ pub fn stock() -> StockRow {
 }
 
 #[test]
-fn keys(rt: HostRuntime) {
+fn keys_of_homes(rt: HostRuntime) {
     assert_eq!(rt; warehouse().key().warehouse, 1);
     assert_eq!(rt; district().key().district, 1);
     assert_eq!(rt; customer().key().customer, 1);
+}
+
+#[test]
+fn keys_of_orders(rt: HostRuntime) {
     assert_eq!(rt; order().key().order, 1);
     assert_eq!(rt; order_line().key().number, 2);
     assert_eq!(rt; new_order().key().order, 8);
+}
+
+#[test]
+fn keys_of_goods(rt: HostRuntime) {
     assert_eq!(rt; item().key().item, 1);
     assert_eq!(rt; stock().key().item, 1);
 }

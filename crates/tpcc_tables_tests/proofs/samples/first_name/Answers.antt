@@ -1,7 +1,7 @@
 use Rattle.std.proofs.Common.{rules, arith, ap}
 use Rattle.std.specs.Prelude.{length}
 use Rattle.std.proofs.lemmas.Fmt.{length-decimal-le}
-use Rattle.tpcc_tables_tests.proofs.opening.first_name.Goals as goal
+use Rattle.tpcc_tables_tests.proofs.samples.first_name.Goals as goal
 
 pub extend_padded-requires : goal.extend_padded-requires
 extend_padded-requires c = (

@@ -1,0 +1,4 @@
+//! Parts and names on rows built by hand.
+
+mod names;
+mod parts;
