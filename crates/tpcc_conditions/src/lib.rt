@@ -8,12 +8,8 @@ mod condition;
 mod delivered;
 mod keeps;
 mod numbers;
-#[cfg(test)]
-mod opening;
 mod places;
 mod sums;
-#[cfg(test)]
-mod tests;
 
 pub use all::{check, check_opening};
 pub use broken::Broken;

@@ -11,8 +11,3 @@ pub use runs::{PreparedRun, deliver_next, finish_run, prepare_run};
 pub use tickets::{finish_ticket, prepare_ticket, queue};
 pub use tpcc_rows::{Delivery, DistrictDelivery, QueuedTicket, Ticket};
 pub use waiting::Queue;
-
-#[cfg(test)]
-mod test_rows;
-#[cfg(test)]
-mod tests;

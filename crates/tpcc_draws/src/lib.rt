@@ -9,6 +9,3 @@ mod stream;
 pub use cards::Card;
 pub use names::last_name;
 pub use stream::Stream;
-
-#[cfg(test)]
-mod tests;

@@ -8,6 +8,3 @@ mod tallies;
 pub use journal::Journal;
 pub use result_log::results;
 pub use tpcc_rows::{Delivered, Entry, Reply, Request};
-
-#[cfg(test)]
-mod tests;

@@ -8,8 +8,6 @@ mod order_lines;
 pub mod parts;
 pub mod runs;
 pub mod search;
-#[cfg(test)]
-mod tests;
 
 pub use keyed::{Keyed, Owned};
 pub use names::{CustomerName, Names};

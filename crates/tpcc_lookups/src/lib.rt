@@ -3,12 +3,8 @@
 
 mod asked;
 mod lines;
-#[cfg(test)]
-mod opening;
 pub mod orders;
 pub mod stocks;
-#[cfg(test)]
-mod tests;
 
 pub use orders::order_status;
 pub use stocks::stock_level;

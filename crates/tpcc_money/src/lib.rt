@@ -10,8 +10,6 @@ mod memory;
 mod moment;
 mod parse;
 mod rate;
-#[cfg(test)]
-mod tests;
 
 pub use amounts::{line_amount, order_total};
 pub use cents::Cents;

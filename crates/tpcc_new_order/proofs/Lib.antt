@@ -2,4 +2,3 @@ pub mod SupplyLemmas
 pub mod RefusalLemmas
 pub mod LineLemmas
 pub mod PrepareLemmas
-pub mod StockedLemmas

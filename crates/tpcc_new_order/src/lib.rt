@@ -16,6 +16,3 @@ pub use tpcc_rows::replies::Entered;
 pub use tpcc_rows::requests::{Line, Order};
 pub use transaction::{Prepared, enter, finish, prepare};
 pub use written::NewRows;
-
-#[cfg(test)]
-mod tests;

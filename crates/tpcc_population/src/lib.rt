@@ -13,6 +13,3 @@ mod texts;
 pub use filled::fill;
 pub use opening::{Opening, opening_is_sound};
 pub use scale::{Scale, ScaleFault};
-
-#[cfg(test)]
-mod tests;
