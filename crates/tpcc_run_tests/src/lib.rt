@@ -1,0 +1,5 @@
+//! Mailboxes, jobs at them and runs, by their public calls alone.
+#![tactic(auto)]
+
+#[cfg(test)]
+mod mailbox;
