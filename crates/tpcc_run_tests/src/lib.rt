@@ -3,3 +3,9 @@
 
 #[cfg(test)]
 mod mailbox;
+#[cfg(test)]
+mod plain_turn;
+#[cfg(test)]
+mod run;
+#[cfg(test)]
+mod server;
