@@ -19,6 +19,8 @@ payments() {
 it 'no script at all'            script ''                                      0 ''              ''
 it 'no line feed'                script 'payment 1 1 1 1 1 1.00 0'              2 'fault 2 Cut 1' ''
 it 'a cut second line'           script 'check\nx'                              2 'fault 2 Cut 2' 'consistent\n'
+it 'an empty second line'        script 'check\n\ncheck\n'                     2 'fault 1 Bad 2' 'consistent\n'
+it 'a space behind a second'     script 'check\ncheck \n'                      2 'fault 1 Bad 2' 'consistent\n'
 it 'a bad third line'            script 'check\nresults\nx\ncheck\n'            2 'fault 1 Bad 3' 'consistent\n'
 it 'an empty line'               script '\n'                                    2 'fault 1 Bad 1' ''
 it 'a ninth word'                script 'payment 1 1 1 1 1 1.00 0 0\n'          2 'fault 1 Bad 1' ''
@@ -61,6 +63,11 @@ it 'a district before an amount' script 'payment 1 11 1 1 1 0.99 0\n'           
 it 'lines before a roll-back'    script 'new-order 1 1 1 0 101:1:1\n'           0 '' 'refused 4 LineCount\n'
 it 'a supply before a roll-back' script 'new-order 1 1 1 0 1:1:1 2:1:1 3:1:1 4:2:1 101:1:1\n' 0 '' 'refused 6 NoSupply\n'
 it 'two words of a check'        script 'check 1\n'                             2 'fault 1 Bad 1' ''
+for line in ' ' Check 'check ' 'check results' 'results 1' 'payment 1  1 1 1 1 1.00 0' ' payment 1 1 1 1 1 1.00 0' \
+    'payment 1 1 1 1 BAR1 1.00 0' 'status 1 1' deliver 'delivery 1 3' 'new-order 1 1 1' 'new-order 1 1 BARBARBAR 0' \
+    'new-order 1 1 1 0 1:1:1 ' 'new-order 1 1 1 0 1::1'; do
+    it "a bad line: '$line'" script "$line\n" 2 'fault 1 Bad 1' ''
+done
 it 'nothing that was delivered'  script 'results\n'                             0 '' ''
 
 # ---- long lines and long scripts
