@@ -11,12 +11,6 @@ mod output;
 mod records;
 mod reporting;
 mod settlement;
-#[cfg(test)]
-mod settlement_tests;
-#[cfg(test)]
-mod test_rows;
-#[cfg(test)]
-mod tests;
 
 pub use dumping::dump;
 pub use fault::DumpFault;

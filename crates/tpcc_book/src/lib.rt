@@ -8,8 +8,6 @@ mod prepared;
 mod purse;
 mod register;
 mod steps;
-#[cfg(test)]
-mod tests;
 mod turned;
 mod turns;
 mod year_to_date;

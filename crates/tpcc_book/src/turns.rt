@@ -13,8 +13,6 @@ mod rule;
 mod seated;
 mod split;
 mod steps;
-#[cfg(test)]
-mod tests;
 mod unnamed;
 
 use crate::answer::Answer;

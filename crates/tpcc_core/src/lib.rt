@@ -9,8 +9,6 @@ mod mailbox;
 mod opening;
 mod seat;
 mod server;
-#[cfg(test)]
-mod tests;
 
 pub use desk::Desk;
 pub use event::Event;

@@ -5,10 +5,6 @@
 mod fault;
 mod options;
 mod progress;
-#[cfg(test)]
-mod progress_tests;
-#[cfg(test)]
-mod tests;
 
 pub use fault::ProgramFault;
 pub use options::{Asked, Task, read_words};

@@ -13,8 +13,6 @@ mod running;
 mod servers;
 mod starting;
 mod terminals;
-#[cfg(test)]
-mod tests;
 mod threads;
 
 pub use fault::RunFault;

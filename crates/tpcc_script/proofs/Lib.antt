@@ -6,7 +6,6 @@ pub mod Plainly
 pub mod Lines
 pub mod Parting
 pub mod Ordering
-pub mod EmptyBook
 pub mod Sessions
 pub mod Names
 mod NumeralLaws

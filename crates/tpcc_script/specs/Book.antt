@@ -17,16 +17,6 @@ pub record Book : Type 0 where
   pub state : State
   pub journal : List Entry
 
--- a book with no rows and no entries
-abbrev pub no_rows : Book
-no_rows = record {
-  state = record {
-    rows = record { warehouses = []; districts = []; customers = []; histories = []; orders = []; order_lines = []; new_orders = []; items = []; stocks = [] };
-    queue = [];
-  };
-  journal = [];
-}
-
 -- the terminal of a script's requests
 abbrev pub terminal : ℕ
 terminal = 1

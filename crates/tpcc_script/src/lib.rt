@@ -7,16 +7,10 @@ mod fault;
 pub mod laws;
 mod parse;
 mod reader;
-#[cfg(test)]
-mod run_tests;
 mod script;
 mod session;
 mod show;
-#[cfg(test)]
-mod tests;
 mod words;
-#[cfg(test)]
-mod worked_rows;
 mod writer;
 
 pub use call::Call;

@@ -10,8 +10,6 @@ mod errand;
 mod gate;
 mod job;
 mod serving;
-#[cfg(test)]
-mod tests;
 mod turning;
 
 pub use asking::ask;

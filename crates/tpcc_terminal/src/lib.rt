@@ -9,24 +9,16 @@ mod drafts;
 mod draws;
 mod home;
 pub mod laws;
-#[cfg(test)]
-mod line_tests;
 mod lines;
 mod new_order;
 mod order_status;
 mod payment;
-#[cfg(test)]
-mod receipt_tests;
 mod receipts;
 mod refusal;
 mod report;
 mod request_lines;
 mod stock_level;
 mod terminal;
-#[cfg(test)]
-mod terminal_tests;
-#[cfg(test)]
-mod tests;
 
 pub use answer_screen::screen;
 pub use answers::{broken_screen, consistent_screen, refusal_screen, reply_screen, results_screen};

@@ -1,10 +1,10 @@
 //! The words of the command line, and what they refuse.
-use crate::{ProgramFault, Task, read_words};
 use std::alloc::Global;
 use std::test::Fail;
 use tpcc_audit::DumpFault;
 use tpcc_money::Moment;
 use tpcc_population::ScaleFault;
+use tpcc_program::{ProgramFault, Task, read_words};
 use tpcc_rows::Table;
 use tpcc_run::{Plan, RunFault};
 use tpcc_script::ScriptFault;

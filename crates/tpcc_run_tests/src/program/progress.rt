@@ -1,14 +1,15 @@
 //! When progress is told, and what its lines say.
-use crate::progress::{Line, Progress};
+use crate::plain_turn::PlainTurn;
 use std::fmt::Display;
 use std::io;
 use std::io::Eprint;
 use std::sync::atomic::{AtomicU64, Ordering};
 use std::test::Fail;
 use std::time::{Clock, Duration};
-use tpcc_book::{Register, Turned};
+use tpcc_book::Register;
 use tpcc_money::Moment;
 use tpcc_population::{Opening, Scale};
+use tpcc_program::{Line, Progress};
 use tpcc_rows::{Request, StockQuery};
 use tpcc_run::Plan;
 use tpcc_server::Turning;
@@ -99,22 +100,6 @@ fn a_line_says_how_many_are_done(rt: HostRuntime) -> Result<(), Fail> {
     Ok(())
 }
 
-/// A call that makes one turn.
-#[derive(Drop)]
-struct OneTurn;
-
-impl Turning for OneTurn {
-    fn turn_once(
-        self,
-        register: &mut Register,
-        request: Request,
-        terminal: u32,
-        number: u64,
-    ) -> Turned {
-        register.turn(request, terminal, number)
-    }
-}
-
 #[test]
 fn a_turn_is_counted_as_done(rt: HostRuntime) -> Result<(), Fail> {
     let scale = Scale::new(1, 10, 100)?;
@@ -126,7 +111,7 @@ fn a_turn_is_counted_as_done(rt: HostRuntime) -> Result<(), Fail> {
     });
     let progress = Progress::begin(&rt, &plan());
     let turned = progress
-        .counting(OneTurn)
+        .counting(PlainTurn)
         .turn_once(&mut register, request, 1, 0);
     assert!(rt; turned.place == Some(0));
     assert_eq!(rt;

@@ -1,0 +1,3 @@
+//! The words of the command line, the statuses of faults, and the progress of a run.
+mod progress;
+mod words;
