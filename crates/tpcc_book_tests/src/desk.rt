@@ -1,5 +1,5 @@
 //! Desks of two terminals, step by step and as one run.
-ghost use Rattle.std.specs.Prelude.{◌≡◌};
+ghost use Rattle.std.specs.Prelude.{◌≡◌, ◌≤◌};
 
 use crate::asked::{balance, opening, payment, status};
 use std::alloc::Global;
@@ -18,13 +18,16 @@ enum Story {
     KeptLetter,
 }
 
-fn told<R: Abort>(rt: &R, alloc: Global, servers: u32, story: Story) {
+fn told<R: Abort>(rt: &R, alloc: Global, servers: u32, story: Story)
+    requires servers { 1 ≤ servers }
+{
     at_a_desk::<Brand, R>(rt, alloc, Blanks::new(), servers, story)
 }
 
 fn at_a_desk<N: Naming, R: Abort>(rt: &R, alloc: Global, blanks: Blanks, servers: u32, story: Story)
     requires entries { blanks.entries.name ≡ N.entries }
     requires cents { blanks.cents.name ≡ N.cents }
+    requires servers { 1 ≤ servers }
 {
     let Ok(desk) = Desk::<N>::start(alloc, &opening(rt, 1), 2, servers, blanks) else {
         panic!(rt; "memory for the opening")

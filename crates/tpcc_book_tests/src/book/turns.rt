@@ -36,6 +36,7 @@ pub fn two_turns<N: Naming, T: Seating, R: Wait + Abort>(
     end: End,
 ) {
     let mut first = first;
+    assert_eq!(rt; first.room(), 10_000);
     let one = first.split(&turns, 1);
     let two = first.split(&turns, 2);
     assert_eq!(rt; first.room(), 9998);

@@ -49,6 +49,7 @@ pub fn of_book<N: Naming, R: Abort>(rt: &R, alloc: Global, book: Book<N>, first:
     let mut book = book;
     let mut first = first;
     let mut terminal = terminal(rt, alloc);
+    assert_eq!(rt; first.room(), 10_000);
     let mut purse = first.split(5);
     for cents in [100, 99, 200] {
         purse = noted(rt, &mut terminal, book.serve(payment(1, cents), purse));
@@ -70,6 +71,7 @@ pub fn of_turns<N: Naming, T: Seating, R: Wait + Abort>(
 ) {
     let mut first = first;
     let mut terminal = terminal(rt, alloc);
+    assert_eq!(rt; first.room(), 10_000);
     let mut purse = first.split(&turns, 5);
     for cents in [100, 99, 200] {
         purse = noted(rt, &mut terminal, turns.serve(rt, payment(1, cents), purse));
