@@ -1,7 +1,7 @@
 //! `tpcc`: the order-entry system at the command line.
 #![tactic(auto)]
 
-ghost use Rattle.std.specs.Prelude.{IfOk};
+ghost use Rattle.std.specs.Prelude.{IfOk, ◌≤◌};
 ghost use Rattle.tpcc_book.specs.Turn.{IsTurn};
 ghost use Rattle.tpcc_run.specs.Outcome.{IsPlan};
 ghost use Rattle.tpcc_program.specs.Tasks.{HasPlan};
@@ -13,14 +13,16 @@ use std::process::ExitCode;
 use std::sync::Wait;
 use std::thread::Threads;
 use std::time::Clock;
-use tpcc_audit::{DumpFault, dump};
+use tpcc_audit::{DumpFault, Totals, dump};
 use tpcc_book::{Register, Turned};
 use tpcc_population::{Opening, fill};
-use tpcc_program::{Asked, Counting, ProgramFault, Progress, Task, read_words};
+use tpcc_program::{Asked, Asking, Counting, ProgramFault, Progress, Task, read_words};
 use tpcc_rows::{Request, Table};
-use tpcc_run::Plan;
+use tpcc_run::{Plan, run_shown};
 use tpcc_script::run_script;
 use tpcc_server::{Call, Turner, Turning};
+use tpcc_show::{Part, put_requests};
+use tpcc_terminal::Report;
 
 /// Serves a script's requests, from standard input to standard output.
 fn script<R: Print + Input>(rt: &R, alloc: Global, opening: &Opening) -> Result<(), ProgramFault> {
@@ -62,7 +64,7 @@ fn asked<R: Env + AllocGlobal>(rt: &R, alloc: Global) -> Result<Asked, ProgramFa
 }
 
 /// Runs terminals and servers, and writes the report to standard output.
-fn run_plan<
+fn report_plan<
     C: Turning + Send,
     F: Fn(Global) -> Result<C, AllocError> + Sync,
     R: Print + Threads + Wait + Sync,
@@ -76,12 +78,78 @@ fn run_plan<
     }
 }
 
+// A report that is not asked for on standard output. One that can't be written is passed over.
+fn tell_report<R: Eprint>(rt: &R, parts: &[Part], totals: &Totals) {
+    if !parts.contains(&Part::Report) {
+        let report = Report {
+            entries: totals.entries,
+            paid: totals.paid,
+            rise: totals.rise,
+        };
+        let _ = eprint!(rt; "{report}");
+    }
+}
+
+/// Runs terminals and servers, and writes parts of their book to standard output.
+fn show_plan<
+    C: Turning + Send,
+    F: Fn(Global) -> Result<C, AllocError> + Sync,
+    R: Print + Eprint + Threads + Wait + Sync,
+>(
+    rt: &R,
+    alloc: Global,
+    opening: &Opening,
+    plan: &Plan,
+    parts: &[Part],
+    make: F,
+) -> Result<(), ProgramFault>
+    requires plan { IsPlan plan.now }
+    requires make { F.IsAlwaysCallable make }
+{
+    match run_shown(rt, alloc, opening, plan, parts, io::writer(rt), make) {
+        Ok((_, totals)) => {
+            tell_report(rt, parts, &totals);
+            Ok(())
+        }
+        Err(fault) => Err(ProgramFault::Run(fault)),
+    }
+}
+
+/// Runs terminals and servers; writes the report, or the parts that are asked for.
+fn run_plan<
+    C: Turning + Send,
+    F: Fn(Global) -> Result<C, AllocError> + Sync,
+    R: Print + Eprint + Threads + Wait + Sync,
+>(
+    rt: &R,
+    alloc: Global,
+    opening: &Opening,
+    plan: &Plan,
+    parts: &[Part],
+    make: F,
+) -> Result<(), ProgramFault>
+    requires plan { IsPlan plan.now }
+    requires make { F.IsAlwaysCallable make }
+{
+    if parts.is_empty() {
+        return report_plan(rt, alloc, opening, plan, make);
+    }
+    show_plan(rt, alloc, opening, plan, parts, make)
+}
+
 /// The same, and tells how far the run has come whenever a terminal asks its next request.
 fn run_watched<
     C: Turning + Send,
     F: Fn(Global) -> Result<C, AllocError> + Sync,
     R: Print + Eprint + Clock + Threads + Wait + Sync,
->(rt: &R, alloc: Global, opening: &Opening, plan: &Plan, make: F) -> Result<(), ProgramFault>
+>(
+    rt: &R,
+    alloc: Global,
+    opening: &Opening,
+    plan: &Plan,
+    parts: &[Part],
+    make: F,
+) -> Result<(), ProgramFault>
     requires plan { IsPlan plan.now }
     requires make { F.IsAlwaysCallable make }
 {
@@ -92,11 +160,37 @@ fn run_watched<
         alloc,
         opening,
         plan,
+        parts,
         |alloc: Global| -> Result<Counting<'_, C>, AllocError> {
             progress.tell(rt);
             Ok(progress.counting(make(alloc)?))
         },
     )
+}
+
+/// Writes the requests of a terminal to standard output.
+fn put_asked<R: Print>(
+    rt: &R,
+    alloc: Global,
+    asked: &Asked,
+    asking: Asking,
+) -> Result<(), ProgramFault>
+    requires terminal { 1 ≤ asking.terminal }
+{
+    let scale = asked.scale()?;
+    let ended = put_requests(
+        alloc,
+        asking.terminal,
+        scale,
+        asked.seed,
+        asked.moment,
+        asking.cards,
+        io::writer(rt),
+    );
+    match ended {
+        Ok(_) => Ok(()),
+        Err(fault) => Err(ProgramFault::Dump(fault)),
+    }
 }
 
 /// Does what the words ask; `watched` is whether somebody sees standard error.
@@ -109,11 +203,13 @@ fn run<
 {
     let asked = asked(rt, alloc)?;
     let opening = asked.opening()?;
+    let parts = asked.shows.as_slice();
     match asked.task {
         Task::Script => script(rt, alloc, &opening),
         Task::Dump(table) => dump_table(rt, alloc, &opening, table),
-        Task::Run(plan) if watched => run_watched(rt, alloc, &opening, &plan, make),
-        Task::Run(plan) => run_plan(rt, alloc, &opening, &plan, make),
+        Task::Requests(asking) => put_asked(rt, alloc, &asked, asking),
+        Task::Run(plan) if watched => run_watched(rt, alloc, &opening, &plan, parts, make),
+        Task::Run(plan) => run_plan(rt, alloc, &opening, &plan, parts, make),
     }
 }
 

@@ -15,6 +15,6 @@ mod settlement;
 pub use dumping::dump;
 pub use fault::DumpFault;
 pub use laws::dump_is_read_back;
-pub use names::table_named;
+pub use names::{table_name, table_named};
 pub use reporting::{ReportFault, report};
 pub use settlement::{Totals, Unsettled, settle};

@@ -7,8 +7,8 @@ ghost use Rattle.tpcc_rows.specs.declared.row.Table.{Table};
 
 use tpcc_rows::Table;
 
-/// The table's name, as `ORDER-LINE`.
-fn table_name(table: Table) -> &'static [u8]
+/// The name of a table (1.3), as `ORDER-LINE`.
+pub fn table_name(table: Table) -> &'static [u8]
     ensures { result.now ≡ columns.table_name table }
 {
     match table {

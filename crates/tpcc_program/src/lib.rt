@@ -7,5 +7,5 @@ mod options;
 mod progress;
 
 pub use fault::ProgramFault;
-pub use options::{Asked, Task, read_words};
+pub use options::{Asked, Asking, Task, read_words};
 pub use progress::{Counting, Line, Progress};

@@ -1,6 +1,6 @@
 //! What the words of the command line ask.
 ghost use Rattle.std.specs.Prelude.{◌≡◌, ◌≤◌, IfOk};
-ghost use Rattle.tpcc_program.specs.Openings.{named_opening};
+ghost use Rattle.tpcc_program.specs.Openings.{named_opening, named_scale};
 ghost use Rattle.tpcc_program.specs.Tasks.{HasPlan};
 ghost use Rattle.tpcc_run.specs.Outcome.{IsPlan};
 
@@ -14,8 +14,20 @@ use tpcc_money::Moment;
 use tpcc_population::{Opening, Scale};
 use tpcc_rows::Table;
 use tpcc_run::Plan;
+use tpcc_show::{Parts, part_named};
 
+/// How many times `--show` is taken.
+const MOST_SHOWS: usize = 16;
 const FIRST_SECOND_OF_2100: u32 = 4_102_444_800;
+
+/// Which requests are to be written.
+#[derive(Clone, Copy, Debug, PartialEq, Eq)]
+pub struct Asking {
+    /// `--terminal`, 1 to 1,000, else 1: the terminal whose requests they are.
+    pub terminal: u32,
+    /// `--cards`, at most 100,000, else 23: how many.
+    pub cards: u32,
+}
 
 /// What the program is to do.
 #[derive(Clone, Copy, Debug, PartialEq, Eq)]
@@ -26,10 +38,12 @@ pub enum Task {
     Dump(Table),
     /// Run terminals and servers.
     Run(Plan),
+    /// Write the requests of a terminal.
+    Requests(Asking),
 }
 
 /// What the words ask.
-#[derive(Clone, Copy, Debug)]
+#[derive(Clone, Copy)]
 pub struct Asked {
     /// What to do.
     pub task: Task,
@@ -45,17 +59,26 @@ pub struct Asked {
     pub moment: Moment,
     /// Whether `--seeded` is among the words: else the opening is plain and has neither seed nor moment.
     pub seeded: bool,
+    /// What each `--show` of a run asks for, in their order; none where there is none.
+    pub shows: Parts,
 }
 
 impl Asked {
+    /// The scale that the options name. Refused as Scale where there is none.
+    pub fn scale(&self) -> Result<Scale, ProgramFault>
+        ensures named { IfOk result (λ scale. scale ≡ named_scale self.now) }
+    {
+        match Scale::new(self.warehouses, self.customers, self.items) {
+            Ok(scale) => Ok(scale),
+            Err(fault) => Err(ProgramFault::Scale(fault)),
+        }
+    }
+
     /// The opening that the options name. Refused as Scale where there is no such scale.
     pub fn opening(&self) -> Result<Opening, ProgramFault>
         ensures named { IfOk result (λ opening. opening ≡ named_opening self.now) }
     {
-        let scale = match Scale::new(self.warehouses, self.customers, self.items) {
-            Ok(scale) => scale,
-            Err(fault) => return Err(ProgramFault::Scale(fault)),
-        };
+        let scale = self.scale()?;
         Ok(if self.seeded {
             Opening::Seeded {
                 scale,
@@ -87,6 +110,12 @@ fn seeded<'a>(alloc: Global) -> Arg<'a> {
     Arg::new(alloc, "seeded")
         .long("seeded")
         .action(ArgAction::SetTrue)
+}
+
+fn shows<'a>(alloc: Global) -> Arg<'a> {
+    Arg::new(alloc, "show")
+        .long("show")
+        .action(ArgAction::Append)
 }
 
 fn table<'a>(alloc: Global) -> Arg<'a> {
@@ -129,7 +158,13 @@ fn run<'a>(alloc: Global) -> Result<Command<'a>, AllocError> {
     let command = with_number(alloc, with_opening(alloc, "run"), "terminals");
     let command = with_number(alloc, command, "servers");
     let command = with_number(alloc, command, "cards");
-    with_number(alloc, command, "retire")
+    let command = with_number(alloc, command, "retire");
+    with_option(command, shows(alloc))
+}
+
+fn requests<'a>(alloc: Global) -> Result<Command<'a>, AllocError> {
+    let command = with_number(alloc, with_opening(alloc, "requests"), "terminal");
+    with_number(alloc, command, "cards")
 }
 
 // The program with a command more, where that was made.
@@ -144,6 +179,7 @@ fn program<'a>(alloc: Global) -> Result<Command<'a>, AllocError> {
     let program = Command::new(alloc, "tpcc").subcommand_required(true);
     let program = with_command(program, with_opening(alloc, "script"))?;
     let program = with_command(program, dump(alloc))?;
+    let program = with_command(program, requests(alloc))?;
     with_command(program, run(alloc))
 }
 
@@ -176,6 +212,36 @@ fn read_plan(matches: &ArgMatches<'_>) -> Result<Plan, ProgramFault>
     })
 }
 
+fn read_asking(matches: &ArgMatches<'_>) -> Result<Asking, ProgramFault>
+    ensures asking { IfOk result (λ asking. 1 ≤ asking.terminal) }
+{
+    Ok(Asking {
+        terminal: in_range(matches.get_one::<u32>("terminal"), 1, 1, 1_000)?,
+        cards: in_range(matches.get_one::<u32>("cards"), 23, 0, 100_000)?,
+    })
+}
+
+// Adds a part where there is room for one more.
+fn add_show(shows: &mut Parts, word: &str) -> Result<(), ProgramFault> {
+    match part_named(word.as_bytes()) {
+        Some(part) if shows.len() < MOST_SHOWS => {
+            shows.push(part);
+            Ok(())
+        }
+        _ => Err(ProgramFault::Arguments),
+    }
+}
+
+fn read_shows(matches: &ArgMatches<'_>) -> Result<Parts, ProgramFault> {
+    let mut shows = Parts::empty();
+    if let Some(words) = matches.get_strs("show") {
+        for word in words {
+            add_show(&mut shows, word)?;
+        }
+    }
+    Ok(shows)
+}
+
 fn read_seed(matches: &ArgMatches<'_>) -> u64 {
     matches.get_one::<u64>("seed").unwrap_or(1)
 }
@@ -197,6 +263,9 @@ fn read_task(name: &str, matches: &ArgMatches<'_>) -> Result<Task, ProgramFault>
     if name == "run" {
         return Ok(Task::Run(read_plan(matches)?));
     }
+    if name == "requests" {
+        return Ok(Task::Requests(read_asking(matches)?));
+    }
     let Some(table) = matches.get_str("table") else {
         return Err(ProgramFault::Arguments);
     };
@@ -210,6 +279,7 @@ fn read_options(task: Task, matches: &ArgMatches<'_>) -> Result<Asked, ProgramFa
     ensures task { IfOk result (λ asked. asked.task ≡ task) }
 {
     let moment = read_moment(matches)?;
+    let shows = read_shows(matches)?;
     Ok(Asked {
         task,
         warehouses: matches.get_one::<u32>("warehouses").unwrap_or(1),
@@ -218,14 +288,15 @@ fn read_options(task: Task, matches: &ArgMatches<'_>) -> Result<Asked, ProgramFa
         seed: read_seed(matches),
         moment,
         seeded: matches.get_flag("seeded"),
+        shows,
     })
 }
 
 /// Reads the words, of which the first is the program's name.
 ///
 /// Refused as Arguments where `clap` refuses them, a wish for help or version among it, where no
-/// table has that name, where the moment is past the year 2099, and where an option of `run` is out of its
-/// range; as NoMemory for want of memory.
+/// table or part has that name, where the moment is past the year 2099, and where an option of `run` or
+/// `requests` is out of its range or `--show` comes more than 16 times; as NoMemory for want of memory.
 pub fn read_words<'a, S: AsStr>(alloc: Global, words: &'a [S]) -> Result<Asked, ProgramFault>
     ensures plan { IfOk result (λ asked. HasPlan asked.task) }
 {

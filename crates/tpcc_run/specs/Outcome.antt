@@ -6,6 +6,8 @@ use Rattle.tpcc_book.specs.Past.{Past, IsKept, rise_of}
 use Rattle.tpcc_terminal.specs.declared.receipts.Receipt.{Receipt}
 use Rattle.tpcc_terminal.specs.Report.{report_text}
 use Rattle.tpcc_audit.specs.declared.settlement.Totals.{Totals}
+use Rattle.tpcc_show.specs.declared.parts.Part.{Part}
+use Rattle.tpcc_show.specs.Shown.{shown_text}
 use Rattle.tpcc_run.specs.declared.plan.Plan.{Plan}
 
 -- the ranges of a plan
@@ -17,9 +19,8 @@ pub record IsPlan (plan : Plan) : Type 0 where
   pub cards_most : plan.cards ≤ 100000
   pub retire_most : plan.retire ≤ 100000
 
--- the totals of a book of the opening: its entries, what its purses paid, and the rise of W_YTD
-pub record HasTotals (opening : Opening) (totals : Totals) : Type 0 where
-  pub book : Past
+-- a kept book of the opening with its totals: its entries, what its purses paid, and the rise of W_YTD
+pub record HasTotals (opening : Opening) (book : Past) (totals : Totals) : Type 0 where
   pub opening_is : book.opening ≡ opening
   pub kept : IsKept book
   pub entries_is : totals.entries ≡ length book.entries
@@ -32,6 +33,13 @@ pub record HasReported (opening : Opening) (before after : Option (List ℕ)) : 
   pub opening_is : book.opening ≡ opening
   pub kept : IsKept book
   pub written : Appends before after (report_text (length book.entries) (rise_of book) (rise_of book))
+
+-- these parts of a book of the opening
+pub record HasShown (opening : Opening) (parts : List Part) (before after : Option (List ℕ)) : Type 0 where
+  pub book : Past
+  pub opening_is : book.opening ≡ opening
+  pub kept : IsKept book
+  pub written : Appends before after (shown_text book parts)
 
 -- more receipts were added, or none
 abbrev pub KeepsSome : List Receipt → List Receipt → List Receipt → Type 0

@@ -17,4 +17,4 @@ mod threads;
 
 pub use fault::RunFault;
 pub use plan::Plan;
-pub use running::run;
+pub use running::{run, run_shown};

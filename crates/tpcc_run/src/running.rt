@@ -2,7 +2,7 @@
 ghost use Rattle.std.specs.Prelude.{◌≡◌, IfOk};
 ghost use Rattle.tpcc_population.specs.declared.opening.Opening.{Opening};
 ghost use Rattle.tpcc_audit.specs.Settlement.{AllSeen};
-ghost use Rattle.tpcc_run.specs.Outcome.{HasReported, HasTotals, IsPlan};
+ghost use Rattle.tpcc_run.specs.Outcome.{HasReported, HasShown, HasTotals, IsPlan};
 
 use crate::fault::RunFault;
 use crate::gathered::Gathered;
@@ -13,11 +13,12 @@ use std::io::Write;
 use std::marker::Brand;
 use std::sync::Wait;
 use std::thread::Threads;
-use tpcc_audit::{Totals, report, settle};
-use tpcc_book::{Blanks, Naming, SeatedPurse, Seating, Turns, UnnamedTurns};
+use tpcc_audit::{DumpFault, Totals, report, settle};
+use tpcc_book::{Blanks, Book, Naming, SeatedPurse, Seating, Turns, UnnamedTurns};
 use tpcc_mailbox::Mailboxes;
 use tpcc_population::{Opening, Scale};
 use tpcc_server::{Job, JobAnswer, Turning};
+use tpcc_show::{Part, show};
 use tpcc_terminal::Receipt;
 
 /// Runs terminals, servers and a delivery runner on the book of an opening, each in a thread of its own;
@@ -61,12 +62,89 @@ fn by_name<
     requires cents { blanks.cents.name ≡ N.cents }
     ensures reported { IfOk result (λ w. HasReported opening.now (W.contents out) (W.contents w)) }
 {
+    let (book, totals) = settled_book::<N, C, F, R>(rt, alloc, opening, plan, make, blanks)?;
+    written(&book, &totals, out, opening)
+}
+
+/// Runs the same terminals, servers and delivery runner, and writes parts of the settled book in place of the
+/// report: one part alone as it is, several each under a line `== PART`. Answers the writer, and the totals that
+/// the report would have told.
+///
+/// Faults as of [`run`]; NoMemory also where a growth was refused while a part was written.
+pub fn run_shown<
+    W: Write + Drop,
+    C: Turning + Send,
+    F: Fn(Global) -> Result<C, AllocError> + Sync,
+    R: Threads + Wait + Sync,
+>(
+    rt: &R,
+    alloc: Global,
+    opening: &Opening,
+    plan: &Plan,
+    parts: &[Part],
+    out: W,
+    make: F,
+) -> Result<(W, Totals), RunFault>
+    requires plan { IsPlan plan.now }
+    requires make { F.IsAlwaysCallable make }
+    ensures shown { IfOk result (λ r. HasShown opening.now parts.now (W.contents out) (W.contents r.0)) }
+{
+    shown_by_name::<Brand, W, C, F, R>(rt, alloc, opening, plan, parts, out, &make, Blanks::new())
+}
+
+// The same with a name for the book.
+fn shown_by_name<
+    N: Naming + Send + Sync,
+    W: Write + Drop,
+    C: Turning + Send,
+    F: Fn(Global) -> Result<C, AllocError> + Sync,
+    R: Threads + Wait + Sync,
+>(
+    rt: &R,
+    alloc: Global,
+    opening: &Opening,
+    plan: &Plan,
+    parts: &[Part],
+    out: W,
+    make: &F,
+    blanks: Blanks,
+) -> Result<(W, Totals), RunFault>
+    requires plan { IsPlan plan.now }
+    requires make { F.IsAlwaysCallable make.now }
+    requires entries { blanks.entries.name ≡ N.entries }
+    requires cents { blanks.cents.name ≡ N.cents }
+    ensures shown { IfOk result (λ r. HasShown opening.now parts.now (W.contents out) (W.contents r.0)) }
+{
+    let (book, totals) = settled_book::<N, C, F, R>(rt, alloc, opening, plan, make, blanks)?;
+    let out = shown(alloc, &book, &totals, parts, out, opening)?;
+    Ok((out, totals))
+}
+
+// The book of a run at its end, and what it comes to.
+fn settled_book<
+    N: Naming + Send + Sync,
+    C: Turning + Send,
+    F: Fn(Global) -> Result<C, AllocError> + Sync,
+    R: Threads + Wait + Sync,
+>(
+    rt: &R,
+    alloc: Global,
+    opening: &Opening,
+    plan: &Plan,
+    make: &F,
+    blanks: Blanks,
+) -> Result<(Book<N>, Totals), RunFault>
+    requires plan { IsPlan plan.now }
+    requires make { F.IsAlwaysCallable make.now }
+    requires entries { blanks.entries.name ≡ N.entries }
+    requires cents { blanks.cents.name ≡ N.cents }
+    ensures settled { IfOk result (λ r. HasTotals opening.now r.0 r.1) }
+{
     let scale = scale_of(opening);
     let Ok(turns) = UnnamedTurns::<N>::start(alloc, opening, blanks) else {
         return Err(RunFault::NoMemory);
     };
-    let totals = by_seats::<N, Brand, C, F, R>(rt, alloc, scale, plan, make, turns)?;
-    written(&totals, out, opening)
+    by_seats::<N, Brand, C, F, R>(rt, alloc, scale, plan, make, turns)
 }
 
 // What the run comes to, with a name for the seats.
@@ -83,11 +161,11 @@ fn by_seats<
     plan: &Plan,
     make: &F,
     turns: UnnamedTurns<N>,
-) -> Result<Totals, RunFault>
+) -> Result<(Book<N>, Totals), RunFault>
     requires plan { IsPlan plan.now }
     requires make { F.IsAlwaysCallable make.now }
     requires name { turns.table ≡ T.table }
-    ensures settled { IfOk result (HasTotals turns.opening) }
+    ensures settled { IfOk result (λ r. HasTotals turns.opening r.0 r.1) }
 {
     let (turns, first) = turns.named::<T>();
     let all = gathered(rt, alloc, scale, plan, make, &turns, first);
@@ -128,9 +206,9 @@ fn gathered<
 fn settled<N: Naming, T: Seating>(
     turns: Turns<N, T>,
     all: Gathered<N, T>,
-) -> Result<Totals, RunFault>
+) -> Result<(Book<N>, Totals), RunFault>
     requires seen { AllSeen all.purses.items all.receipts.items }
-    ensures settled { IfOk result (HasTotals turns) }
+    ensures settled { IfOk result (λ r. HasTotals turns r.0 r.1) }
 {
     let Gathered {
         purses,
@@ -147,24 +225,52 @@ fn totals_of<N: Naming, T: Seating>(
     turns: Turns<N, T>,
     purses: Vec<SeatedPurse<N, T>>,
     receipts: &[Receipt],
-) -> Result<Totals, RunFault>
+) -> Result<(Book<N>, Totals), RunFault>
     requires seen { AllSeen purses.items receipts.now }
-    ensures settled { IfOk result (HasTotals turns) }
+    ensures settled { IfOk result (λ r. HasTotals turns r.0 r.1) }
 {
     match settle(turns, purses, receipts) {
-        Ok((_book, totals)) => Ok(totals),
+        Ok((book, totals)) => Ok((book, totals)),
         Err(_left) => Err(RunFault::Missing),
     }
 }
 
-fn written<W: Write + Drop>(totals: &Totals, out: W, opening: &Opening) -> Result<W, RunFault>
-    requires totals { HasTotals opening.now totals.now }
+// Writes the report of a settled book.
+fn written<N: Naming, W: Write + Drop>(
+    book: &Book<N>,
+    totals: &Totals,
+    out: W,
+    opening: &Opening,
+) -> Result<W, RunFault>
+    requires totals { HasTotals opening.now book.now totals.now }
     ensures reported { IfOk result (λ w. HasReported opening.now (W.contents out) (W.contents w)) }
 {
+    let _ = book;
     let _ = opening;
     match report(totals, out) {
         Ok(out) => Ok(out),
         Err(_) => Err(RunFault::Write),
+    }
+}
+
+// Writes parts of a settled book.
+fn shown<N: Naming, W: Write + Drop>(
+    alloc: Global,
+    book: &Book<N>,
+    totals: &Totals,
+    parts: &[Part],
+    out: W,
+    opening: &Opening,
+) -> Result<W, RunFault>
+    requires totals { HasTotals opening.now book.now totals.now }
+    ensures shown { IfOk result (λ w. HasShown opening.now parts.now (W.contents out) (W.contents w)) }
+{
+    let _ = totals;
+    let _ = opening;
+    match show(alloc, book, parts, out) {
+        Ok(out) => Ok(out),
+        Err(DumpFault::Write) => Err(RunFault::Write),
+        Err(DumpFault::NoMemory) => Err(RunFault::NoMemory),
     }
 }
 

@@ -1,0 +1,87 @@
+//! What can be shown.
+ghost use Rattle.std.specs.Prelude.{◌≡◌, IfSome, IsTrue};
+ghost use Rattle.tpcc_show.specs.Shown.{part_name};
+
+use tpcc_audit::{table_name, table_named};
+use tpcc_rows::{Blank, Few, Table};
+
+/// What is shown of a book.
+#[derive(Clone, Copy, Debug, PartialEq, Eq)]
+pub enum Part {
+    /// The screens of the journal's entries, in its order.
+    Screens,
+    /// The entries, what was paid, and the rise of W_YTD: three lines.
+    Report,
+    /// The journal as a script: a line for each entry, in its order.
+    Journal,
+    /// The delivery result log (2.7.2.2).
+    Results,
+    /// The consistency conditions (3.3.2).
+    Check,
+    /// The rows of a table (1.3), as CSV.
+    Rows(Table),
+}
+
+/// Parts in the order in which they are shown.
+pub type Parts = Few<Part, 16>;
+
+impl Blank for Part {
+    ghost use Rattle.tpcc_show.specs.declared.parts.Part.TheVariants as parts;
+
+    ghost blank = { parts.Report };
+
+    fn blank() -> Self {
+        Part::Report
+    }
+}
+
+impl Part {
+    const WORDS: [Part; 5] = [
+        Part::Screens,
+        Part::Report,
+        Part::Journal,
+        Part::Results,
+        Part::Check,
+    ];
+
+    /// The word that asks for it, as `journal` or `ORDER-LINE`.
+    pub fn name(&self) -> &'static [u8]
+        ensures name { result.now ≡ part_name self.now }
+    {
+        match self {
+            Part::Screens => b"screens",
+            Part::Report => b"report",
+            Part::Journal => b"journal",
+            Part::Results => b"results",
+            Part::Check => b"check",
+            Part::Rows(table) => table_name(*table),
+        }
+    }
+}
+
+fn is_named(part: &Part, name: &[u8]) -> bool
+    ensures named { IsTrue result → part_name part.now ≡ name.now }
+{
+    part.name() == name
+}
+
+fn word_named(name: &[u8]) -> Option<Part>
+    ensures named { IfSome result (λ part. part_name part ≡ name.now) }
+{
+    for part in &Part::WORDS {
+        if is_named(part, name) {
+            return Some(*part);
+        }
+    }
+    None
+}
+
+/// The part that a word asks for; none where there is no such part.
+pub fn part_named(name: &[u8]) -> Option<Part>
+    ensures named { IfSome result (λ part. part_name part ≡ name.now) }
+{
+    match word_named(name) {
+        Some(part) => Some(part),
+        None => table_named(name).map(Part::Rows),
+    }
+}

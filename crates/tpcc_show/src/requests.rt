@@ -1,0 +1,53 @@
+//! The requests that a terminal asks, as a script.
+ghost use Rattle.std.specs.Prelude.{◌≡◌, ◌≤◌, IfOk, OnOk};
+ghost use Rattle.std.specs.Io.KnownBytes.{Appends};
+ghost use Rattle.tpcc_terminal.specs.Terminals.{IsAsked};
+ghost use Rattle.tpcc_show.specs.Requests.{IsTold, asked_by, request_lines};
+
+use crate::entries::put;
+use std::alloc::Global;
+use std::io::Write;
+use tpcc_audit::DumpFault;
+use tpcc_money::Moment;
+use tpcc_population::Scale;
+use tpcc_terminal::{Terminal, request_line};
+
+// The line of the next card.
+fn put_next<W: Write>(
+    alloc: Global,
+    terminal: &mut Terminal,
+    moment: Moment,
+    out: &mut W,
+) -> Result<(), DumpFault>
+    ensures { OnOk result (IsTold terminal.old moment (W.contents out.old) terminal.new (W.contents out.new)) }
+{
+    let request = terminal.next(moment)?;
+    let line = request_line(alloc, &request)?;
+    put(out, line.bytes())
+}
+
+#[tactic(auto, using(crate::proofs::Asking::starts, crate::proofs::Asking::goes_on, crate::proofs::Asking::ends))]
+/// Writes the requests of a terminal's first cards, all at one moment, as lines of a script: those that the terminal
+/// of this number asks of a population of this scale and seed, in its order. Answers the writer.
+///
+/// Write where the writer fails or takes nothing, NoMemory where a growth was refused; the writer is then let go,
+/// and how much of the text it took is unknown.
+pub fn put_requests<W: Write + Drop>(
+    alloc: Global,
+    number: u32,
+    scale: Scale,
+    seed: u64,
+    moment: Moment,
+    cards: u32,
+    out: W,
+) -> Result<W, DumpFault>
+    requires number { 1 ≤ number }
+    ensures written { IfOk result (λ w. Appends (W.contents out) (W.contents w) (request_lines (asked_by number scale seed moment cards))) }
+{
+    let mut out = out;
+    let mut terminal = Terminal::new(alloc, number, scale, seed)?;
+    for _ in 0..cards {
+        put_next(alloc, &mut terminal, moment, &mut out)?;
+    }
+    Ok(out)
+}
