@@ -92,7 +92,9 @@ for words in '' serve help --help --version 'script --help' 'run --version' 'scr
     'run --terminals 0' 'run --terminals 1000' 'run --servers 0' 'run --servers 17' 'run --cards 100001' 'run --retire 100001' \
     'run --terminals x' 'run --terminals 0 --warehouses 0' 'script --moment 4102444800' 'script --seed -1' \
     'script --seed 18446744073709551616' 'script --items -1' 'script --items 4294967296' 'script --items' \
-    'script --items 100 --items 200' 'script --seeded 1' 'script --seeded --seeded'; do
+    'script --items 100 --items 200' 'script --seeded 1' 'script --seeded --seeded' 'run --show' 'run --show rows' 'run --show item' \
+    'run --show Journal' 'script --show journal' 'dump ITEM --show journal' "run $(times 17 ' --show check')" \
+    'requests --terminal 0' 'requests --terminal 1001' 'requests --cards 100001' 'requests 1' 'requests --terminals 1' 'requests --show journal'; do
     it "words: $words" "$words" '' 1 'fault 1 Arguments' ''
 done
 for number in 0 101 4294967295; do it "$number warehouses" "script --warehouses $number" '' 1 'fault 1 Warehouses' ''; done
@@ -171,6 +173,77 @@ reported 'five terminals of a plain opening' '--seed 9 --customers 20 --moment 3
     237 277 96057.42
 reported '2,000 cards' '--seeded --warehouses 4 --customers 60 --items 200 --seed 3 --terminals 4 --servers 2 --cards 500' \
     2871 3371 2214693.70
+
+# ---- what a run shows
+
+# The part of the file shown that stands under a heading.
+part() {
+    awk -v heading="== $1" '/^== / { on = ($0 == heading); next } on' shown
+}
+
+# A run shows parts of its book, and its journal given to a script of the same opening shows the same screens. The report is
+# on standard error, and tells how long the journal is.
+again() {
+    left_out "$1" && return
+    timeout "$seconds" "$tpcc" run $2 $3 --show journal --show screens --show check > shown 2> told
+    echo $? > status
+    part journal > journal
+    part screens > stdout.wanted
+    printf 'entries %s\n' "$(wc -l < journal)" > stderr.wanted
+    head -n 1 told > stderr
+    compare "$1: how it ends" 0
+    [ "$(part check)" = consistent ] || differs "$1" check
+    timeout "$seconds" "$tpcc" script $2 < journal > stdout 2> stderr
+    echo $? > status
+    : > stderr.wanted
+    compare "$1" 0
+}
+
+# The requests of each terminal stand in the journal of a run, none twice, beside deliveries and nothing else.
+asked() {
+    left_out "$1" && return
+    timeout "$seconds" "$tpcc" run $2 --terminals "$3" --cards "$4" --show journal 2> told | grep -v '^deliver ' > journal
+    for terminal in $(seq "$3"); do
+        timeout "$seconds" "$tpcc" requests $2 --terminal "$terminal" --cards "$4" | grep -v '^deliver ' > "asked.$terminal"
+    done
+    sort journal > stdout
+    sort asked.* > all
+    comm -12 stdout all > stdout.wanted
+    [ "$(wc -l < all)" = "$5" ] || differs "$1" all
+    : > stderr; : > stderr.wanted; echo 0 > status
+    compare "$1" 0
+}
+
+# The requests of a lone terminal stand in its run's journal in their order.
+in_order() {
+    left_out "$1" && return
+    timeout "$seconds" "$tpcc" run $2 --terminals 1 --cards "$3" --show journal 2> told | grep -v '^deliver ' > stdout
+    timeout "$seconds" "$tpcc" requests $2 --terminal 1 --cards "$3" > asked
+    awk 'NR == FNR { journal[FNR] = $0; next } BEGIN { at = 1 } $0 == journal[at] { print; at++ }' stdout asked > stdout.wanted
+    : > stderr; : > stderr.wanted; echo 0 > status
+    compare "$1" 0
+}
+
+for seed in 1 7 42; do
+    again "a journal again, seed $seed, 1 terminal"   "--seeded --seed $seed" '--terminals 1 --servers 1 --cards 60'
+    again "a journal again, seed $seed, 4 terminals"  "--seeded --seed $seed" '--terminals 4 --servers 2 --cards 40'
+    again "a journal again, seed $seed, 9 terminals"  "--seeded --seed $seed --warehouses 2" '--terminals 9 --servers 4 --cards 30'
+    asked "requests of 5 terminals, seed $seed"       "--seeded --seed $seed --warehouses 2" 5 20 100
+    in_order "requests in order, seed $seed"          "--seeded --seed $seed" 50
+done
+again 'a journal of a plain opening again' '--customers 20 --items 150' '--terminals 3 --servers 3 --retire 2 --cards 25'
+by 'no request'                  '"$tpcc" requests --cards 0 > stdout 2> stderr; echo $? > status'     0 '' ''
+by 'as many requests as cards'   '"$tpcc" requests --seeded --cards 100 2> stderr | wc -l > stdout; echo $? > status' 0 '' '100\n'
+for table in WAREHOUSE DISTRICT CUSTOMER HISTORY ORDER ORDER-LINE NEW-ORDER ITEM STOCK; do
+    by "$table of a run of no card"  '"$tpcc" run --seeded --cards 0 --show '"$table"' > stdout 2> told; echo $? > status; : > stderr' \
+        0 '' '@"$tpcc" dump '"$table"' --seeded'
+done
+by 'no delivery result'          '"$tpcc" run --cards 0 --show results > stdout 2> told; echo $? > status; : > stderr' 0 '' ''
+by 'a report that is asked for'  '"$tpcc" run --cards 0 --show report > stdout 2> stderr; echo $? > status' 0 '' 'entries 1\npaid 0.00\nrise 0.00\n'
+by 'two parts'                   '"$tpcc" run --cards 0 --show check --show report > stdout 2> stderr; echo $? > status' \
+    0 '' '== check\nconsistent\n== report\nentries 1\npaid 0.00\nrise 0.00\n'
+by 'parts to a full disk'        '"$tpcc" run --show journal > /dev/full 2> stderr; echo $? > status' 3 'fault 4 Write' ''
+by 'requests to a full disk'     '"$tpcc" requests > /dev/full 2> stderr; echo $? > status'           3 'fault 1 Write' ''
 
 # ---- readers and writers that fail
 

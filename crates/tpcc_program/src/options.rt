@@ -18,6 +18,7 @@ use tpcc_show::{Parts, part_named};
 
 /// How many times `--show` is taken.
 const MOST_SHOWS: usize = 16;
+
 const FIRST_SECOND_OF_2100: u32 = 4_102_444_800;
 
 /// Which requests are to be written.
