@@ -188,7 +188,7 @@ again() {
     timeout "$seconds" "$tpcc" run $2 $3 --show journal --show screens --show check > shown 2> told
     echo $? > status
     part journal > journal
-    part screens > stdout.wanted
+    part screens | tee stdout > stdout.wanted
     printf 'entries %s\n' "$(wc -l < journal)" > stderr.wanted
     head -n 1 told > stderr
     compare "$1: how it ends" 0
@@ -241,7 +241,7 @@ done
 by 'no delivery result'          '"$tpcc" run --cards 0 --show results > stdout 2> told; echo $? > status; : > stderr' 0 '' ''
 by 'a report that is asked for'  '"$tpcc" run --cards 0 --show report > stdout 2> stderr; echo $? > status' 0 '' 'entries 1\npaid 0.00\nrise 0.00\n'
 by 'two parts'                   '"$tpcc" run --cards 0 --show check --show report > stdout 2> stderr; echo $? > status' \
-    0 '' '== check\nconsistent\n== report\nentries 1\npaid 0.00\nrise 0.00\n'
+    0 '' '@printf "== check\nconsistent\n== report\nentries 1\npaid 0.00\nrise 0.00\n"'
 by 'parts to a full disk'        '"$tpcc" run --show journal > /dev/full 2> stderr; echo $? > status' 3 'fault 4 Write' ''
 by 'requests to a full disk'     '"$tpcc" requests > /dev/full 2> stderr; echo $? > status'           3 'fault 1 Write' ''
 
