@@ -1,7 +1,7 @@
 -- Bytes that a sink got one text after another.
 use Rattle.std.proofs.Common.{◌≡◌, ◌∙◌, sym, refl, ap, subst, codes, ℕ, ◌+◌, ◌<◌, List, [], ◌∷◌, ◌++◌, append_assoc, append-nil, length, take}
 use Rattle.std.specs.Prelude.{Option, Some, None, Result, Ok, Err, IfOk}
-use Rattle.std.specs.Io.KnownBytes.{Appends}
+use Rattle.std.specs.Io.KnownBytes.{Appends, Keeps, append_known}
 
 -- two texts in turn
 pub in_turn : (a b c : Option (List ℕ)) (xs ys : List ℕ) → Appends a b xs → Appends b c ys → Appends a c (xs ++ ys)
@@ -24,3 +24,16 @@ headed contents a b name text (Ok w) before after =
     append_assoc (codes "== ") (name ++ (10 ∷ [])) text ∙ ap (λ z. codes "== " ++ z) (append_assoc name (10 ∷ []) text) in
     subst (λ z. Appends a (contents w) z) whole (in_turn a b (contents w) _ text before after)
 headed contents a b name text (Err e) before after = tt
+
+-- a sink behind a buffer has what the buffer got, once that is handed on
+pub in_blocks : (a b c d : Option (List ℕ)) (text : List ℕ) → Keeps a b → Appends b c text → Keeps c d → Appends a d text
+in_blocks None b c d text h k l = tt
+in_blocks (Some a) None c d text h k l = absurd h
+in_blocks (Some a) (Some b) None d text h k l = absurd k
+in_blocks (Some a) (Some b) (Some c) None text h k l = absurd l
+in_blocks (Some a) (Some b) (Some c) (Some d) text h k l = l ∙ k ∙ ap (λ z. z ++ text) h
+
+-- a buffer that holds nothing yet
+pub nothing_in_blocks : (a : Option (List ℕ)) → Keeps a (append_known a [])
+nothing_in_blocks None = tt
+nothing_in_blocks (Some a) = append-nil a

@@ -1,6 +1,7 @@
 //! What is shown of a book: screens, report, journal, delivery results, check and tables, as text.
 #![tactic(auto)]
 
+mod blocks;
 mod entries;
 mod parts;
 mod requests;
@@ -8,4 +9,4 @@ mod showing;
 
 pub use parts::{Part, Parts, part_named};
 pub use requests::put_requests;
-pub use showing::{show, show_part};
+pub use showing::show;

@@ -4,6 +4,7 @@ ghost use Rattle.std.specs.Io.KnownBytes.{Appends};
 ghost use Rattle.tpcc_terminal.specs.Terminals.{IsAsked};
 ghost use Rattle.tpcc_show.specs.Requests.{IsTold, asked_by, request_lines};
 
+use crate::blocks::{begin, end};
 use crate::entries::put;
 use std::alloc::Global;
 use std::io::Write;
@@ -27,6 +28,26 @@ fn put_next<W: Write>(
 }
 
 #[tactic(auto, using(crate::proofs::Asking::starts, crate::proofs::Asking::goes_on, crate::proofs::Asking::ends))]
+fn put_cards<W: Write>(
+    alloc: Global,
+    number: u32,
+    scale: Scale,
+    seed: u64,
+    moment: Moment,
+    cards: u32,
+    out: &mut W,
+) -> Result<(), DumpFault>
+    requires number { 1 ≤ number }
+    ensures { OnOk result (Appends (W.contents out.old) (W.contents out.new) (request_lines (asked_by number scale seed moment cards))) }
+{
+    let mut terminal = Terminal::new(alloc, number, scale, seed)?;
+    for _ in 0..cards {
+        put_next(alloc, &mut terminal, moment, out)?;
+    }
+    Ok(())
+}
+
+#[tactic(auto, using(crate::proofs::Appending::in_blocks))]
 /// Writes the requests of a terminal's first cards, all at one moment, as lines of a script: those that the terminal
 /// of this number asks of a population of this scale and seed, in its order. Answers the writer.
 ///
@@ -44,10 +65,7 @@ pub fn put_requests<W: Write + Drop>(
     requires number { 1 ≤ number }
     ensures written { IfOk result (λ w. Appends (W.contents out) (W.contents w) (request_lines (asked_by number scale seed moment cards))) }
 {
-    let mut out = out;
-    let mut terminal = Terminal::new(alloc, number, scale, seed)?;
-    for _ in 0..cards {
-        put_next(alloc, &mut terminal, moment, &mut out)?;
-    }
-    Ok(out)
+    let mut blocks = begin(alloc, out)?;
+    put_cards(alloc, number, scale, seed, moment, cards, &mut blocks)?;
+    end(blocks)
 }

@@ -9,6 +9,7 @@ ghost use Rattle.tpcc_terminal.specs.Report.{report_text};
 ghost use Rattle.tpcc_show.specs.Shown.{part_text, headed_text, shown_text, part_name};
 ghost use Rattle.std.specs.Prelude.{[], length, ◌++◌, ◌∷◌, codes, flat_map};
 
+use crate::blocks::{begin, end};
 use crate::entries::{put, put_lines, put_screens};
 use crate::parts::Part;
 use std::alloc::Global;
@@ -66,11 +67,8 @@ fn put_report<N: Naming, W: Write + Drop>(book: &Book<N>, out: W) -> Result<W, D
     }
 }
 
-/// Writes one part of a book, with no heading. Answers the writer.
-///
-/// Write where the writer fails or takes nothing, NoMemory where a growth was refused; the writer is then let go,
-/// and how much of the text it took is unknown.
-pub fn show_part<N: Naming, W: Write + Drop>(
+// One part, with no heading.
+fn show_part<N: Naming, W: Write + Drop>(
     alloc: Global,
     book: &Book<N>,
     part: Part,
@@ -127,11 +125,7 @@ fn show_all<N: Naming, W: Write + Drop>(
     Ok(out)
 }
 
-/// Writes parts of a book, in their order: one part alone as it is, several each under a line `== PART`.
-/// Answers the writer.
-///
-/// Write and NoMemory as [`show_part`].
-pub fn show<N: Naming, W: Write + Drop>(
+fn show_parts<N: Naming, W: Write + Drop>(
     alloc: Global,
     book: &Book<N>,
     parts: &[Part],
@@ -143,4 +137,23 @@ pub fn show<N: Naming, W: Write + Drop>(
         [part] => show_part(alloc, book, *part, out),
         _ => show_all(alloc, book, parts, out),
     }
+}
+
+#[tactic(auto, using(crate::proofs::Appending::in_blocks))]
+/// Writes parts of a book, in their order: one part alone as it is, several each under a line `== PART`.
+/// Answers the writer.
+///
+/// Write where the writer fails or takes nothing, NoMemory where a growth was refused; the writer is then let go,
+/// and how much of the text it took is unknown.
+pub fn show<N: Naming, W: Write + Drop>(
+    alloc: Global,
+    book: &Book<N>,
+    parts: &[Part],
+    out: W,
+) -> Result<W, DumpFault>
+    ensures written { IfOk result (λ w. Appends (W.contents out) (W.contents w) (shown_text book.now parts.now)) }
+{
+    let blocks = begin(alloc, out)?;
+    let blocks = show_parts(alloc, book, parts, blocks)?;
+    end(blocks)
 }
