@@ -1,3 +1,3 @@
-//! The words of the command line, the statuses of faults, and the progress of a run.
+//! The statuses of faults, and the progress of a run.
+mod faults;
 mod progress;
-mod words;

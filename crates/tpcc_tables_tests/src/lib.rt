@@ -1,4 +1,4 @@
-//! The tables, the population, the transactions and the conditions on worked values: each public
+//! The tables, the transactions and the conditions on worked values: each public
 //! call with ample memory, each refusal, and each growth refused in turn.
 #![tactic(auto)]
 
@@ -20,7 +20,5 @@ mod new_orders;
 mod opening;
 #[cfg(test)]
 mod payments;
-#[cfg(test)]
-mod populations;
 #[cfg(test)]
 mod samples;
