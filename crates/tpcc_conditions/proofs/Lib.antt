@@ -1,4 +1,5 @@
 mod SumLemmas
+mod KnownLemmas
 mod NumberLemmas
 mod DeliveredLemmas
 mod FirstLemmas

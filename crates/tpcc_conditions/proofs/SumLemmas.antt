@@ -12,7 +12,7 @@ use Rattle.tpcc_rows.specs.Conditions.{delivered_amount, delivered_to}
 use Rattle.tpcc_tables.specs.Positions.{count_of}
 use Rattle.tpcc_conditions.specs.declared.column.Column.{Column}
 use Rattle.tpcc_conditions.specs.declared.column.Column.TheVariants.{DistrictTotals, PaidIntoWarehouse, PaidIntoDistrict, PaidBy, LineCounts, Orders, Lines, LinesOf, NewOrders, DeliveredTo}
-use Rattle.tpcc_conditions.specs.Columns.{of_row, district_of, paid_warehouse, paid_district, order_in, line_in, new_order_in, from_row, term_of, sum_to, table_of}
+use Rattle.tpcc_conditions.specs.Columns.{of_row, district_of, paid_warehouse, paid_district, order_in, line_in, new_order_in, from_row, term_of, sum_to, whole}
 
 take_suc : {X : Type 0} (f : X → ℤ) (xs : List X) (i : ℕ) → total f (take (suc i) xs) ≡ total f (take i xs) +ℤ from_row f (slice_get xs i)
 take_suc f [] zero = omega (arith, ints)
@@ -61,9 +61,6 @@ all_length p (x ∷ xs) = grind (arith, ints, all_length p xs)
 all_sum : {X : Type 0} (p : X → Bool) (f : X → ℕ) (xs : List X) → total (of_row p (λ x. pos (f x))) (take (length xs) xs) ≡ pos (sum_by f (filter p xs))
 all_sum p f [] = refl
 all_sum {X} p f (x ∷ xs) = grind (arith, ints, sum_by-cons {X = X}, all_sum p f xs)
-
-abbrev whole : Column → Rows → ℤ
-whole column rows = sum_to column rows (count_of rows (table_of column))
 
 pub district_totals_are : (rows : Rows) (w : ℕ) → whole (DistrictTotals w) rows ≡ total (λ d. d.ytd) (districts_of rows w)
 unfolding sum_to count_of

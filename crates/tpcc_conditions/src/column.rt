@@ -2,7 +2,6 @@
 ghost use Rattle.std.specs.Prelude.{◌≡◌, pos};
 ghost use Rattle.tpcc_rows.specs.Tables.{is_paid_by, is_line_of, is_order_of};
 ghost use Rattle.tpcc_rows.specs.Conditions.{delivered_amount};
-ghost use Rattle.tpcc_tables.specs.Positions.{count_of};
 ghost use Rattle.tpcc_conditions.specs.Columns.{of_row, district_of, paid_warehouse, paid_district, order_in, line_in, new_order_in, term_of, table_of};
 
 use crate::{delivered, places};
@@ -11,7 +10,7 @@ use tpcc_rows::rows::*;
 use tpcc_tables::tables::Tables;
 
 /// A column of those rows of a table that have a part of a key.
-#[derive(Clone, Copy)]
+#[derive(Clone, Copy, PartialEq, Eq, Hash)]
 pub enum Column {
     /// D_YTD of a warehouse.
     DistrictTotals(u32),
@@ -208,28 +207,4 @@ pub fn term(tables: &Tables, column: Column, position: usize) -> i64
             None => 0,
         },
     }
-}
-
-fn table(column: Column) -> Table
-    ensures { result ≡ table_of column }
-{
-    match column {
-        Column::DistrictTotals(_) => Table::District,
-        Column::PaidIntoWarehouse(_) => Table::History,
-        Column::PaidIntoDistrict(_, _) => Table::History,
-        Column::PaidBy(_, _, _) => Table::History,
-        Column::LineCounts(_, _) => Table::Order,
-        Column::Orders(_, _) => Table::Order,
-        Column::Lines(_, _) => Table::OrderLine,
-        Column::LinesOf(_, _, _) => Table::OrderLine,
-        Column::NewOrders(_, _) => Table::NewOrder,
-        Column::DeliveredTo(_, _, _) => Table::Order,
-    }
-}
-
-/// How many rows the column's table has.
-pub fn len(tables: &Tables, column: Column) -> usize
-    ensures { result ≡ count_of tables.now.rows (table_of column) }
-{
-    tables.count(table(column))
 }

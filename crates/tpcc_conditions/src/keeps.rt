@@ -3,8 +3,11 @@ ghost use Rattle.std.specs.Prelude.{◌≡◌, ◌+ℤ◌, ◌-ℤ◌, ◌+◌, 
 ghost use Rattle.std.specs.Ordering.{int_eq};
 ghost use Rattle.tpcc_rows.specs.Lists.{largest};
 ghost use Rattle.tpcc_rows.specs.Tables.{order_at};
+ghost use Rattle.tpcc_conditions.specs.Known.{AreTotals};
 ghost use Rattle.tpcc_rows.specs.Conditions.{keeps_1, keeps_2, keeps_3, keeps_4, keeps_5, keeps_6, keeps_7, keeps_8, keeps_9, keeps_10, keeps_11, keeps_12, new_order_numbers};
 
+use crate::column::Column;
+use crate::totals::Totals;
 use crate::{numbers, sums};
 use tpcc_money::Cents;
 use tpcc_rows::rows::*;
@@ -45,40 +48,47 @@ pub fn next_number(tables: &Tables, row: &DistrictRow) -> bool
 
 #[tactic(auto, using(crate::proofs::NumberLemmas::span, crate::proofs::NumberLemmas::length_map))]
 /// Whether the NO_O_IDs of a district are as many as from the oldest one to the newest.
-fn is_span(tables: &Tables, row: &DistrictRow, oldest: u32) -> bool
+fn is_span(tables: &Tables, totals: &Totals, row: &DistrictRow, oldest: u32) -> bool
+    requires known { AreTotals ⟦<Column as PartialEq>⟧.eq totals.now tables.now.rows }
     ensures { result ≡ (unwrap_or (largest (new_order_numbers tables.now.rows row.now)) 0 + 1 == oldest + length (new_order_numbers tables.now.rows row.now)) }
 {
     let newest = numbers::largest_new(tables, row.warehouse, row.id);
-    i128::from(newest) + 1 - i128::from(oldest) == sums::new_orders(tables, row.warehouse, row.id)
+    i128::from(newest) + 1 - i128::from(oldest)
+        == sums::new_orders(tables, totals, row.warehouse, row.id)
 }
 
 #[tactic(auto, unfolding(tpcc_rows::specs::Conditions::keeps_3), using(crate::proofs::NumberLemmas::none_length))]
 /// Condition 3: the NO_O_IDs have no gap.
-pub fn no_gap(tables: &Tables, row: &DistrictRow) -> bool
+pub fn no_gap(tables: &Tables, totals: &Totals, row: &DistrictRow) -> bool
+    requires known { AreTotals ⟦<Column as PartialEq>⟧.eq totals.now tables.now.rows }
     ensures { result ≡ keeps_3 tables.now.rows row.now }
 {
     match tables.oldest_new(row.warehouse, row.id) {
-        Some(oldest) => is_span(tables, row, oldest),
+        Some(oldest) => is_span(tables, totals, row, oldest),
         None => true,
     }
 }
 
 #[tactic(auto, unfolding(tpcc_rows::specs::Conditions::keeps_11), using(crate::proofs::NumberLemmas::more_by))]
 /// Condition 11, of an opening: 7/10 as many orders as customers are delivered.
-pub fn delivered_orders(tables: &Tables, row: &DistrictRow, customers: u32) -> bool
+pub fn delivered_orders(tables: &Tables, totals: &Totals, row: &DistrictRow, customers: u32) -> bool
+    requires known { AreTotals ⟦<Column as PartialEq>⟧.eq totals.now tables.now.rows }
     ensures { result ≡ keeps_11 customers tables.now.rows row.now }
 {
     let delivered = 7 * u64::from(customers) / 10;
-    sums::orders(tables, row.warehouse, row.id) - sums::new_orders(tables, row.warehouse, row.id)
+    sums::orders(tables, totals, row.warehouse, row.id)
+        - sums::new_orders(tables, totals, row.warehouse, row.id)
         == i128::from(delivered)
 }
 
 #[tactic(auto, unfolding(tpcc_rows::specs::Conditions::keeps_4), using(crate::proofs::SumLemmas::pos_eq))]
 /// Condition 4: the sum of O_OL_CNT is the number of ORDER-LINE rows.
-pub fn lines_of_district(tables: &Tables, row: &DistrictRow) -> bool
+pub fn lines_of_district(tables: &Tables, totals: &Totals, row: &DistrictRow) -> bool
+    requires known { AreTotals ⟦<Column as PartialEq>⟧.eq totals.now tables.now.rows }
     ensures { result ≡ keeps_4 tables.now.rows row.now }
 {
-    sums::line_counts(tables, row.warehouse, row.id) == sums::lines(tables, row.warehouse, row.id)
+    sums::line_counts(tables, totals, row.warehouse, row.id)
+        == sums::lines(tables, totals, row.warehouse, row.id)
 }
 
 #[tactic(auto, unfolding(tpcc_rows::specs::Conditions::keeps_5))]
@@ -94,10 +104,12 @@ pub fn carrier(tables: &Tables, row: &OrderRow) -> bool
 
 #[tactic(auto, unfolding(tpcc_rows::specs::Conditions::keeps_6), using(crate::proofs::SumLemmas::pos_eq))]
 /// Condition 6: O_OL_CNT is the number of the order's ORDER-LINE rows.
-pub fn lines_of_order(tables: &Tables, row: &OrderRow) -> bool
+pub fn lines_of_order(tables: &Tables, totals: &Totals, row: &OrderRow) -> bool
+    requires known { AreTotals ⟦<Column as PartialEq>⟧.eq totals.now tables.now.rows }
     ensures { result ≡ keeps_6 tables.now.rows row.now }
 {
-    i128::from(row.line_count) == sums::lines_of(tables, row.warehouse, row.district, row.id)
+    i128::from(row.line_count)
+        == sums::lines_of(tables, totals, row.warehouse, row.district, row.id)
 }
 
 /// Whether an order's carrier is null, as it is of an order that is not there.
@@ -120,18 +132,20 @@ pub fn delivery_date(tables: &Tables, row: &OrderLineRow) -> bool
 
 #[tactic(auto, unfolding(tpcc_rows::specs::Conditions::keeps_8))]
 /// Condition 8: W_YTD is the sum of H_AMOUNT paid into the warehouse.
-pub fn payments_of_warehouse(tables: &Tables, row: &WarehouseRow) -> bool
+pub fn payments_of_warehouse(tables: &Tables, totals: &Totals, row: &WarehouseRow) -> bool
+    requires known { AreTotals ⟦<Column as PartialEq>⟧.eq totals.now tables.now.rows }
     ensures { result ≡ keeps_8 tables.now.rows row.now }
 {
-    i128::from(row.ytd.value()) == sums::paid_into_warehouse(tables, row.id)
+    i128::from(row.ytd.value()) == sums::paid_into_warehouse(tables, totals, row.id)
 }
 
 #[tactic(auto, unfolding(tpcc_rows::specs::Conditions::keeps_9))]
 /// Condition 9: D_YTD is the sum of H_AMOUNT paid into the district.
-pub fn payments_of_district(tables: &Tables, row: &DistrictRow) -> bool
+pub fn payments_of_district(tables: &Tables, totals: &Totals, row: &DistrictRow) -> bool
+    requires known { AreTotals ⟦<Column as PartialEq>⟧.eq totals.now tables.now.rows }
     ensures { result ≡ keeps_9 tables.now.rows row.now }
 {
-    i128::from(row.ytd.value()) == sums::paid_into_district(tables, row.warehouse, row.id)
+    i128::from(row.ytd.value()) == sums::paid_into_district(tables, totals, row.warehouse, row.id)
 }
 
 /// Whether a balance is what was delivered less what was paid.
@@ -146,11 +160,12 @@ fn is_difference(balance: Cents, delivered: i128, paid: i128) -> bool
 
 #[tactic(auto, unfolding(tpcc_rows::specs::Conditions::keeps_10))]
 /// Condition 10: C_BALANCE is the sum of the delivered OL_AMOUNT less the sum of H_AMOUNT.
-pub fn balance(tables: &Tables, row: &CustomerRow) -> bool
+pub fn balance(tables: &Tables, totals: &Totals, row: &CustomerRow) -> bool
+    requires known { AreTotals ⟦<Column as PartialEq>⟧.eq totals.now tables.now.rows }
     ensures { result ≡ keeps_10 tables.now.rows row.now }
 {
-    let delivered = sums::delivered_to(tables, row);
-    let paid = sums::paid_by(tables, row.warehouse, row.district, row.id);
+    let delivered = sums::delivered_to(tables, totals, row);
+    let paid = sums::paid_by(tables, totals, row.warehouse, row.district, row.id);
     is_difference(row.balance, delivered, paid)
 }
 
@@ -163,8 +178,9 @@ fn both(a: Cents, b: Cents) -> i128
 
 #[tactic(auto, unfolding(tpcc_rows::specs::Conditions::keeps_12))]
 /// Condition 12: C_BALANCE and C_YTD_PAYMENT together are the sum of the delivered OL_AMOUNT.
-pub fn balance_and_payments(tables: &Tables, row: &CustomerRow) -> bool
+pub fn balance_and_payments(tables: &Tables, totals: &Totals, row: &CustomerRow) -> bool
+    requires known { AreTotals ⟦<Column as PartialEq>⟧.eq totals.now tables.now.rows }
     ensures { result ≡ keeps_12 tables.now.rows row.now }
 {
-    both(row.balance, row.ytd_payment) == sums::delivered_to(tables, row)
+    both(row.balance, row.ytd_payment) == sums::delivered_to(tables, totals, row)
 }

@@ -1,4 +1,4 @@
-//! The consistency conditions of clause 3.3.2, tested over all rows. Nothing here takes memory.
+//! The consistency conditions of clause 3.3.2, tested over all rows.
 #![tactic(auto)]
 
 pub mod all;
@@ -7,9 +7,12 @@ mod column;
 mod condition;
 mod delivered;
 mod keeps;
+mod known;
+mod measure;
 mod numbers;
 mod places;
 mod sums;
+mod totals;
 
-pub use all::{check, check_opening};
+pub use all::{check, check_at_once, check_opening};
 pub use broken::Broken;
