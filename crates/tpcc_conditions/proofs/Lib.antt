@@ -3,3 +3,4 @@ mod KnownLemmas
 mod NumberLemmas
 mod DeliveredLemmas
 mod FirstLemmas
+mod StockedLemmas

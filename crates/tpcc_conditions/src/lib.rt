@@ -11,8 +11,10 @@ mod known;
 mod measure;
 mod numbers;
 mod places;
+mod stocked;
 mod sums;
 mod totals;
 
 pub use all::{check, check_at_once, check_opening};
 pub use broken::Broken;
+pub use stocked::{is_stocked, stock_stays};
