@@ -10,10 +10,10 @@ use Rattle.tpcc_book.specs.Serve.{entries_of, paid_of}
 use Rattle.tpcc_book.specs.Seats.{Seated, purses_of}
 
 -- the slot is told where the two words agree
-pub record TellsBook (words : List ℕ) (slots : List (Option Past)) (told : Option Past) : Type 0 where
+pub record TellsBook {B : Type 0} (words : List ℕ) (slots : List (Option B)) (told : Option B) : Type 0 where
   pub drawn : ℕ
   pub served : ℕ
-  pub slot : Option Past
+  pub slot : Option B
   pub drawn_is : get_elem? words 0 ≡ some drawn
   pub served_is : get_elem? words 1 ≡ some served
   pub slot_is : get_elem? slots 0 ≡ some slot

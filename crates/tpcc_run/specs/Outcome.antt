@@ -34,11 +34,10 @@ pub record HasReported (opening : Opening) (before after : Option (List ℕ)) : 
   pub kept : IsKept book
   pub written : Appends before after (report_text (length book.entries) (rise_of book) (rise_of book))
 
--- these parts of a book of the opening
-pub record HasShown (opening : Opening) (parts : List Part) (before after : Option (List ℕ)) : Type 0 where
+-- these parts of a book of the opening, whose totals these are
+pub record HasShown (opening : Opening) (parts : List Part) (totals : Totals) (before after : Option (List ℕ)) : Type 0 where
   pub book : Past
-  pub opening_is : book.opening ≡ opening
-  pub kept : IsKept book
+  pub told : HasTotals opening book totals
   pub written : Appends before after (shown_text book parts)
 
 -- more receipts were added, or none

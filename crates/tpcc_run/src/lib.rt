@@ -2,7 +2,6 @@
 #![tactic(auto)]
 
 mod asking;
-mod drain;
 mod fault;
 mod gathered;
 mod joining;

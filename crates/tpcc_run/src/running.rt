@@ -13,7 +13,7 @@ use std::io::Write;
 use std::marker::Brand;
 use std::sync::Wait;
 use std::thread::Threads;
-use tpcc_audit::{DumpFault, Totals, report, settle};
+use tpcc_audit::{DumpFault, Totals, settle};
 use tpcc_book::{Blanks, Book, Naming, SeatedPurse, Seating, Turns, UnnamedTurns};
 use tpcc_mailbox::Mailboxes;
 use tpcc_population::{Opening, Scale};
@@ -37,33 +37,8 @@ pub fn run<
     requires make { F.IsAlwaysCallable make }
     ensures reported { IfOk result (λ w. HasReported opening.now (W.contents out) (W.contents w)) }
 {
-    by_name::<Brand, W, C, F, R>(rt, alloc, opening, plan, out, &make, Blanks::new())
-}
-
-// The same with a name for the book.
-fn by_name<
-    N: Naming + Send + Sync,
-    W: Write + Drop,
-    C: Turning + Send,
-    F: Fn(Global) -> Result<C, AllocError> + Sync,
-    R: Threads + Wait + Sync,
->(
-    rt: &R,
-    alloc: Global,
-    opening: &Opening,
-    plan: &Plan,
-    out: W,
-    make: &F,
-    blanks: Blanks,
-) -> Result<W, RunFault>
-    requires plan { IsPlan plan.now }
-    requires make { F.IsAlwaysCallable make.now }
-    requires entries { blanks.entries.name ≡ N.entries }
-    requires cents { blanks.cents.name ≡ N.cents }
-    ensures reported { IfOk result (λ w. HasReported opening.now (W.contents out) (W.contents w)) }
-{
-    let (book, totals) = settled_book::<N, C, F, R>(rt, alloc, opening, plan, make, blanks)?;
-    written(&book, &totals, out, opening)
+    let (out, _) = run_shown(rt, alloc, opening, plan, &[Part::Report], out, make)?;
+    Ok(out)
 }
 
 /// Runs the same terminals, servers and delivery runner, and writes parts of the settled book in place of the
@@ -87,13 +62,14 @@ pub fn run_shown<
 ) -> Result<(W, Totals), RunFault>
     requires plan { IsPlan plan.now }
     requires make { F.IsAlwaysCallable make }
-    ensures shown { IfOk result (λ r. HasShown opening.now parts.now (W.contents out) (W.contents r.0)) }
+    ensures shown { IfOk result (λ r.
+        HasShown opening.now parts.now r.1 (W.contents out) (W.contents r.0)) }
 {
-    shown_by_name::<Brand, W, C, F, R>(rt, alloc, opening, plan, parts, out, &make, Blanks::new())
+    by_name::<Brand, W, C, F, R>(rt, alloc, opening, plan, parts, out, &make, Blanks::new())
 }
 
 // The same with a name for the book.
-fn shown_by_name<
+fn by_name<
     N: Naming + Send + Sync,
     W: Write + Drop,
     C: Turning + Send,
@@ -113,14 +89,20 @@ fn shown_by_name<
     requires make { F.IsAlwaysCallable make.now }
     requires entries { blanks.entries.name ≡ N.entries }
     requires cents { blanks.cents.name ≡ N.cents }
-    ensures shown { IfOk result (λ r. HasShown opening.now parts.now (W.contents out) (W.contents r.0)) }
+    ensures shown { IfOk result (λ r.
+        HasShown opening.now parts.now r.1 (W.contents out) (W.contents r.0)) }
 {
-    let (book, totals) = settled_book::<N, C, F, R>(rt, alloc, opening, plan, make, blanks)?;
-    let out = shown(alloc, &book, &totals, parts, out, opening)?;
-    Ok((out, totals))
+    let settled = settled_book::<N, C, F, R>(rt, alloc, opening, plan, make, blanks)?;
+    shown(alloc, &settled, parts, out, opening)
 }
 
-// The book of a run at its end, and what it comes to.
+/// The book of a run at its end, and what it comes to.
+#[derive(Drop)]
+struct SettledBook<N: Naming> {
+    book: Book<N>,
+    totals: Totals,
+}
+
 fn settled_book<
     N: Naming + Send + Sync,
     C: Turning + Send,
@@ -133,12 +115,12 @@ fn settled_book<
     plan: &Plan,
     make: &F,
     blanks: Blanks,
-) -> Result<(Book<N>, Totals), RunFault>
+) -> Result<SettledBook<N>, RunFault>
     requires plan { IsPlan plan.now }
     requires make { F.IsAlwaysCallable make.now }
     requires entries { blanks.entries.name ≡ N.entries }
     requires cents { blanks.cents.name ≡ N.cents }
-    ensures settled { IfOk result (λ r. HasTotals opening.now r.0 r.1) }
+    ensures settled { IfOk result (λ s. HasTotals opening.now s.book s.totals) }
 {
     let scale = scale_of(opening);
     let Ok(turns) = UnnamedTurns::<N>::start(alloc, opening, blanks) else {
@@ -161,11 +143,11 @@ fn by_seats<
     plan: &Plan,
     make: &F,
     turns: UnnamedTurns<N>,
-) -> Result<(Book<N>, Totals), RunFault>
+) -> Result<SettledBook<N>, RunFault>
     requires plan { IsPlan plan.now }
     requires make { F.IsAlwaysCallable make.now }
     requires name { turns.table ≡ T.table }
-    ensures settled { IfOk result (λ r. HasTotals turns.opening r.0 r.1) }
+    ensures settled { IfOk result (λ s. HasTotals turns.opening s.book s.totals) }
 {
     let (turns, first) = turns.named::<T>();
     let all = gathered(rt, alloc, scale, plan, make, &turns, first);
@@ -206,9 +188,9 @@ fn gathered<
 fn settled<N: Naming, T: Seating>(
     turns: Turns<N, T>,
     all: Gathered<N, T>,
-) -> Result<(Book<N>, Totals), RunFault>
+) -> Result<SettledBook<N>, RunFault>
     requires seen { AllSeen all.purses.items all.receipts.items }
-    ensures settled { IfOk result (λ r. HasTotals turns r.0 r.1) }
+    ensures settled { IfOk result (λ s. HasTotals turns s.book s.totals) }
 {
     let Gathered {
         purses,
@@ -225,50 +207,32 @@ fn totals_of<N: Naming, T: Seating>(
     turns: Turns<N, T>,
     purses: Vec<SeatedPurse<N, T>>,
     receipts: &[Receipt],
-) -> Result<(Book<N>, Totals), RunFault>
+) -> Result<SettledBook<N>, RunFault>
     requires seen { AllSeen purses.items receipts.now }
-    ensures settled { IfOk result (λ r. HasTotals turns r.0 r.1) }
+    ensures settled { IfOk result (λ s. HasTotals turns s.book s.totals) }
 {
     match settle(turns, purses, receipts) {
-        Ok((book, totals)) => Ok((book, totals)),
+        Ok((book, totals)) => Ok(SettledBook { book, totals }),
         Err(_left) => Err(RunFault::Missing),
-    }
-}
-
-// Writes the report of a settled book.
-fn written<N: Naming, W: Write + Drop>(
-    book: &Book<N>,
-    totals: &Totals,
-    out: W,
-    opening: &Opening,
-) -> Result<W, RunFault>
-    requires totals { HasTotals opening.now book.now totals.now }
-    ensures reported { IfOk result (λ w. HasReported opening.now (W.contents out) (W.contents w)) }
-{
-    let _ = book;
-    let _ = opening;
-    match report(totals, out) {
-        Ok(out) => Ok(out),
-        Err(_) => Err(RunFault::Write),
     }
 }
 
 // Writes parts of a settled book.
 fn shown<N: Naming, W: Write + Drop>(
     alloc: Global,
-    book: &Book<N>,
-    totals: &Totals,
+    settled: &SettledBook<N>,
     parts: &[Part],
     out: W,
     opening: &Opening,
-) -> Result<W, RunFault>
-    requires totals { HasTotals opening.now book.now totals.now }
-    ensures shown { IfOk result (λ w. HasShown opening.now parts.now (W.contents out) (W.contents w)) }
+) -> Result<(W, Totals), RunFault>
+    requires totals { HasTotals opening.now settled.now.book settled.now.totals }
+    ensures shown { IfOk result (λ r.
+        HasShown opening.now parts.now r.1 (W.contents out) (W.contents r.0)) }
 {
-    let _ = totals;
     let _ = opening;
-    match show(alloc, book, parts, out) {
-        Ok(out) => Ok(out),
+    let totals = settled.totals;
+    match show(alloc, &settled.book, parts, out) {
+        Ok(out) => Ok((out, totals)),
         Err(DumpFault::Write) => Err(RunFault::Write),
         Err(DumpFault::NoMemory) => Err(RunFault::NoMemory),
     }

@@ -43,7 +43,16 @@ fn start_thread<
     let promise = ComesBack(Snapshot::of(&operator.idle));
     scope
         .spawn_with(promise, move || {
-            ask_all(rt, alloc, mailboxes, operator, role, make, plan)
+            ask_all(
+                rt,
+                alloc,
+                mailboxes,
+                operator,
+                role,
+                make,
+                plan.moment,
+                plan.cards,
+            )
         })
         .ok()
 }

@@ -5,7 +5,6 @@ ghost use Rattle.tpcc_terminal.specs.Receipts.{AllStand};
 
 use crate::asking::{Asked, ask_once, stopped};
 use crate::operator::Operator;
-use crate::plan::Plan;
 use crate::promises::Back;
 use std::alloc::{AllocError, Global};
 use std::sync::Wait;
@@ -22,6 +21,17 @@ pub(crate) enum Role {
     Cards,
     /// The next district's delivery, each time.
     Deliveries,
+    /// The same, until none is queued or one is refused (2.7.2).
+    Rest,
+}
+
+impl Role {
+    fn goes_on(self, delivered: bool) -> bool {
+        match self {
+            Role::Cards | Role::Deliveries => true,
+            Role::Rest => delivered,
+        }
+    }
 }
 
 // The next request.
@@ -30,7 +40,7 @@ fn next_request(role: Role, terminal: &mut Terminal, moment: Moment) -> Result<R
 {
     match role {
         Role::Cards => terminal.next(moment),
-        Role::Deliveries => Ok(Request::Deliver(moment)),
+        Role::Deliveries | Role::Rest => Ok(Request::Deliver(moment)),
     }
 }
 
@@ -66,8 +76,8 @@ pub(crate) fn ask_next<
     ask_once(rt, mailboxes, operator, request, call)
 }
 
-/// Asks the plan's number of requests, each by a call of its own. It stops where memory is refused, and
-/// where its job is still out when the mailboxes are seen closed.
+/// Asks so many requests, each by a call of its own, or up to the role's end. It stops where memory is refused,
+/// and where its job is still out when the mailboxes are seen closed.
 pub(crate) fn ask_all<
     N: Naming,
     T: Seating,
@@ -81,7 +91,8 @@ pub(crate) fn ask_all<
     operator: Operator<N, T, C>,
     role: Role,
     make: &F,
-    plan: &Plan,
+    moment: Moment,
+    most: u32,
 ) -> Back<N, T, C>
     requires origin { idle_origin operator.idle ≡ identity mailboxes.now }
     requires receipts { AllStand operator.purse.front operator.terminal.receipts }
@@ -89,17 +100,16 @@ pub(crate) fn ask_all<
     ensures origin { IfSome result.operator (λ s. idle_origin s.idle ≡ identity mailboxes.now) }
     ensures receipts { IfSome result.operator (λ s. AllStand s.purse.front s.terminal.receipts) }
 {
-    let cards = plan.cards;
-    let moment = plan.moment;
     let mut operator = operator;
-    for _ in 0..cards {
+    for _ in 0..most {
         let Asked {
             operator: back,
-            delivered: _,
+            delivered,
             fault,
         } = ask_next(rt, alloc, mailboxes, operator, role, make, moment);
+        let goes_on = fault.is_none() && role.goes_on(delivered);
         match back {
-            Some(home) if fault.is_none() => operator = home,
+            Some(home) if goes_on => operator = home,
             other => {
                 return Back {
                     operator: other,

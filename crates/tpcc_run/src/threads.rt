@@ -4,7 +4,6 @@ ghost use Rattle.tpcc_mailbox.specs.Tokens.{identity, idle_origin, serving_origi
 ghost use Rattle.tpcc_terminal.specs.Receipts.{AllStand};
 ghost use Rattle.tpcc_audit.specs.Settlement.{AllSeen};
 
-use crate::drain::drain;
 use crate::fault::RunFault;
 use crate::gathered::Gathered;
 use crate::joining::{join_terminal, join_terminals};
@@ -12,12 +11,13 @@ use crate::plan::Plan;
 use crate::promises::{Back, TerminalHandle};
 use crate::servers::start_servers;
 use crate::starting::{next_idle, start_terminal, start_terminals};
-use crate::terminals::Role;
+use crate::terminals::{Role, ask_all};
 use std::alloc::{AllocError, Global};
 use std::sync::Wait;
 use std::thread;
 use std::thread::{Scope, Threads};
 use tpcc_book::{Naming, SeatedPurse, Seating, Turns};
+use tpcc_money::Moment;
 use tpcc_population::Scale;
 use tpcc_server::{JobIdle, JobMailboxes, JobServing, Turning};
 
@@ -91,7 +91,7 @@ fn end_runner<
     ensures seen { AllSeen all.new.purses.items all.new.receipts.items }
 {
     let back = join_terminal(rt, runner, mailboxes);
-    all.take_in(drain_back(rt, alloc, mailboxes, back, make, plan));
+    all.take_in(drain_back(rt, alloc, mailboxes, back, make, plan.moment));
 }
 
 // What a runner that nothing stopped still asks.
@@ -101,7 +101,7 @@ fn drain_back<N: Naming, T: Seating, C: Turning, F: Fn(Global) -> Result<C, Allo
     mailboxes: &JobMailboxes<N, T, C>,
     back: Back<N, T, C>,
     make: &F,
-    plan: &Plan,
+    moment: Moment,
 ) -> Back<N, T, C>
     requires origin { IfSome back.operator (λ s. idle_origin s.idle ≡ identity mailboxes.now) }
     requires receipts { IfSome back.operator (λ s. AllStand s.purse.front s.terminal.receipts) }
@@ -110,7 +110,16 @@ fn drain_back<N: Naming, T: Seating, C: Turning, F: Fn(Global) -> Result<C, Allo
 {
     let Back { operator, fault } = back;
     match operator {
-        Some(operator) if fault.is_none() => drain(rt, alloc, mailboxes, operator, make, plan),
+        Some(operator) if fault.is_none() => ask_all(
+            rt,
+            alloc,
+            mailboxes,
+            operator,
+            Role::Rest,
+            make,
+            moment,
+            u32::MAX,
+        ),
         other => Back {
             operator: other,
             fault,

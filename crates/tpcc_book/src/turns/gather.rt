@@ -103,8 +103,9 @@ fn join<N: Naming, T: Seating>(
     pool.take_in(purse);
 }
 
-// The book of a closed table, where each ticket that was drawn was served.
-fn book_of<N: Naming>(closed: Closed<Option<Book<N>>, Global>) -> Option<Book<N>>
+// The book of a closed table, where each ticket that was drawn was served. What a book is stays open: so this is
+// proved of a plain parameter.
+fn book_of<B: Drop>(closed: Closed<Option<B>, Global>) -> Option<B>
     requires full { IsFull closed.words × IsFull closed.slots }
     requires counts { (slots_len closed.words ≡ 2) × (slots_len closed.slots ≡ 1) }
     ensures told { TellsBook (slots_items closed.words) (slots_items closed.slots) result }

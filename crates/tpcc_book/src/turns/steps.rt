@@ -1,5 +1,6 @@
 //! The steps of a turn: a ticket is drawn, looked for, and ended.
-ghost use Rattle.std.specs.Prelude.{◌≡◌, ◌<◌, ℕ, [], ◌∷◌, Some};
+ghost use Rattle.std.specs.Prelude.{◌≡◌, ◌<◌, ℕ, [], ◌∷◌, Option, Some};
+ghost use Rattle.atomic_table.specs.Table.{rest};
 ghost use Rattle.tpcc_book.specs.declared.turns.knows.Stage.TheVariants.{Idle, Out};
 ghost use Rattle.tpcc_book.specs.Turning.{knows, Took};
 ghost use Rattle.tpcc_book.specs.TurnSteps.{Drawn, Awaits, Taken, Giving, Ending};
@@ -9,7 +10,7 @@ use crate::book::Book;
 use crate::naming::Naming;
 use crate::turns::knows::Knows;
 use crate::turns::rule::{Draw, End, Look, TurnRule};
-use atomic_table::{Seat, Shared};
+use atomic_table::{Seat, Shared, TableRule};
 use std::sync::Wait;
 use std::thread;
 use tpcc_population::Opening;
@@ -76,6 +77,20 @@ pub(crate) fn take<N: Naming, R: Wait>(
     (ticket, book)
 }
 
+// Puts the book into its slot, of whatever a book is.
+fn put<B: Drop, V, K, P: TableRule<Option<B>, V, K>>(
+    board: &Shared<Option<B>, V, K, P>,
+    seat: &mut Seat<Option<B>, V>,
+    book: B,
+)
+    requires fits { seat.old.table_id ≡ board.now.table_id }
+    requires out { (old : Option B) × (seat.old.me.1 ≡ (0, old) ∷ rest seat.old.me.1) }
+    ensures same { (seat.new.table_id ≡ seat.old.table_id) × (seat.new.id ≡ seat.old.id) }
+    ensures put { seat.new.me ≡ (seat.old.me.0, (0, Some book) ∷ rest seat.old.me.1) }
+{
+    let _none = board.exchange(seat, 0, Some(book));
+}
+
 /// Gives the book back, and ends the turn.
 pub(crate) fn give<N: Naming>(board: &Board<N>, seat: &mut Place<N>, ticket: u64, book: Book<N>)
     requires fits { (seat.old.table_id ≡ board.now.table_id) × (board.now.table_id.words ≡ 2) }
@@ -83,6 +98,6 @@ pub(crate) fn give<N: Naming>(board: &Board<N>, seat: &mut Place<N>, ticket: u64
     ensures same { (seat.new.table_id ≡ seat.old.table_id) × (seat.new.id ≡ seat.old.id) }
     ensures ended { seat.new.me ≡ (knows seat.old.me.0.start book.entries seat.old.me.0.parts Idle seat.old.me.0.told, []) }
 {
-    let _none = board.exchange(seat, 0, Some(book));
+    put(board, seat, book);
     end(board, seat, ticket.wrapping_add(1));
 }

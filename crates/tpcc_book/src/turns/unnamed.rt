@@ -66,8 +66,8 @@ impl<N: Naming> UnnamedTurns<N> {
     }
 }
 
-// The slot with the book.
-fn slot_of<N: Naming>(alloc: Global, book: Book<N>) -> Result<Vec<Option<Book<N>>>, NoMemory>
+// The slot with the book, of whatever a book is.
+fn slot_of<B: Drop>(alloc: Global, book: B) -> Result<Vec<Option<B>>, NoMemory>
     ensures slot { IfOk result (λ slots. slots.items ≡ Some book ∷ []) }
 {
     let Ok(mut slots) = Vec::with_capacity(alloc, 1) else {
@@ -77,7 +77,7 @@ fn slot_of<N: Naming>(alloc: Global, book: Book<N>) -> Result<Vec<Option<Book<N>
     Ok(slots)
 }
 
-fn no_memory<N: Naming>(refused: Refused<Option<Book<N>>, Global>) -> NoMemory {
+fn no_memory<S: Drop>(refused: Refused<S, Global>) -> NoMemory {
     let Refused { slots: _ } = refused;
     NoMemory
 }

@@ -3,4 +3,4 @@ use Rattle.tpcc_book.proofs.turns.steps.give.Goals as goal
 
 pub end-requires-clause-holds : goal.end-requires-clause-holds
 end-requires-clause-holds g c =
-    ending_of c.args.seat.now.me c.exchange-none.new.seat.me c.args.ticket c.args.book c.requires.giving c.exchange-none.ensures.3
+    ending_of c.args.seat.now.me c.put.new.seat.me c.args.ticket c.args.book c.requires.giving c.put.ensures.put
