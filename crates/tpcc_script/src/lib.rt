@@ -10,6 +10,7 @@ mod reader;
 mod script;
 mod session;
 mod show;
+mod watch;
 mod words;
 mod writer;
 
