@@ -7,3 +7,4 @@ pub mod Part
 pub mod Attempts
 pub mod Reading
 pub mod Session
+pub mod Shown
