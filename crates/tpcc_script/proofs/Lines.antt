@@ -10,7 +10,7 @@ use Rattle.tpcc_script.specs.declared.call.Call.{Call}
 use Rattle.tpcc_script.specs.declared.fault.ScriptFault.{ScriptFault}
 use Rattle.tpcc_script.specs.declared.fault.ScriptFault.TheVariants.{Bad, Cut, LongLine, TooManyLines, Read, Write, NoMemory}
 use Rattle.tpcc_script.specs.Book.{Book}
-use Rattle.tpcc_script.specs.Run.{Shows}
+use Rattle.tpcc_script.specs.Run.{Shows, HasServed}
 use Rattle.tpcc_script.specs.Script.{parts_of, onto, lines_say, rest_says, then_says, call_of, ends, fails}
 use Rattle.tpcc_script.specs.Steps.{says, IsLine, IsRead, IsFaultOf, IsStep, IsLineServed, IsLineWritten, IsLineBroken}
 use Rattle.tpcc_script.specs.Part.{AppendsPart}
@@ -160,14 +160,15 @@ read_none view number bytes (Some line) left e h = absurd (none-some line (sym e
 pub read_some : {L : Type 0} (view : L → List ℕ) (number : ℕ) (bytes : List ℕ) (line : L) (o : Option L) (left : Option (List ℕ)) → o ≡ Some line → IsRead view number bytes (Ok o) left → IsLine number bytes (view line) left
 read_some view number bytes line o left e h = rw e at h
 
-pub broken_so : (number : ℕ) (bytes : List ℕ) (old new : Book) (left held : Option (List ℕ)) (f : ScriptFault) → IsFaultOf (says number bytes) f → IsStep number bytes old new left held held (Err f)
-broken_so number bytes old new left held (Bad n) h = (h, refl)
-broken_so number bytes old new left held (Cut n) h = (h, refl)
-broken_so number bytes old new left held (LongLine n) h = (h, refl)
-broken_so number bytes old new left held TooManyLines h = (h, refl)
-broken_so number bytes old new left held Read h = refl
-broken_so number bytes old new left held NoMemory h = refl
-broken_so number bytes old new left held Write h = absurd h
+pub broken_so : (number : ℕ) (bytes : List ℕ) (old : Book) (left held : Option (List ℕ)) (f : ScriptFault)
+    → IsFaultOf (says number bytes) f → IsStep number bytes old old left held held (Err f)
+broken_so number bytes old left held (Bad n) h = (h, record { book = refl; sink = refl })
+broken_so number bytes old left held (Cut n) h = (h, record { book = refl; sink = refl })
+broken_so number bytes old left held (LongLine n) h = (h, record { book = refl; sink = refl })
+broken_so number bytes old left held TooManyLines h = (h, record { book = refl; sink = refl })
+broken_so number bytes old left held Read h = record { book = refl; sink = refl }
+broken_so number bytes old left held NoMemory h = record { book = inl refl; sink = refl }
+broken_so number bytes old left held Write h = absurd h
 
 -- the line as the parser saw it, and its screen as the writer saw it
 pub bad_line : (number : ℕ) (bytes line seen : List ℕ) (left : Option (List ℕ)) → IsLine number bytes line left → seen ≡ line → None ≡ call_of seen → says number bytes ≡ fails (Bad number)
@@ -199,3 +200,12 @@ unfolding served_line
 broken_line number bytes line seen screen shown left held now call old new h same e shows whole part =
     let p = rw whole at part in
     record { served = served_line number bytes line seen left call old new screen h same e shows; count = p.count; within = p.within; added = p.added }
+
+pub unshown_line : (number : ℕ) (bytes line seen : List ℕ) (left held : Option (List ℕ)) (call : Call) (old new : Book)
+    → IsLine number bytes line left → seen ≡ line → Some call ≡ call_of seen → HasServed old call new
+    → IsStep number bytes old new left held held (Err NoMemory)
+unfolding served_line
+unshown_line number bytes line seen left held call old new h same e served = record {
+  book = inr (served_line number bytes line seen left call old new served.screen h same e served.shows);
+  sink = refl;
+}

@@ -1,5 +1,5 @@
 -- A session between two requests.
-use Rattle.std.proofs.Common.{◌≡◌, ◌∙◌, sym, refl, ap, ℕ, ◌+◌, List, [], ◌∷◌, ◌++◌, arith}
+use Rattle.std.proofs.Common.{◌≡◌, ◌∙◌, sym, refl, ap, subst, ℕ, ◌+◌, List, [], ◌∷◌, ◌++◌, arith}
 use Rattle.std.specs.Prelude.{Bool, cond, Option, Some, Result, Ok, Err, ◌==◌, true}
 use Rattle.std.proofs.lemmas.List.Sums.{sum_by_push}
 use Rattle.std.proofs.lemmas.Bool.Decides.{nat_tests}
@@ -9,12 +9,16 @@ use Rattle.tpcc_rows.specs.declared.refusals.Refusal.{Refusal}
 use Rattle.tpcc_rows.specs.declared.replies.Reply.{Reply}
 use Rattle.tpcc_rows.specs.Replay.{count_of}
 use Rattle.tpcc_rows.specs.Turn.{reply_to}
-use Rattle.tpcc_book.specs.Past.{Past}
+use Rattle.tpcc_population.specs.declared.opening.Opening.{Opening}
+use Rattle.tpcc_book.specs.Past.{Past, opened}
 use Rattle.tpcc_book.specs.Purses.{Held}
 use Rattle.tpcc_book.specs.Told.{Told}
 use Rattle.tpcc_book.specs.Serve.{IsServed}
 use Rattle.tpcc_script.specs.Book.{terminal}
-use Rattle.tpcc_script.specs.Session.{IsAtHand}
+use Rattle.tpcc_script.specs.declared.fault.ScriptFault.{ScriptFault}
+use Rattle.tpcc_script.specs.Script.{Script}
+use Rattle.tpcc_script.specs.Run.{HasRun, IsRun}
+use Rattle.tpcc_script.specs.Session.{IsAtHand, opened_book, seen}
 
 -- one more entry of the terminal
 count-push : (t : ℕ) (entries : List Entry) (e : Entry) → e.terminal ≡ t → count_of t (entries ++ e ∷ []) ≡ count_of t entries + 1
@@ -62,3 +66,8 @@ pub back_at_hand : (old new : Past) (held taken : Option Held) (purse back : Hel
 back_at_hand old new held taken purse back request answer at out is put served =
     let same = same-held purse at.purse (sym is ∙ out ∙ at.held_is) in
     rw put (at_hand old new purse request answer (ap (λ (p : Held). p.terminal) same ∙ at.terminal_is) (ap (λ (p : Held). p.entries) same ∙ at.entries) served)
+
+-- a run from the session of an opening
+pub has_run : (opening : Opening) (start left : Past) (script : Script) (old new : Option (List ℕ)) (result : Result (Unit {0}) ScriptFault)
+    → start ≡ opened opening → IsRun (seen start) script old new (seen left) result → HasRun (opened_book opening) script old new result
+has_run opening start left script old new result is run = (seen left, subst (λ (p : Past). IsRun (seen p) script old new (seen left) result) is run)

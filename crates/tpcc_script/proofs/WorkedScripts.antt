@@ -2,6 +2,7 @@
 use Rattle.std.proofs.Common.{◌≡◌, refl, ℕ, List, [], ◌∷◌, ◌++◌}
 use Rattle.std.specs.Prelude.{Some, None, Option, codes, flat_map, replicate}
 use Rattle.tpcc_money.specs.Numerals.{number_up_to, amount_of}
+use Rattle.tpcc_population.specs.declared.opening.Opening.TheVariants.{Plain}
 use Rattle.tpcc_laws.proofs.Small.{computed, opening, times}
 use Rattle.tpcc_terminal.proofs.WorkedScreens.{shown, lines}
 use Rattle.tpcc_script.specs.declared.fault.ScriptFault.{ScriptFault}
@@ -15,7 +16,7 @@ unfolding computed shown number_up_to amount_of script_of call_of call_named lat
 run = tt
 
 abbrev start : Book
-start = record { state = opening; journal = [] }
+start = record { opening = Plain (record { warehouses = 1; customers = 10; items = 100 }); state = opening; journal = [] }
 
 -- what a script prints, and its fault
 abbrev printed : List ℕ → List ℕ × Option ScriptFault

@@ -3,6 +3,7 @@ use Rattle.std.specs.Prelude.{ℕ, List, [], ◌∷◌, ◌++◌, Option, Some, 
 use Rattle.tpcc_rows.specs.declared.requests.Request.{Request}
 use Rattle.tpcc_rows.specs.declared.refusals.Refusal.{Refusal}
 use Rattle.tpcc_rows.specs.declared.entry.Entry.{Entry}
+use Rattle.tpcc_population.specs.declared.opening.Opening.{Opening}
 use Rattle.tpcc_rows.specs.Conditions.{first_broken}
 use Rattle.tpcc_rows.specs.Tables.{State}
 use Rattle.tpcc_rows.specs.Turn.{state_after, reply_to}
@@ -12,8 +13,9 @@ use Rattle.tpcc_terminal.specs.Screens.{reply_screen, refused_screen, check_scre
 use Rattle.tpcc_script.specs.declared.call.Call.{Call}
 use Rattle.tpcc_script.specs.declared.call.Call.TheVariants.{Ask, Check, Results}
 
--- the state and the journal that led to it
+-- the opening, the state and the journal that led from the one to the other
 pub record Book : Type 0 where
+  pub opening : Opening
   pub state : State
   pub journal : List Entry
 
@@ -28,9 +30,16 @@ request_refusal b request = turn_refusal b.state b.journal terminal (count_of te
 -- the book after a request that is not refused: one transaction and one entry
 abbrev pub accepting : Book → Request → Book
 accepting b request = record {
+  opening = b.opening;
   state = state_after b.state request;
   journal = b.journal ++ record { terminal = terminal; number = count_of terminal b.journal; request = request; reply = reply_to b.state request } ∷ [];
 }
+
+-- the same of a call; a check and the results are never refused
+abbrev pub call_refusal : Book → Call → Option Refusal
+call_refusal b (Ask request) = request_refusal b request
+call_refusal b Check = None
+call_refusal b Results = None
 
 -- a request's screen and the book after it
 abbrev pub screen_by : Book → Request → Option Refusal → List ℕ

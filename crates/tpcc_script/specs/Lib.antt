@@ -4,5 +4,7 @@ pub mod Book
 pub mod Run
 pub mod Steps
 pub mod Part
+pub mod Attempts
 pub mod Reading
 pub mod Session
+pub mod Shown

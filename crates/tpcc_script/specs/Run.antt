@@ -8,7 +8,7 @@ use Rattle.tpcc_script.specs.declared.call.Call.TheVariants.{Ask, Check, Results
 use Rattle.tpcc_script.specs.declared.fault.ScriptFault.{ScriptFault}
 use Rattle.tpcc_script.specs.declared.fault.ScriptFault.TheVariants.{Bad, Cut, LongLine, TooManyLines, Read, Write, NoMemory}
 use Rattle.tpcc_script.specs.Script.{Script}
-use Rattle.tpcc_script.specs.Book.{Book, screen_of, book_after}
+use Rattle.tpcc_script.specs.Book.{Book, screen_of, book_after, call_refusal}
 
 -- the call's screen, and the book after it
 pub record IsServed (old : Book) (call : Call) (screen : List ℕ) (new : Book) : Type 0 where
@@ -20,49 +20,76 @@ is_request (Ask request) = true
 is_request Check = false
 is_request Results = false
 
--- a request refused for want of memory, which leaves the book
+-- a request refused for want of memory and for nothing else, which leaves the book
 pub record IsOutOfMemory (old : Book) (call : Call) (screen : List ℕ) (new : Book) : Type 0 where
   pub request : is_request call ≡ true
+  pub free : call_refusal old call ≡ None
   pub shown : screen ≡ refused_screen refused.NoMemory
   pub left : new ≡ old
 
 abbrev pub Shows : Book → Call → List ℕ → Book → Type 0
 Shows old call screen new = IsServed old call screen new ⊎ IsOutOfMemory old call screen new
 
+-- a call was served, and had some screen
+pub record HasServed (old : Book) (call : Call) (new : Book) : Type 0 where
+  pub screen : List ℕ
+  pub shows : Shows old call screen new
+
 -- calls one after another: the text is their screens
 abbrev pub Prints : Book → List Call → List ℕ → Book → Type 0
 Prints old [] text new = (text ≡ []) × (new ≡ old)
 Prints old (call ∷ calls) text new = (screen : List ℕ) × (more : List ℕ) × (mid : Book) × Shows old call screen mid × (text ≡ screen ++ more) × Prints mid calls more new
 
--- a sink got the screens of the calls, all of them or the first bytes of them
-pub record Wrote (start : Book) (calls : List Call) (old new : Option (List ℕ)) : Type 0 where
+-- the calls were served, and a sink got their screens: all of them, or the first bytes of them
+pub record Wrote (start : Book) (calls : List Call) (old new : Option (List ℕ)) (left : Book) : Type 0 where
   pub text : List ℕ
-  pub left : Book
   pub prints : Prints start calls text left
   pub added : Appends old new text
 
-pub record WrotePart (start : Book) (calls : List Call) (old new : Option (List ℕ)) : Type 0 where
+pub record WrotePart (start : Book) (calls : List Call) (old new : Option (List ℕ)) (left : Book) : Type 0 where
   pub text : List ℕ
-  pub left : Book
   pub prints : Prints start calls text left
   pub count : ℕ
   pub within : count ≤ length text
   pub added : Appends old new (take count text)
 
 -- the same of some first calls
-abbrev pub WroteFirst : Book → List Call → Option (List ℕ) → Option (List ℕ) → Type 0
-WroteFirst start calls old new = (done : List Call) × (rest : List Call) × (calls ≡ done ++ rest) × Wrote start done old new
+pub record WroteFirst (start : Book) (calls : List Call) (old new : Option (List ℕ)) (left : Book) : Type 0 where
+  pub done : List Call
+  pub rest : List Call
+  pub calls_are : calls ≡ done ++ rest
+  pub wrote : Wrote start done old new left
 
-abbrev pub WrotePartOfFirst : Book → List Call → Option (List ℕ) → Option (List ℕ) → Type 0
-WrotePartOfFirst start calls old new = (done : List Call) × (rest : List Call) × (calls ≡ done ++ rest) × WrotePart start done old new
+pub record WrotePartOfFirst (start : Book) (calls : List Call) (old new : Option (List ℕ)) (left : Book) : Type 0 where
+  pub done : List Call
+  pub rest : List Call
+  pub calls_are : calls ≡ done ++ rest
+  pub wrote : WrotePart start done old new left
 
--- how a run of a script ends: at its end or at its first fault all screens before it are written; reading, memory and writing may fail before
-abbrev pub IsRun : Book → Script → Option (List ℕ) → Option (List ℕ) → Result (Unit {0}) ScriptFault → Type 0
-IsRun start script old new (Ok done) = (script.fault ≡ None) × Wrote start script.calls old new
-IsRun start script old new (Err (Bad n)) = (script.fault ≡ Some (Bad n)) × Wrote start script.calls old new
-IsRun start script old new (Err (Cut n)) = (script.fault ≡ Some (Cut n)) × Wrote start script.calls old new
-IsRun start script old new (Err (LongLine n)) = (script.fault ≡ Some (LongLine n)) × Wrote start script.calls old new
-IsRun start script old new (Err TooManyLines) = (script.fault ≡ Some TooManyLines) × Wrote start script.calls old new
-IsRun start script old new (Err Read) = WroteFirst start script.calls old new
-IsRun start script old new (Err NoMemory) = WroteFirst start script.calls old new
-IsRun start script old new (Err Write) = WrotePartOfFirst start script.calls old new
+-- some first calls, and one more that was served and has no screen
+pub record WroteButLast (start : Book) (calls : List Call) (old new : Option (List ℕ)) (left : Book) : Type 0 where
+  pub done : List Call
+  pub last : Call
+  pub rest : List Call
+  pub calls_are : calls ≡ done ++ last ∷ rest
+  pub before : Book
+  pub wrote : Wrote start done old new before
+  pub screen : List ℕ
+  pub served : Shows before last screen left
+
+-- how a run of a script ends, and the book that it leaves. At its end or at the first fault of its text all calls before it are served and
+-- shown. Reading, memory and writing may fail before: what was served is shown, save that memory may be refused for the last screen,
+-- and that the writer may take a part of the last screens
+abbrev pub IsRun : Book → Script → Option (List ℕ) → Option (List ℕ) → Book → Result (Unit {0}) ScriptFault → Type 0
+IsRun start script old new left (Ok done) = (script.fault ≡ None) × Wrote start script.calls old new left
+IsRun start script old new left (Err (Bad n)) = (script.fault ≡ Some (Bad n)) × Wrote start script.calls old new left
+IsRun start script old new left (Err (Cut n)) = (script.fault ≡ Some (Cut n)) × Wrote start script.calls old new left
+IsRun start script old new left (Err (LongLine n)) = (script.fault ≡ Some (LongLine n)) × Wrote start script.calls old new left
+IsRun start script old new left (Err TooManyLines) = (script.fault ≡ Some TooManyLines) × Wrote start script.calls old new left
+IsRun start script old new left (Err Read) = WroteFirst start script.calls old new left
+IsRun start script old new left (Err NoMemory) = WroteFirst start script.calls old new left ⊎ WroteButLast start script.calls old new left
+IsRun start script old new left (Err Write) = WrotePartOfFirst start script.calls old new left
+
+-- the same of a run whose book is let go
+abbrev pub HasRun : Book → Script → Option (List ℕ) → Option (List ℕ) → Result (Unit {0}) ScriptFault → Type 0
+HasRun start script old new result = (left : Book) × IsRun start script old new left result

@@ -9,11 +9,11 @@ use Rattle.tpcc_script.specs.Book.{Book, terminal}
 
 -- a book, as a script sees it
 abbrev pub seen : Past → Book
-seen past = record { state = past.state; journal = past.entries }
+seen past = record { opening = past.opening; state = past.state; journal = past.entries }
 
 -- the book of an opening: no ticket, no entry
 abbrev pub opened_book : Opening → Book
-opened_book opening = record { state = opening_state opening; journal = [] }
+opened_book opening = record { opening = opening; state = opening_state opening; journal = [] }
 
 -- the purse is there between two requests, and made each entry of its terminal
 pub record IsAtHand (past : Past) (held : Option Held) : Type 0 where

@@ -64,13 +64,23 @@ pub record IsLineBroken (number : ℕ) (bytes : List ℕ) (old : Book) (new : Bo
   pub within : count ≤ length served.screen
   pub added : Appends held now (take count served.screen)
 
+-- nothing was written, and the book is the same
+pub record IsStill (old new : Book) (held now : Option (List ℕ)) : Type 0 where
+  pub book : new ≡ old
+  pub sink : now ≡ held
+
+-- nothing was written; the book is the same, or has served the line, whose screen was refused memory
+pub record IsUnshown (number : ℕ) (bytes : List ℕ) (old new : Book) (left held now : Option (List ℕ)) : Type 0 where
+  pub book : (new ≡ old) ⊎ IsLineServed number bytes old new left
+  pub sink : now ≡ held
+
 abbrev pub IsStep : ℕ → List ℕ → Book → Book → Option (List ℕ) → Option (List ℕ) → Option (List ℕ) → Result Bool ScriptFault → Type 0
 IsStep number bytes old new left held now (Ok true) = IsLineWritten number bytes old new left held now
-IsStep number bytes old new left held now (Ok false) = (says number bytes ≡ ends) × (now ≡ held)
+IsStep number bytes old new left held now (Ok false) = (says number bytes ≡ ends) × IsStill old new held now
 IsStep number bytes old new left held now (Err Write) = IsLineBroken number bytes old new left held now
-IsStep number bytes old new left held now (Err (Bad n)) = (says number bytes ≡ fails (Bad n)) × (now ≡ held)
-IsStep number bytes old new left held now (Err (Cut n)) = (says number bytes ≡ fails (Cut n)) × (now ≡ held)
-IsStep number bytes old new left held now (Err (LongLine n)) = (says number bytes ≡ fails (LongLine n)) × (now ≡ held)
-IsStep number bytes old new left held now (Err TooManyLines) = (says number bytes ≡ fails TooManyLines) × (now ≡ held)
-IsStep number bytes old new left held now (Err Read) = now ≡ held
-IsStep number bytes old new left held now (Err NoMemory) = now ≡ held
+IsStep number bytes old new left held now (Err (Bad n)) = (says number bytes ≡ fails (Bad n)) × IsStill old new held now
+IsStep number bytes old new left held now (Err (Cut n)) = (says number bytes ≡ fails (Cut n)) × IsStill old new held now
+IsStep number bytes old new left held now (Err (LongLine n)) = (says number bytes ≡ fails (LongLine n)) × IsStill old new held now
+IsStep number bytes old new left held now (Err TooManyLines) = (says number bytes ≡ fails TooManyLines) × IsStill old new held now
+IsStep number bytes old new left held now (Err Read) = IsStill old new held now
+IsStep number bytes old new left held now (Err NoMemory) = IsUnshown number bytes old new left held now

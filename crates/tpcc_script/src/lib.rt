@@ -10,6 +10,8 @@ mod reader;
 mod script;
 mod session;
 mod show;
+mod showing;
+mod watch;
 mod words;
 mod writer;
 
@@ -18,3 +20,4 @@ pub use engine::Engine;
 pub use fault::ScriptFault;
 pub use parse::parse_line;
 pub use script::run_script;
+pub use showing::show_script;

@@ -1,19 +1,18 @@
 //! Lines of a script, read byte by byte.
-ghost use Rattle.std.specs.Prelude.{◌≡◌, ◌≢◌, ◌≤◌, ℕ, List, Some, slice_get, drop, IfOk, IfSome, IfErr};
+ghost use Rattle.std.specs.Prelude.{◌≡◌, ◌≢◌, ◌≤◌, ℕ, List, Some, true, IfOk, IfSome, IfErr};
+ghost use Rattle.tpcc_script.specs.Attempts.{HasGivenUp, TakesByte};
 ghost use Rattle.tpcc_script.specs.Steps.{IsRead};
 
 use crate::fault::ScriptFault;
+use crate::watch::{Attempt, Watch, try_byte};
 use std::alloc::Global;
-use std::io::{ErrorKind, Read};
+use std::io::Read;
 
 /// A line's bytes without its line feed.
 const GREATEST_LENGTH: usize = 4_096;
 
 /// The lines of a script.
 const GREATEST_NUMBER: u32 = 1_000_000;
-
-/// A call, and 1,000 more where it is interrupted.
-const TRIES: u32 = 1_001;
 
 /// The next line, whose number is given, without its line feed; none at the end.
 ///
@@ -22,15 +21,17 @@ const TRIES: u32 = 1_001;
 pub fn read_line<R: Read>(
     alloc: Global,
     input: &mut R,
+    watch: &mut Watch,
     number: u32,
 ) -> Result<Option<Vec<u8>>, ScriptFault>
     ensures read { (bytes : List ℕ) → R.remaining input.old ≡ Some bytes → IsRead (λ v. v.items) number bytes result (R.remaining input.new) }
     ensures within { IfOk result (λ line. IfSome line (λ _. number ≤ 1000000)) }
+    ensures gave_up { IfErr result (HasGivenUp watch.new) }
     ensures why { IfErr result (λ f. f ≢ ScriptFault.Write) }
 {
     let mut line = Vec::new(alloc);
-    'bytes: for _ in 0..u64::MAX {
-        let byte = match next_byte(input) {
+    'bytes: loop {
+        let byte = match next_byte(input, watch) {
             Ok(Some(byte)) => byte,
             Ok(None) if line.is_empty() => return Ok(None),
             Ok(None) => return Err(ScriptFault::Cut(number)),
@@ -49,25 +50,18 @@ pub fn read_line<R: Read>(
             return Err(ScriptFault::NoMemory);
         }
     }
-    Err(ScriptFault::Read)
 }
 
 /// The next byte, or none at the end. An interrupted read is tried again.
-pub fn next_byte<R: Read>(input: &mut R) -> Result<Option<u8>, ScriptFault>
-    ensures ok { IfOk result (λ o. (xs : List ℕ) → R.remaining input.old ≡ Some xs → (o ≡ slice_get xs 0) × (R.remaining input.new ≡ Some (drop 1 xs))) }
-    ensures err { IfErr result (λ f. f ≡ ScriptFault.Read) }
+pub fn next_byte<R: Read>(input: &mut R, watch: &mut Watch) -> Result<Option<u8>, ScriptFault>
+    ensures ok { IfOk result (TakesByte (R.remaining input.old) (R.remaining input.new)) }
+    ensures gave_up { IfErr result (λ f. (f ≡ ScriptFault.Read) × (watch.new.reader_failed ≡ true)) }
 {
-    let mut buf = [0u8];
-    'turns: for _ in 0..TRIES {
-        match input.read(&mut buf) {
-            Ok(0) => return Ok(None),
-            Ok(_) => return Ok(Some(buf[0])),
-            Err(e) => {
-                if e.kind() != ErrorKind::Interrupted {
-                    return Err(ScriptFault::Read);
-                }
-            }
+    'turns: loop {
+        match try_byte(input, watch) {
+            Ok(Attempt::Done(byte)) => return Ok(byte),
+            Ok(Attempt::Again) => {}
+            Err(fault) => return Err(fault),
         }
     }
-    Err(ScriptFault::Read)
 }

@@ -1,7 +1,8 @@
 //! A script from its first line to its end.
-ghost use Rattle.std.specs.Prelude.{◌≡◌, ◌≤◌, ℕ, true, List, Some, IfOk};
+ghost use Rattle.std.specs.Prelude.{◌≡◌, ◌≤◌, ℕ, true, List, Some, IfErr, IfOk};
+ghost use Rattle.tpcc_script.specs.Attempts.{HasGivenUp};
 ghost use Rattle.tpcc_script.specs.Script.{script_of};
-ghost use Rattle.tpcc_script.specs.Run.{IsRun};
+ghost use Rattle.tpcc_script.specs.Run.{HasRun, IsRun};
 ghost use Rattle.tpcc_script.specs.Steps.{IsStep};
 ghost use Rattle.tpcc_script.specs.Session.{opened_book};
 
@@ -11,6 +12,7 @@ use crate::parse::parse_line;
 use crate::reader::read_line;
 use crate::session::Session;
 use crate::show::answer;
+use crate::watch::Watch;
 use crate::writer::put_all;
 use std::alloc::Global;
 use std::io::{BufReader, Read, Write};
@@ -18,19 +20,101 @@ use std::marker::Brand;
 use tpcc_book::{Blanks, Naming};
 use tpcc_population::Opening;
 
-/// Serves one line and writes its screen; false at the end.
+/// Runs a script on a fresh book: each request by a purse of terminal 1, through the book. The
+/// screens of all lines that were read are written before more is read.
+///
+/// Faults: Bad (a line that says no request or call), Cut (the last line has no line feed), LongLine
+/// (over 4,096 bytes), TooManyLines (a byte after 1,000,000 lines), Read, Write, NoMemory. An
+/// interrupted read or write is tried again, at most 1,000 times in a row.
+pub fn run_script<R: Read, W: Write>(
+    alloc: Global,
+    input: &mut R,
+    out: &mut W,
+    opening: &Opening,
+) -> Result<(), ScriptFault>
+    ensures { (bytes : List ℕ) → R.remaining input.old ≡ Some bytes
+        → HasRun (opened_book opening.now) (script_of bytes) (W.contents out.old) (W.contents out.new) result }
+{
+    let mut watch = Watch::new();
+    run_named::<Brand, R, W>(alloc, input, out, &mut watch, opening, Blanks::new())
+}
+
+// The same with a name for the book.
+fn run_named<N: Naming, R: Read, W: Write>(
+    alloc: Global,
+    input: &mut R,
+    out: &mut W,
+    watch: &mut Watch,
+    opening: &Opening,
+    blanks: Blanks,
+) -> Result<(), ScriptFault>
+    requires entries { blanks.entries.name ≡ N.entries }
+    requires cents { blanks.cents.name ≡ N.cents }
+    ensures gave_up { IfErr result (HasGivenUp watch.new) }
+    ensures run { (bytes : List ℕ) → R.remaining input.old ≡ Some bytes
+        → HasRun (opened_book opening.now) (script_of bytes) (W.contents out.old) (W.contents out.new) result }
+{
+    match Session::<N>::start(alloc, opening, blanks) {
+        Ok(mut session) => serve_script(alloc, &mut session, input, out, watch),
+        Err(_) => Err(ScriptFault::NoMemory),
+    }
+}
+
+/// Reads a script, serves its lines and writes their screens.
+pub(crate) fn serve_script<E: Engine, R: Read, W: Write>(
+    alloc: Global,
+    engine: &mut E,
+    input: &mut R,
+    out: &mut W,
+    watch: &mut Watch,
+) -> Result<(), ScriptFault>
+    ensures gave_up { IfErr result (HasGivenUp watch.new) }
+    ensures run { (bytes : List ℕ) → R.remaining input.old ≡ Some bytes
+        → IsRun (E.book engine.old) (script_of bytes) (W.contents out.old) (W.contents out.new) (E.book engine.new) result }
+{
+    match BufReader::new(alloc, input) {
+        Ok(mut ahead) => serve_lines(alloc, engine, &mut ahead, out, watch),
+        Err(_) => Err(ScriptFault::NoMemory),
+    }
+}
+
+// Serves all lines of a script.
+fn serve_lines<E: Engine, R: Read, W: Write>(
+    alloc: Global,
+    engine: &mut E,
+    input: &mut R,
+    out: &mut W,
+    watch: &mut Watch,
+) -> Result<(), ScriptFault>
+    ensures gave_up { IfErr result (HasGivenUp watch.new) }
+    ensures run { (bytes : List ℕ) → R.remaining input.old ≡ Some bytes
+        → IsRun (E.book engine.old) (script_of bytes) (W.contents out.old) (W.contents out.new) (E.book engine.new) result }
+{
+    let mut number = 1u32;
+    'lines: loop {
+        match serve_line(alloc, engine, input, out, watch, number) {
+            Ok(true) => number += 1,
+            Ok(false) => return Ok(()),
+            Err(fault) => return Err(fault),
+        }
+    }
+}
+
+// Serves one line and writes its screen; false at the end.
 fn serve_line<E: Engine, R: Read, W: Write>(
     alloc: Global,
     engine: &mut E,
     input: &mut R,
     out: &mut W,
+    watch: &mut Watch,
     number: u32,
 ) -> Result<bool, ScriptFault>
     ensures within { IfOk result (λ more. more ≡ true → number ≤ 1000000) }
+    ensures gave_up { IfErr result (HasGivenUp watch.new) }
     ensures step { (bytes : List ℕ) → R.remaining input.old ≡ Some bytes
         → IsStep number bytes (E.book engine.old) (E.book engine.new) (R.remaining input.new) (W.contents out.old) (W.contents out.new) result }
 {
-    let line = match read_line(alloc, input, number) {
+    let line = match read_line(alloc, input, watch, number) {
         Ok(Some(line)) => line,
         Ok(None) => return Ok(false),
         Err(fault) => return Err(fault),
@@ -44,81 +128,8 @@ fn serve_line<E: Engine, R: Read, W: Write>(
         Ok(screen) => screen,
         Err(_) => return Err(ScriptFault::NoMemory),
     };
-    match put_all(out, screen.bytes()) {
+    match put_all(out, watch, screen.bytes()) {
         Ok(()) => Ok(true),
         Err(_) => Err(ScriptFault::Write),
-    }
-}
-
-/// Serves all lines of a script.
-fn serve_lines<E: Engine, R: Read, W: Write>(
-    alloc: Global,
-    engine: &mut E,
-    input: &mut R,
-    out: &mut W,
-) -> Result<(), ScriptFault>
-    ensures { (bytes : List ℕ) → R.remaining input.old ≡ Some bytes
-        → IsRun (E.book engine.old) (script_of bytes) (W.contents out.old) (W.contents out.new) result }
-{
-    let mut number = 1u32;
-    'lines: for _ in 0..u64::MAX {
-        match serve_line(alloc, engine, input, out, number) {
-            Ok(true) => number += 1,
-            Ok(false) => return Ok(()),
-            Err(fault) => return Err(fault),
-        }
-    }
-    Err(ScriptFault::Read)
-}
-
-/// Reads a script, serves its lines and writes their screens, each before the next line is read.
-pub(crate) fn serve_script<E: Engine, R: Read, W: Write>(
-    alloc: Global,
-    engine: &mut E,
-    input: &mut R,
-    out: &mut W,
-) -> Result<(), ScriptFault>
-    ensures { (bytes : List ℕ) → R.remaining input.old ≡ Some bytes
-        → IsRun (E.book engine.old) (script_of bytes) (W.contents out.old) (W.contents out.new) result }
-{
-    match BufReader::new(alloc, input) {
-        Ok(mut ahead) => serve_lines(alloc, engine, &mut ahead, out),
-        Err(_) => Err(ScriptFault::NoMemory),
-    }
-}
-
-/// Runs a script on a fresh book: each request by a purse of terminal 1, through the book, its
-/// screen written before the next line is read.
-///
-/// Faults: Bad (a line that says no request or call), Cut (the last line has no line feed), LongLine
-/// (over 4,096 bytes), TooManyLines (a byte after 1,000,000 lines), Read, Write, NoMemory. An
-/// interrupted read or write is tried again, at most 1,000 times in a row.
-pub fn run_script<R: Read, W: Write>(
-    alloc: Global,
-    input: &mut R,
-    out: &mut W,
-    opening: &Opening,
-) -> Result<(), ScriptFault>
-    ensures { (bytes : List ℕ) → R.remaining input.old ≡ Some bytes
-        → IsRun (opened_book opening.now) (script_of bytes) (W.contents out.old) (W.contents out.new) result }
-{
-    run_named::<Brand, R, W>(alloc, input, out, opening, Blanks::new())
-}
-
-fn run_named<N: Naming, R: Read, W: Write>(
-    alloc: Global,
-    input: &mut R,
-    out: &mut W,
-    opening: &Opening,
-    blanks: Blanks,
-) -> Result<(), ScriptFault>
-    requires entries { blanks.entries.name ≡ N.entries }
-    requires cents { blanks.cents.name ≡ N.cents }
-    ensures { (bytes : List ℕ) → R.remaining input.old ≡ Some bytes
-        → IsRun (opened_book opening.now) (script_of bytes) (W.contents out.old) (W.contents out.new) result }
-{
-    match Session::<N>::start(alloc, opening, blanks) {
-        Ok(mut session) => serve_script(alloc, &mut session, input, out),
-        Err(_) => Err(ScriptFault::NoMemory),
     }
 }

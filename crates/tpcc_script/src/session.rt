@@ -6,12 +6,11 @@ use crate::engine::Engine;
 use std::alloc::Global;
 use std::marker::Model;
 use tpcc_book::{Answer, Blanks, Book, Naming, Purse};
-use tpcc_conditions::check;
-use tpcc_journal::results;
 use tpcc_money::NoMemory;
 use tpcc_population::Opening;
 use tpcc_rows::{Refusal, Reply, Request};
-use tpcc_terminal::{Screen, broken_screen, consistent_screen, results_screen};
+use tpcc_show::{check_screen, results_screen};
+use tpcc_terminal::Screen;
 
 /// A book, with the purse of terminal 1, which makes each of the script's requests.
 #[derive(Drop)]
@@ -50,6 +49,13 @@ impl<N: Naming> Session<N> {
             purse: Some(purse),
         })
     }
+
+    /// The book that the requests left.
+    pub(crate) fn book(&self) -> &Book<N>
+        ensures book { result.now ≡ self.now }
+    {
+        &self.book
+    }
 }
 
 impl<N: Naming> Engine for Session<N> {
@@ -67,21 +73,11 @@ impl<N: Naming> Engine for Session<N> {
     }
 
     fn check(&self, alloc: Global) -> Result<Screen, NoMemory> {
-        match check(self.book.tables()) {
-            Ok(()) => consistent_screen(alloc),
-            Err(broken) => broken_screen(
-                alloc,
-                broken.condition,
-                broken.warehouse,
-                broken.district,
-                broken.number,
-            ),
-        }
+        check_screen(alloc, self.book.tables())
     }
 
     fn results(&self, alloc: Global) -> Result<Screen, NoMemory> {
-        let log = results(alloc, self.book.journal())?;
-        results_screen(alloc, log.as_slice())
+        results_screen(alloc, self.book.journal())
     }
 }
 

@@ -1,6 +1,6 @@
 //! The screen of a call.
 ghost use Rattle.std.specs.Prelude.{IfOk};
-ghost use Rattle.tpcc_script.specs.Run.{Shows};
+ghost use Rattle.tpcc_script.specs.Run.{HasServed, Shows};
 
 use crate::call::Call;
 use crate::engine::Engine;
@@ -11,7 +11,8 @@ use tpcc_terminal::{Screen, refusal_screen, reply_screen};
 #[tactic(auto, using(crate::proofs::Turns::shows_check, crate::proofs::Turns::shows_results))]
 /// Serves a call and gives its screen; refused only for want of memory, and then the call was served.
 pub fn answer<E: Engine>(alloc: Global, engine: &mut E, call: Call) -> Result<Screen, NoMemory>
-    ensures { IfOk result (λ screen. Shows (E.book engine.old) call screen (E.book engine.new)) }
+    ensures shown { IfOk result (λ screen. Shows (E.book engine.old) call screen (E.book engine.new)) }
+    ensures served { HasServed (E.book engine.old) call (E.book engine.new) }
 {
     match call {
         Call::Ask(request) => match engine.serve(request) {

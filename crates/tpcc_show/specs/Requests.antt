@@ -1,4 +1,4 @@
--- The requests of a terminal's first cards, as lines of a script.
+-- The requests of a terminal's next cards, as lines of a script.
 use Rattle.std.specs.Prelude.{◌≡◌, ℕ, zero, suc, List, [], ◌∷◌, flat_map, Option}
 use Rattle.std.specs.Io.KnownBytes.{Appends}
 use Rattle.tpcc_draws.specs.Draws.{answers, stream_at}
@@ -14,6 +14,10 @@ abbrev pub asked_from : ℕ → Home → ℕ → Ahead → List Request
 asked_from zero home moment ahead = []
 asked_from (suc cards) home moment ahead =
     request_of home moment ahead.draft ∷ asked_from cards home moment (drawn_ahead home ahead.cards ahead.answers)
+
+-- what a terminal's next cards ask, all at one moment
+abbrev pub asked_next : Station → ℕ → ℕ → List Request
+asked_next t moment cards = asked_from cards (home_of t.number t.scale) moment (ahead_of t)
 
 -- what a terminal's first cards ask, all at one moment
 abbrev pub asked_by : ℕ → Scale → ℕ → ℕ → ℕ → List Request

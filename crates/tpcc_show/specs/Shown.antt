@@ -1,5 +1,5 @@
 -- What is shown of a book, as text.
-use Rattle.std.specs.Prelude.{ℕ, List, [], ◌∷◌, ◌++◌, flat_map, length, codes}
+use Rattle.std.specs.Prelude.{ℕ, List, [], ◌∷◌, ◌++◌, flat_map, length, codes, Option, Some, None}
 use Rattle.tpcc_rows.specs.Conditions.{first_broken}
 use Rattle.tpcc_rows.specs.Replay.{results_of}
 use Rattle.tpcc_rows.specs.declared.entry.Entry.{Entry}
@@ -25,21 +25,42 @@ part_name (parts.Rows table) = table_name table
 abbrev pub journal_screens : List Entry → List ℕ
 journal_screens entries = flat_map (λ e. reply_screen e.reply) entries
 
--- a part of a book, as text; what was paid is the rise of W_YTD
-abbrev pub part_text : Part → Past → List ℕ
-part_text parts.Screens book = journal_screens book.entries
-part_text parts.Report book = report_text (length book.entries) (rise_of book) (rise_of book)
-part_text parts.Journal book = journal_lines book.entries
-part_text parts.Results book = results_screen (results_of book.entries)
-part_text parts.Check book = check_screen (first_broken book.state.rows)
-part_text (parts.Rows table) book = dump_text book.state.rows table
+-- the screens that are shown of a book: those that are given, else those of its journal
+abbrev pub screens_shown : Option (List ℕ) → Past → List ℕ
+screens_shown None book = journal_screens book.entries
+screens_shown (Some screens) book = screens
+
+-- the report of a book: what was paid is the rise of W_YTD
+abbrev pub book_report : Past → List ℕ
+book_report book = report_text (length book.entries) (rise_of book) (rise_of book)
+
+-- a part of a book, as text
+abbrev pub part_text : Option (List ℕ) → Past → Part → List ℕ
+part_text screens book parts.Screens = screens_shown screens book
+part_text screens book parts.Report = book_report book
+part_text screens book parts.Journal = journal_lines book.entries
+part_text screens book parts.Results = results_screen (results_of book.entries)
+part_text screens book parts.Check = check_screen (first_broken book.state.rows)
+part_text screens book (parts.Rows table) = dump_text book.state.rows table
+
+-- the line over a part
+abbrev pub heading : Part → List ℕ
+heading part = codes "== " ++ (part_name part ++ (10 ∷ []))
 
 -- a part under its heading
-unfoldable pub headed_text : Past → Part → List ℕ
-headed_text book part = codes "== " ++ (part_name part ++ (10 ∷ part_text part book))
+unfoldable pub headed_text : Option (List ℕ) → Past → Part → List ℕ
+headed_text screens book part = codes "== " ++ (part_name part ++ (10 ∷ part_text screens book part))
 
--- one part alone stands without a heading
+-- parts in their order; one alone stands without a heading
+abbrev pub parts_text : Option (List ℕ) → Past → List Part → List ℕ
+parts_text screens book [] = []
+parts_text screens book (part ∷ []) = part_text screens book part
+parts_text screens book (part ∷ next ∷ rest) = flat_map (headed_text screens book) (part ∷ next ∷ rest)
+
+-- parts of a book whose screens are those of its journal
 abbrev pub shown_text : Past → List Part → List ℕ
-shown_text book [] = []
-shown_text book (part ∷ []) = part_text part book
-shown_text book (part ∷ next ∷ rest) = flat_map (headed_text book) (part ∷ next ∷ rest)
+shown_text book asked = parts_text None book asked
+
+-- parts of a book whose screens were kept as they were shown
+abbrev pub served_text : List ℕ → Past → List Part → List ℕ
+served_text screens book asked = parts_text (Some screens) book asked

@@ -13,7 +13,8 @@ use tpcc_terminal::{reply_screen, request_line};
 
 /// Writes all the bytes. An interrupted write is tried again.
 pub fn put<W: Write>(out: &mut W, bytes: &[u8]) -> Result<(), DumpFault>
-    ensures { OnOk result (Appends (W.contents out.old) (W.contents out.new) bytes.now) }
+    ensures { OnOk result
+        (Appends (W.contents out.old) (W.contents out.new) bytes.now) }
 {
     match out.write_all(bytes) {
         Ok(()) => Ok(()),
@@ -22,14 +23,16 @@ pub fn put<W: Write>(out: &mut W, bytes: &[u8]) -> Result<(), DumpFault>
 }
 
 fn put_line<W: Write>(alloc: Global, out: &mut W, entry: &Entry) -> Result<(), DumpFault>
-    ensures { OnOk result (Appends (W.contents out.old) (W.contents out.new) (lines.request_line entry.now.request)) }
+    ensures { OnOk result
+        (Appends (W.contents out.old) (W.contents out.new) (lines.request_line entry.now.request)) }
 {
     let line = request_line(alloc, &entry.request)?;
     put(out, line.bytes())
 }
 
 fn put_screen<W: Write>(alloc: Global, out: &mut W, entry: &Entry) -> Result<(), DumpFault>
-    ensures { OnOk result (Appends (W.contents out.old) (W.contents out.new) (screens.reply_screen entry.now.reply)) }
+    ensures { OnOk result
+        (Appends (W.contents out.old) (W.contents out.new) (screens.reply_screen entry.now.reply)) }
 {
     let screen = reply_screen(alloc, &entry.reply)?;
     put(out, screen.bytes())
@@ -37,7 +40,8 @@ fn put_screen<W: Write>(alloc: Global, out: &mut W, entry: &Entry) -> Result<(),
 
 /// Writes the line of each request.
 pub fn put_lines<W: Write>(alloc: Global, out: &mut W, entries: &[Entry]) -> Result<(), DumpFault>
-    ensures { OnOk result (Appends (W.contents out.old) (W.contents out.new) (lines.journal_lines entries.now)) }
+    ensures { OnOk result
+        (Appends (W.contents out.old) (W.contents out.new) (lines.journal_lines entries.now)) }
 {
     for entry in entries {
         put_line(alloc, out, entry)?;
@@ -47,7 +51,8 @@ pub fn put_lines<W: Write>(alloc: Global, out: &mut W, entries: &[Entry]) -> Res
 
 /// Writes the screen of each stored reply.
 pub fn put_screens<W: Write>(alloc: Global, out: &mut W, entries: &[Entry]) -> Result<(), DumpFault>
-    ensures { OnOk result (Appends (W.contents out.old) (W.contents out.new) (journal_screens entries.now)) }
+    ensures { OnOk result
+        (Appends (W.contents out.old) (W.contents out.new) (journal_screens entries.now)) }
 {
     for entry in entries {
         put_screen(alloc, out, entry)?;

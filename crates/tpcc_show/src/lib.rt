@@ -5,8 +5,10 @@ mod blocks;
 mod entries;
 mod parts;
 mod requests;
+mod screens;
 mod showing;
 
 pub use parts::{Part, Parts, part_named};
 pub use requests::put_requests;
-pub use showing::show;
+pub use screens::{check_screen, results_screen};
+pub use showing::{show, show_served};

@@ -1,4 +1,4 @@
-use Rattle.std.proofs.Common.{◌≡◌, ℕ, ◌≤◌, ◌<◌, List, Some, length}
+use Rattle.std.proofs.Common.{◌≡◌, ℕ, ◌-◌, ◌≤◌, ◌<◌, List, Some, length}
 use Rattle.tpcc_script.proofs.Lines.{Reading}
 use Rattle.tpcc_script.proofs.reader.read_line.Given as goal
 
@@ -8,3 +8,6 @@ invariant-bytes g l = record {
   fits : 0 < length l.line.items → l.number ≤ 1000000;
   reading : (bytes : List ℕ) → g.R.Read.remaining l.fn.input ≡ Some bytes → Reading bytes l.line.items (g.R.Read.remaining l.input);
 }
+
+abbrev pub decreases-bytes : goal.decreases-bytes
+decreases-bytes g l = 4097 - length l.line.items

@@ -1,0 +1,37 @@
+-- What a call of a script's reader or writer did, and why the two are given up.
+use Rattle.std.specs.Prelude.{◌≡◌, ℕ, ◌≤◌, ◌<◌, ⊤, true, List, length, take, drop, slice_get, Option, Some}
+use Rattle.std.specs.Io.KnownBytes.{Appends, Keeps}
+use Rattle.tpcc_script.specs.declared.fault.ScriptFault.{ScriptFault}
+use Rattle.tpcc_script.specs.declared.fault.ScriptFault.TheVariants.{Bad, Cut, LongLine, TooManyLines, Read, Write, NoMemory}
+use Rattle.tpcc_script.specs.declared.watch.Watch.{Watch}
+use Rattle.tpcc_script.specs.declared.watch.Attempt.{Attempt}
+use Rattle.tpcc_script.specs.declared.watch.Attempt.TheVariants.{Done, Again}
+
+-- the next byte that the reader has left, if it has one, was taken
+abbrev pub TakesByte : Option (List ℕ) → Option (List ℕ) → Option ℕ → Type 0
+TakesByte left after byte = (xs : List ℕ) → left ≡ Some xs → (byte ≡ slice_get xs 0) × (after ≡ Some (drop 1 xs))
+
+-- a byte was read, or the call was interrupted and one retry less is left
+abbrev pub HasRead : Watch → Watch → Option (List ℕ) → Option (List ℕ) → Attempt (Option ℕ) → Type 0
+HasRead old new left after (Done byte) = TakesByte left after byte
+HasRead old new left after Again = Keeps left after × (new.retries < old.retries)
+
+pub record HasTaken (held now : Option (List ℕ)) (bytes : List ℕ) (count : ℕ) : Type 0 where
+  pub least : 1 ≤ count
+  pub most : count ≤ length bytes
+  pub added : Appends held now (take count bytes)
+
+-- some first bytes were written, or the call was interrupted and one retry less is left
+abbrev pub HasWritten : Watch → Watch → Option (List ℕ) → Option (List ℕ) → List ℕ → Attempt ℕ → Type 0
+HasWritten old new held now bytes (Done count) = HasTaken held now bytes count × (new.retries ≡ 1000)
+HasWritten old new held now bytes Again = Keeps held now × (new.retries < old.retries)
+
+-- Read only where the reader was given up, Write only where the writer was
+abbrev pub HasGivenUp : Watch → ScriptFault → Type 0
+HasGivenUp watch Read = watch.reader_failed ≡ true
+HasGivenUp watch Write = watch.writer_failed ≡ true
+HasGivenUp watch (Bad n) = ⊤
+HasGivenUp watch (Cut n) = ⊤
+HasGivenUp watch (LongLine n) = ⊤
+HasGivenUp watch TooManyLines = ⊤
+HasGivenUp watch NoMemory = ⊤

@@ -1,0 +1,96 @@
+//! Calls of a reader and a writer that are made again where they were interrupted.
+ghost use Rattle.std.specs.Prelude.{◌≡◌, ◌<◌, ℕ, List, Some, slice_get, drop, length, true, IfOk, IfErr, OnErr};
+ghost use Rattle.std.specs.Io.KnownBytes.{Keeps};
+ghost use Rattle.tpcc_script.specs.Attempts.{HasRead, HasWritten};
+
+use crate::fault::ScriptFault;
+use std::io::{Error, ErrorKind, Read, Write};
+
+/// How often in a row an interrupted call is made again.
+const MOST_RETRIES: u32 = 1_000;
+
+/// What became of the calls of a script's reader and writer.
+#[derive(Drop)]
+pub struct Watch {
+    /// How often an interrupted call may still be made again.
+    pub retries: u32,
+    /// Whether the reader failed, or was interrupted once too often.
+    pub reader_failed: bool,
+    /// Whether the writer failed, took nothing, or was interrupted once too often.
+    pub writer_failed: bool,
+}
+
+/// A call that was not given up.
+pub enum Attempt<T> {
+    /// What it gave.
+    Done(T),
+    /// It was interrupted.
+    Again,
+}
+
+impl Watch {
+    pub fn new() -> Watch {
+        Watch {
+            retries: MOST_RETRIES,
+            reader_failed: false,
+            writer_failed: false,
+        }
+    }
+
+    // Whether a call that ended so is made again.
+    fn is_retried(&mut self, error: &Error) -> bool
+        ensures { result ≡ true → self.new.retries < self.old.retries }
+    {
+        if error.kind() != ErrorKind::Interrupted || self.retries == 0 {
+            return false;
+        }
+        self.retries -= 1;
+        true
+    }
+}
+
+/// Reads one byte; none at the end. Read where the reader is given up.
+pub fn try_byte<R: Read>(
+    input: &mut R,
+    watch: &mut Watch,
+) -> Result<Attempt<Option<u8>>, ScriptFault>
+    ensures read { IfOk result (HasRead watch.old watch.new (R.remaining input.old) (R.remaining input.new)) }
+    ensures gave_up { IfErr result (λ f. (f ≡ ScriptFault.Read) × (watch.new.reader_failed ≡ true)) }
+{
+    let mut buf = [0u8];
+    match input.read(&mut buf) {
+        Ok(count) => {
+            watch.retries = MOST_RETRIES;
+            Ok(Attempt::Done(if count == 0 { None } else { Some(buf[0]) }))
+        }
+        Err(error) if watch.is_retried(&error) => Ok(Attempt::Again),
+        Err(_) => {
+            watch.reader_failed = true;
+            Err(ScriptFault::Read)
+        }
+    }
+}
+
+/// Writes some of the bytes, of which there is one at least. Write where the writer is given up, and
+/// it then took none.
+pub fn try_write<W: Write>(
+    out: &mut W,
+    watch: &mut Watch,
+    bytes: &[u8],
+) -> Result<Attempt<usize>, ScriptFault>
+    requires some { 0 < length bytes.now }
+    ensures written { IfOk result (HasWritten watch.old watch.new (W.contents out.old) (W.contents out.new) bytes.now) }
+    ensures none { OnErr result (Keeps (W.contents out.old) (W.contents out.new)) }
+    ensures gave_up { IfErr result (λ f. (f ≡ ScriptFault.Write) × (watch.new.writer_failed ≡ true)) }
+{
+    match out.write(bytes) {
+        Ok(count) if count > 0 => {
+            watch.retries = MOST_RETRIES;
+            return Ok(Attempt::Done(count));
+        }
+        Err(error) if watch.is_retried(&error) => return Ok(Attempt::Again),
+        _ => {}
+    }
+    watch.writer_failed = true;
+    Err(ScriptFault::Write)
+}
