@@ -93,7 +93,10 @@ fn by_name<
         HasShown opening.now parts.now r.1 (W.contents out) (W.contents r.0)) }
 {
     let settled = settled_book::<N, C, F, R>(rt, alloc, opening, plan, make, blanks)?;
-    shown(alloc, &settled, parts, out, opening)
+    let shown = shown(alloc, &settled, parts, out, opening);
+    // Let go by a call, which keeps the book's parts out of this function's proof.
+    drop(settled);
+    shown
 }
 
 /// The book of a run at its end, and what it comes to.
