@@ -93,7 +93,7 @@ for words in '' serve help --help --version 'script --help' 'run --version' 'scr
     'run --terminals x' 'run --terminals 0 --warehouses 0' 'script --moment 4102444800' 'script --seed -1' \
     'script --seed 18446744073709551616' 'script --items -1' 'script --items 4294967296' 'script --items' \
     'script --items 100 --items 200' 'script --seeded 1' 'script --seeded --seeded' 'run --show' 'run --show rows' 'run --show item' \
-    'run --show Journal' 'script --show journal' 'dump ITEM --show journal' "run $(times 17 ' --show check')" \
+    'run --show Journal' 'dump ITEM --show journal' "run $(times 17 ' --show check')" \
     'requests --terminal 0' 'requests --terminal 1001' 'requests --cards 100001' 'requests 1' 'requests --terminals 1' 'requests --show journal'; do
     it "words: $words" "$words" '' 1 'fault 1 Arguments' ''
 done

@@ -1,5 +1,5 @@
 #!/usr/bin/env bash
-# Tests of the built program: the scripts of examples/ and programs/scripts/ with their stored screens, then the table of cases.sh, then failures.sh. Each case
+# Tests of the built program: the scripts of examples/ and programs/scripts/ with their stored screens, then the table of cases.sh, then shows.sh and failures.sh. Each case
 # compares standard output and standard error byte for byte, and the exit status. Stops at the first case that differs,
 # and says where its files are; else the last line counts the cases.
 #
@@ -95,6 +95,7 @@ for script in "$top"/examples/*.txt "$top"/programs/scripts/*.txt; do
     it "${name#"$top/"}" "$words" "@cat $script" "$status" "$fault" "=${name#"$top/"}"
 done
 . "$top/programs/cases.sh"
+. "$top/programs/shows.sh"
 . "$top/programs/failures.sh"
 echo "programs: $refused_in_all refused allocations and threads, $bytes_in_all outputs cut off"
 echo "programs: $run passed, 0 failed, in $((SECONDS - begun)) seconds"

@@ -19,16 +19,28 @@ use tpcc_population::{Opening, fill};
 use tpcc_program::{Asked, Asking, Counting, ProgramFault, Progress, Task, read_words};
 use tpcc_rows::{Request, Table};
 use tpcc_run::{Plan, run_shown};
-use tpcc_script::run_script;
+use tpcc_script::{run_script, show_script};
 use tpcc_server::{Call, Turner, Turning};
 use tpcc_show::{Part, put_requests};
 use tpcc_terminal::Report;
 
-/// Serves a script's requests, from standard input to standard output.
-fn script<R: Print + Input>(rt: &R, alloc: Global, opening: &Opening) -> Result<(), ProgramFault> {
+/// Serves a script's requests, from standard input to standard output; writes their screens, or the
+/// parts that are asked for.
+fn script<R: Print + Input>(
+    rt: &R,
+    alloc: Global,
+    opening: &Opening,
+    parts: &[Part],
+) -> Result<(), ProgramFault> {
     let mut input = rt.reader();
-    let mut out = io::writer(rt);
-    match run_script(alloc, &mut input, &mut out, opening) {
+    let ended = match parts {
+        [] | [Part::Screens] => run_script(alloc, &mut input, &mut io::writer(rt), opening),
+        _ => match show_script(alloc, &mut input, opening, parts, io::writer(rt)) {
+            Ok((_, ended)) => ended,
+            Err(fault) => Err(fault),
+        },
+    };
+    match ended {
         Ok(()) => Ok(()),
         Err(fault) => Err(ProgramFault::Script(fault)),
     }
@@ -205,7 +217,7 @@ fn run<
     let opening = asked.opening()?;
     let parts = asked.shows.as_slice();
     match asked.task {
-        Task::Script => script(rt, alloc, &opening),
+        Task::Script => script(rt, alloc, &opening, parts),
         Task::Dump(table) => dump_table(rt, alloc, &opening, table),
         Task::Requests(asking) => put_asked(rt, alloc, &asked, asking),
         Task::Run(plan) if watched => run_watched(rt, alloc, &opening, &plan, parts, make),

@@ -60,7 +60,7 @@ pub struct Asked {
     pub moment: Moment,
     /// Whether `--seeded` is among the words: else the opening is plain and has neither seed nor moment.
     pub seeded: bool,
-    /// What each `--show` of a run asks for, in their order; none where there is none.
+    /// What each `--show` of a script or a run asks for, in their order; none where there is none.
     pub shows: Parts,
 }
 
@@ -151,6 +151,10 @@ fn with_opening<'a>(alloc: Global, name: &'static str) -> Result<Command<'a>, Al
     with_option(command, seeded(alloc))
 }
 
+fn script<'a>(alloc: Global) -> Result<Command<'a>, AllocError> {
+    with_option(with_opening(alloc, "script"), shows(alloc))
+}
+
 fn dump<'a>(alloc: Global) -> Result<Command<'a>, AllocError> {
     with_option(with_opening(alloc, "dump"), table(alloc))
 }
@@ -178,7 +182,7 @@ fn with_command<'a>(
 
 fn program<'a>(alloc: Global) -> Result<Command<'a>, AllocError> {
     let program = Command::new(alloc, "tpcc").subcommand_required(true);
-    let program = with_command(program, with_opening(alloc, "script"))?;
+    let program = with_command(program, script(alloc))?;
     let program = with_command(program, dump(alloc))?;
     let program = with_command(program, requests(alloc))?;
     with_command(program, run(alloc))

@@ -1,19 +1,19 @@
 -- Parts of the book that a script leaves.
 use Rattle.std.specs.Prelude.{ℕ, List, [], Option, Some, Result}
 use Rattle.std.specs.Io.KnownBytes.{Appends}
-use Rattle.tpcc_population.specs.declared.opening.Opening.{Opening}
 use Rattle.tpcc_book.specs.Past.{Past}
 use Rattle.tpcc_show.specs.declared.parts.Part.{Part}
 use Rattle.tpcc_show.specs.Shown.{served_text}
 use Rattle.tpcc_script.specs.declared.fault.ScriptFault.{ScriptFault}
 use Rattle.tpcc_script.specs.Script.{Script}
 use Rattle.tpcc_script.specs.Run.{IsRun}
-use Rattle.tpcc_script.specs.Session.{opened_book, seen}
+use Rattle.tpcc_script.specs.Book.{Book}
+use Rattle.tpcc_script.specs.Session.{seen}
 
--- a script ran on the book of the opening to its end or its fault, and parts of the book that it left were written; its screens
+-- a script ran on a book to its end or its fault, and parts of the book that it left were written; its screens
 -- are one of them where it is asked for
-pub record HasShown (opening : Opening) (script : Script) (asked : List Part) (old new : Option (List ℕ)) (ended : Result (Unit {0}) ScriptFault) : Type 0 where
+pub record HasShown (start : Book) (script : Script) (asked : List Part) (old new : Option (List ℕ)) (ended : Result (Unit {0}) ScriptFault) : Type 0 where
   pub book : Past
   pub screens : List ℕ
-  pub ran : IsRun (opened_book opening) script (Some []) (Some screens) (seen book) ended
+  pub ran : IsRun start script (Some []) (Some screens) (seen book) ended
   pub written : Appends old new (served_text screens book asked)

@@ -1,6 +1,7 @@
 //! A script whose book is shown.
 ghost use Rattle.std.specs.Prelude.{◌≡◌, ℕ, List, Some, IfOk};
 ghost use Rattle.tpcc_script.specs.Script.{script_of};
+ghost use Rattle.tpcc_script.specs.Session.{opened_book, seen};
 ghost use Rattle.tpcc_script.specs.Shown.{HasShown};
 
 use crate::fault::ScriptFault;
@@ -29,7 +30,7 @@ pub fn show_script<R: Read, W: Write + Drop>(
     out: W,
 ) -> Result<(W, Result<(), ScriptFault>), ScriptFault>
     ensures shown { (bytes : List ℕ) → R.remaining input.old ≡ Some bytes
-        → IfOk result (λ r. HasShown opening.now (script_of bytes) parts.now (W.contents out) (W.contents r.0) r.1) }
+        → IfOk result (λ r. HasShown (opened_book opening.now) (script_of bytes) parts.now (W.contents out) (W.contents r.0) r.1) }
 {
     show_named::<Brand, R, W>(alloc, input, opening, parts, out, Blanks::new())
 }
@@ -46,13 +47,27 @@ fn show_named<N: Naming, R: Read, W: Write + Drop>(
     requires entries { blanks.entries.name ≡ N.entries }
     requires cents { blanks.cents.name ≡ N.cents }
     ensures shown { (bytes : List ℕ) → R.remaining input.old ≡ Some bytes
-        → IfOk result (λ r. HasShown opening.now (script_of bytes) parts.now (W.contents out) (W.contents r.0) r.1) }
+        → IfOk result (λ r. HasShown (opened_book opening.now) (script_of bytes) parts.now (W.contents out) (W.contents r.0) r.1) }
 {
-    let Ok(mut session) = Session::<N>::start(alloc, opening, blanks) else {
-        return Err(ScriptFault::NoMemory);
-    };
+    match Session::<N>::start(alloc, opening, blanks) {
+        Ok(mut session) => show_session(alloc, &mut session, input, parts, out),
+        Err(_) => Err(ScriptFault::NoMemory),
+    }
+}
+
+// Serves a script on a session, and shows its book.
+fn show_session<N: Naming, R: Read, W: Write + Drop>(
+    alloc: Global,
+    session: &mut Session<N>,
+    input: &mut R,
+    parts: &[Part],
+    out: W,
+) -> Result<(W, Result<(), ScriptFault>), ScriptFault>
+    ensures shown { (bytes : List ℕ) → R.remaining input.old ≡ Some bytes
+        → IfOk result (λ r. HasShown (seen session.old) (script_of bytes) parts.now (W.contents out) (W.contents r.0) r.1) }
+{
     let mut screens = Vec::new(alloc);
-    let ended = serve_script(alloc, &mut session, input, &mut screens, &mut Watch::new());
+    let ended = serve_script(alloc, session, input, &mut screens, &mut Watch::new());
     if let Err(ScriptFault::Write) = ended {
         return Err(ScriptFault::NoMemory);
     }
