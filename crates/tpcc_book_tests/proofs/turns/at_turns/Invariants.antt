@@ -1,4 +1,4 @@
-use Rattle.tpcc_book_tests.proofs.stories.at_turns.Given as goal
+use Rattle.tpcc_book_tests.proofs.turns.at_turns.Given as goal
 
 -- the table that is named
 abbrev pub ghosts-at_named_turns : goal.ghosts-at_named_turns
