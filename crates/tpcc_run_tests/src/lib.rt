@@ -1,4 +1,4 @@
-//! Mailboxes, jobs at them, runs and the parts of the program, by their public calls alone.
+//! Mailboxes, jobs at them, runs that are refused memory and the progress of a run, by their public calls alone.
 #![tactic(auto)]
 
 #[cfg(test)]

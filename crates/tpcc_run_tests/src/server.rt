@@ -1,42 +1,38 @@
 //! Jobs on worked rows, with ample memory: the plain opening of one warehouse, ten customers a district
-//! and a hundred items, in which each customer starts with the balance -10.00.
+//! and a hundred items.
 ghost use Rattle.std.specs.Prelude.{◌≡◌, All};
-ghost use Rattle.tpcc_mailbox.specs.Tokens.{identity, idle_origin};
+ghost use Rattle.tpcc_mailbox.specs.Tokens.{identity, idle_origin, waiting_origin};
 
-mod closed;
 mod gates;
-mod limits;
-mod one_terminal;
+mod left;
+mod reposts;
 mod rounds;
 
-use closed::asked_in_vain;
 use gates::held_up;
-use limits::two_letters;
-use one_terminal::{TwoCalls, payment_and_status};
-use rounds::{closed_meanwhile, first_and_last, not_collected, own_call};
+use left::{asked_in_vain, not_collected};
+use reposts::closed_meanwhile;
+use rounds::limited;
 use std::alloc::Global;
 use std::marker::Brand;
 use std::process::Abort;
 use std::sync::Wait;
+use std::sync::atomic::{AtomicU64, Ordering};
 use std::thread::Threads;
 use std::time::Clock;
-use tpcc_book::{Answer, Blanks, Naming, SeatedPurse, Seating, Turns, UnnamedTurns};
+use tpcc_book::{Blanks, Naming, Register, SeatedPurse, Seating, Turned, UnnamedTurns};
 use tpcc_money::{Cents, Moment};
 use tpcc_population::{Opening, Scale};
-use tpcc_rows::{Payment, Reply, Request, StatusQuery, Who};
-use tpcc_server::{JobIdle, JobMailboxes, Turner};
+use tpcc_rows::{Payment, Request, Who};
+use tpcc_server::{Job, JobIdle, JobMailboxes, JobWaiting, Turning};
 
 /// What happens at the turns of a new book.
-#[derive(Drop)]
+#[derive(Clone, Copy)]
 enum Story {
-    PaymentAndStatus(TwoCalls<Turner>),
-    AskedInVain(Turner),
-    TwoLetters,
-    HeldUp,
-    OwnCall,
-    FirstAndLast,
-    ClosedMeanwhile,
+    AskedInVain,
     NotCollected,
+    Limited,
+    HeldUp,
+    ClosedMeanwhile,
 }
 
 fn told<R: Threads + Wait + Clock + Abort + Sync>(rt: &R, alloc: Global, story: Story) {
@@ -70,25 +66,32 @@ fn at_its_turns<
     let (turns, mut first) = turns.named::<T>();
     let one = first.split(&turns, 1);
     let two = first.split(&turns, 2);
-    let purses = Purses { first, one, two };
     match story {
-        Story::PaymentAndStatus(calls) => payment_and_status(rt, alloc, turns, purses, calls),
-        Story::AskedInVain(turner) => asked_in_vain(rt, alloc, turns, purses, turner),
-        Story::TwoLetters => two_letters(rt, alloc, turns, purses),
-        Story::HeldUp => held_up(rt, alloc, turns, purses),
-        Story::OwnCall => own_call(rt, alloc, turns, purses),
-        Story::FirstAndLast => first_and_last(rt, alloc, turns, purses),
-        Story::ClosedMeanwhile => closed_meanwhile(rt, alloc, turns, purses),
-        Story::NotCollected => not_collected(rt, alloc, turns, purses),
+        Story::AskedInVain => asked_in_vain(rt, alloc, one, two),
+        Story::NotCollected => not_collected(rt, alloc, &turns, one, two),
+        Story::Limited => limited(rt, alloc, &turns, one, two),
+        Story::HeldUp => held_up(rt, alloc, &turns, one, two),
+        Story::ClosedMeanwhile => closed_meanwhile(rt, alloc, &turns, one, two),
     }
 }
 
-/// All purses of a book: the first one, and those of the terminals 1 and 2.
+/// A turn that counts its calls.
 #[derive(Drop)]
-struct Purses<N: Naming, T: Seating> {
-    first: SeatedPurse<N, T>,
-    one: SeatedPurse<N, T>,
-    two: SeatedPurse<N, T>,
+struct CountedTurn<'a> {
+    made: &'a AtomicU64,
+}
+
+impl<'a> Turning for CountedTurn<'a> {
+    fn turn_once(
+        self,
+        register: &mut Register,
+        request: Request,
+        terminal: u32,
+        number: u64,
+    ) -> Turned {
+        self.made.fetch_add(1, Ordering::SeqCst);
+        register.turn(request, terminal, number)
+    }
 }
 
 /// Customer 1 of district 1 pays 1.00.
@@ -104,99 +107,48 @@ fn payment() -> Request {
     })
 }
 
-/// The status of customer 1 of district 1.
-fn status() -> Request {
-    Request::Status(StatusQuery {
-        warehouse: 1,
-        district: 1,
-        who: Who::Number(1),
-    })
-}
-
-/// The balance that a status shows.
-fn balance<P>(answer: &Answer<P>) -> Option<Cents> {
-    match answer.outcome() {
-        Ok(Reply::Status(status)) => Some(status.balance),
-        _ => None,
-    }
-}
-
-/// The place of an answer, and its purse.
-fn parts<P>(answer: Answer<P>) -> (Option<u64>, P) {
-    let place = answer.place();
-    let (_, _, _, purse) = answer.into_parts();
-    (place, purse)
-}
-
 /// Lets a value go.
 fn let_go<X: Drop>(_value: X) {}
 
-/// The token of the only client.
-fn only<N: Naming, T: Seating, C, R: Abort>(
+/// The token of the last client of these.
+fn last_of<N: Naming, T: Seating, C, R: Abort>(
     rt: &R,
-    idles: Vec<JobIdle<N, T, C>>,
+    idles: &mut Vec<JobIdle<N, T, C>>,
     mailboxes: &JobMailboxes<N, T, C>,
 ) -> JobIdle<N, T, C>
-    requires { All (λ x. idle_origin x ≡ identity mailboxes.now) idles.items }
-    ensures { idle_origin result ≡ identity mailboxes.now }
+    requires { All (λ x. idle_origin x ≡ identity mailboxes.now) idles.old.items }
+    ensures rest { All (λ x. idle_origin x ≡ identity mailboxes.now) idles.new.items }
+    ensures last { idle_origin result ≡ identity mailboxes.now }
 {
     let _ = mailboxes;
-    let mut idles = idles;
-    let idle = idles.pop().expect(rt, "there is one");
-    let_go(idles);
-    idle
+    idles.pop().expect(rt, "one more client")
 }
 
-type Pair<N, T, C> = (JobIdle<N, T, C>, JobIdle<N, T, C>);
-
-/// The tokens of the last two clients, in their order.
-fn idle_pair<N: Naming, T: Seating, C, R: Abort>(
-    rt: &R,
-    idles: Vec<JobIdle<N, T, C>>,
+/// Posts a payment that is turned by this call.
+fn posted<N: Naming, T: Seating, C: Turning>(
     mailboxes: &JobMailboxes<N, T, C>,
-) -> Pair<N, T, C>
-    requires { All (λ x. idle_origin x ≡ identity mailboxes.now) idles.items }
-    ensures first { idle_origin result.0 ≡ identity mailboxes.now }
-    ensures second { idle_origin result.1 ≡ identity mailboxes.now }
+    idle: JobIdle<N, T, C>,
+    purse: SeatedPurse<N, T>,
+    call: C,
+) -> JobWaiting<N, T, C>
+    requires { idle_origin idle ≡ identity mailboxes.now }
+    ensures { waiting_origin result ≡ identity mailboxes.now }
 {
-    let _ = mailboxes;
-    let mut idles = idles;
-    let second = idles.pop().expect(rt, "there are two");
-    let first = idles.pop().expect(rt, "there are two");
-    let_go(idles);
-    (first, second)
+    mailboxes.post(idle, Job::of(payment(), purse, call))
 }
 
-/// What a purse shows.
-fn shows<N: Naming, T: Seating, R: Abort>(
+/// The answer is there, and its purse has one entry.
+fn is_paid<N: Naming, T: Seating, C: Drop, R: Abort>(
     rt: &R,
-    purse: &SeatedPurse<N, T>,
-    terminal: u32,
-    entries: u64,
-    paid: i64,
-) {
-    assert_eq!(rt; purse.terminal(), terminal);
-    assert_eq!(rt; purse.entries(), entries);
-    assert_eq!(rt; purse.paid(), Cents::new(paid));
-}
-
-/// Closes the turns and puts the three purses together: the entries and the payments of the whole book.
-fn settles<N: Naming, T: Seating, R: Abort>(
-    rt: &R,
-    alloc: Global,
-    turns: Turns<N, T>,
-    purses: Purses<N, T>,
-    entries: u64,
-    paid: i64,
-) {
-    let Purses { first, one, two } = purses;
-    let mut all = Vec::with_capacity(alloc, 3).expect(rt, "memory for three");
-    all.push_reserved(first);
-    all.push_reserved(one);
-    all.push_reserved(two);
-    let Ok((book, all_entries, all_paid)) = turns.gather(all) else {
-        panic!(rt; "a purse is missing")
+    mailboxes: &JobMailboxes<N, T, C>,
+    waiting: JobWaiting<N, T, C>,
+)
+    requires { waiting_origin waiting ≡ identity mailboxes.now }
+{
+    let Ok((idle, answer)) = mailboxes.collect(waiting) else {
+        panic!(rt; "a job was not answered")
     };
-    let_go(book);
-    assert_eq!(rt; (all_entries, all_paid), (entries, Cents::new(paid)));
+    let_go(idle);
+    let (_, _, _, purse) = answer.into_parts();
+    assert!(rt; (purse.entries(), purse.paid()) == (1, Cents::new(100)));
 }
