@@ -2,13 +2,14 @@
 ghost use Rattle.std.specs.Prelude.{◌≡◌};
 ghost use Rattle.tpcc_mailbox.specs.Tokens.{identity, client_origin, serving_origin};
 
-use super::{CountedTurn, Story, last_of, let_go, payment, posted, told};
+use super::{CountedTurn, One, Story, let_go, make_one, payment, posted, told};
 use std::alloc::Global;
 use std::process::Abort;
 use std::sync::Wait;
 use std::sync::atomic::{AtomicU64, Ordering};
 use tpcc_book::{Naming, SeatedPurse, Seating, Turns};
 use tpcc_mailbox::{Client, Left};
+use tpcc_rows::Request;
 use tpcc_server::{
     Job, JobAnswer, JobMailboxes, JobServing, JobWaiting, OpenGate, Turning, ask, serve_round,
 };
@@ -28,9 +29,14 @@ pub(super) fn asked_in_vain<N: Naming, T: Seating, R: Wait + Abort>(
     let made = AtomicU64::new(0);
     let job = Job::of(payment(), one, CountedTurn { made: &made });
     let (request, purse) = no_answer(rt, alloc, job).give_back();
-    assert!(rt; request == payment());
+    assert!(rt; is_payment(&request) && purse.entries() == 0);
+    assert!(rt; made.load(Ordering::SeqCst) == 0);
     let_go(request);
-    assert!(rt; (purse.entries(), made.load(Ordering::SeqCst)) == (0, 0));
+    let_go(purse)
+}
+
+fn is_payment(request: &Request) -> bool {
+    *request == payment()
 }
 
 /// Closes new mailboxes, asks the job there, and reclaims it.
@@ -39,10 +45,11 @@ fn no_answer<N: Naming, T: Seating, C: Turning, R: Wait + Abort>(
     alloc: Global,
     job: Job<N, T, C>,
 ) -> Job<N, T, C> {
-    let opened = JobMailboxes::<N, T, C>::new(alloc, 1);
-    let (mailboxes, mut idles, mut serving) = opened.expect(rt, "memory for a mailbox");
-    let idle = last_of(rt, &mut idles, &mailboxes);
-    let_go(idles);
+    let One {
+        mailboxes,
+        idle,
+        mut serving,
+    } = make_one(rt, alloc);
     mailboxes.close(&mut serving);
     let Err(waiting) = ask(rt, &mailboxes, idle, job) else {
         panic!(rt; "no server was there")
@@ -105,10 +112,11 @@ fn answer_left<N: Naming, T: Seating, C: Turning, R: Wait + Abort>(
     purse: SeatedPurse<N, T>,
     call: C,
 ) -> JobAnswer<N, T> {
-    let opened = JobMailboxes::<N, T, C>::new(alloc, 1);
-    let (mailboxes, mut idles, mut serving) = opened.expect(rt, "memory for a mailbox");
-    let idle = last_of(rt, &mut idles, &mailboxes);
-    let_go(idles);
+    let One {
+        mailboxes,
+        idle,
+        mut serving,
+    } = make_one(rt, alloc);
     let waiting = posted(&mailboxes, idle, purse, call);
     let served = serve_round(rt, &mailboxes, &mut serving, turns, &mut OpenGate);
     assert!(rt; served == 1);

@@ -2,7 +2,7 @@
 ghost use Rattle.std.specs.Prelude.{◌≡◌};
 ghost use Rattle.tpcc_mailbox.specs.Tokens.{identity, serving_origin, waiting_origin};
 
-use super::{Story, last_of, let_go, posted, told};
+use super::{One, Story, let_go, make_one, posted, told};
 use crate::plain_turn::PlainTurn;
 use std::alloc::Global;
 use std::process::Abort;
@@ -70,11 +70,12 @@ pub(super) fn closed_meanwhile<N: Naming, T: Seating, R: Wait + Abort>(
     two: SeatedPurse<N, T>,
 ) {
     let_go(two);
-    let opened = JobMailboxes::<N, T, PlainTurn>::new(alloc, 1);
-    let (mailboxes, mut idles, mut serving) = opened.expect(rt, "memory for a mailbox");
+    let One {
+        mailboxes,
+        idle,
+        mut serving,
+    } = make_one(rt, alloc);
     let closer = serving.split(&mailboxes);
-    let idle = last_of(rt, &mut idles, &mailboxes);
-    let_go(idles);
     let waiting = posted(&mailboxes, idle, one, PlainTurn);
     let gate = Reposting {
         client: Some(Reposter {

@@ -1,7 +1,7 @@
 //! Jobs on worked rows, with ample memory: the plain opening of one warehouse, ten customers a district
 //! and a hundred items.
-ghost use Rattle.std.specs.Prelude.{◌≡◌, All};
-ghost use Rattle.tpcc_mailbox.specs.Tokens.{identity, idle_origin, waiting_origin};
+ghost use Rattle.std.specs.Prelude.{◌≡◌, All, None};
+ghost use Rattle.tpcc_mailbox.specs.Tokens.{identity, idle_origin, waiting_origin, serving_origin, serving_hand};
 
 mod gates;
 mod left;
@@ -19,11 +19,11 @@ use std::sync::Wait;
 use std::sync::atomic::{AtomicU64, Ordering};
 use std::thread::Threads;
 use std::time::Clock;
-use tpcc_book::{Blanks, Naming, Register, SeatedPurse, Seating, Turned, UnnamedTurns};
+use tpcc_book::{Blanks, Naming, Register, SeatedPurse, Seating, Turned, Turns, UnnamedTurns};
 use tpcc_money::{Cents, Moment};
 use tpcc_population::{Opening, Scale};
 use tpcc_rows::{Payment, Request, Who};
-use tpcc_server::{Job, JobIdle, JobMailboxes, JobWaiting, Turning};
+use tpcc_server::{Job, JobIdle, JobMailboxes, JobServing, JobWaiting, Turning};
 
 /// What happens at the turns of a new book.
 #[derive(Clone, Copy)]
@@ -66,12 +66,30 @@ fn at_its_turns<
     let (turns, mut first) = turns.named::<T>();
     let one = first.split(&turns, 1);
     let two = first.split(&turns, 2);
+    happens(rt, alloc, &turns, one, two, story);
+    let_go(first);
+    let_go(turns)
+}
+
+/// The story of the purses of two terminals.
+fn happens<
+    N: Naming + Send + Sync,
+    T: Seating + Send + Sync,
+    R: Threads + Wait + Clock + Abort + Sync,
+>(
+    rt: &R,
+    alloc: Global,
+    turns: &Turns<N, T>,
+    one: SeatedPurse<N, T>,
+    two: SeatedPurse<N, T>,
+    story: Story,
+) {
     match story {
         Story::AskedInVain => asked_in_vain(rt, alloc, one, two),
-        Story::NotCollected => not_collected(rt, alloc, &turns, one, two),
-        Story::Limited => limited(rt, alloc, &turns, one, two),
-        Story::HeldUp => held_up(rt, alloc, &turns, one, two),
-        Story::ClosedMeanwhile => closed_meanwhile(rt, alloc, &turns, one, two),
+        Story::NotCollected => not_collected(rt, alloc, turns, one, two),
+        Story::Limited => limited(rt, alloc, turns, one, two),
+        Story::HeldUp => held_up(rt, alloc, turns, one, two),
+        Story::ClosedMeanwhile => closed_meanwhile(rt, alloc, turns, one, two),
     }
 }
 
@@ -122,6 +140,28 @@ fn last_of<N: Naming, T: Seating, C, R: Abort>(
 {
     let _ = mailboxes;
     idles.pop().expect(rt, "one more client")
+}
+
+/// One mailbox, with its client and a server.
+#[derive(Drop)]
+struct One<N: Naming, T: Seating, C> {
+    mailboxes: JobMailboxes<N, T, C>,
+    idle: JobIdle<N, T, C>,
+    serving: JobServing<N, T, C>,
+    ghost origin: { (idle_origin idle ≡ identity mailboxes) × (serving_origin serving ≡ identity mailboxes) },
+    ghost hand: { serving_hand serving ≡ None },
+}
+
+fn make_one<N: Naming, T: Seating, C: Drop, R: Abort>(rt: &R, alloc: Global) -> One<N, T, C> {
+    let made = JobMailboxes::<N, T, C>::new(alloc, 1);
+    let (mailboxes, mut idles, serving) = made.expect(rt, "memory for a mailbox");
+    let idle = last_of(rt, &mut idles, &mailboxes);
+    let_go(idles);
+    One {
+        mailboxes,
+        idle,
+        serving,
+    }
 }
 
 /// Posts a payment that is turned by this call.
