@@ -87,7 +87,7 @@ it '1,000 payments'              script '@times 1000 "payment 1 1 1 1 1 5000.00 
 
 # ---- words of the command line
 
-for words in '' serve help --help --version 'script --help' 'run --version' 'script extra' dump 'dump FOO' 'dump warehouse' \
+for words in '' serve help --help --version 'script --help' 'run --version' 'script extra' dump 'dump FOO' 'dump warehouse' 'dump ORDERS' \
     'dump FOO --warehouses 0' 'dump ORDER_LINE' 'dump WAREHOUSE ITEM' 'script --cards 1' 'dump ITEM --terminals 1' 'script --speed 1' \
     'run --terminals 0' 'run --terminals 1000' 'run --servers 0' 'run --servers 17' 'run --cards 100001' 'run --retire 100001' \
     'run --terminals x' 'run --terminals 0 --warehouses 0' 'script --moment 4102444800' 'script --seed -1' \
@@ -97,6 +97,7 @@ for words in '' serve help --help --version 'script --help' 'run --version' 'scr
     'requests --terminal 0' 'requests --terminal 1001' 'requests --cards 100001' 'requests 1' 'requests --terminals 1' 'requests --show journal'; do
     it "words: $words" "$words" '' 1 'fault 1 Arguments' ''
 done
+by 'a table and a space'         '"$tpcc" dump "ITEM " > stdout 2> stderr; echo $? > status'           1 'fault 1 Arguments' ''
 for number in 0 101 4294967295; do it "$number warehouses" "script --warehouses $number" '' 1 'fault 1 Warehouses' ''; done
 for number in 0 5 15 3010 4294967295; do it "$number customers" "script --customers $number" '' 1 'fault 2 Customers' ''; done
 for number in 0 99 100001 4294967295; do it "$number items" "script --items $number" '' 1 'fault 3 Items' ''; done
@@ -176,6 +177,27 @@ reported 'five terminals of a plain opening' '--seed 9 --customers 20 --moment 3
     237 277 96057.42
 reported '2,000 cards' '--seeded --warehouses 4 --customers 60 --items 200 --seed 3 --terminals 4 --servers 2 --cards 500' \
     2871 3371 2214693.70
+
+# ---- what a terminal asks, by the second program
+
+# The cards of a terminal that stand in these lines.
+cards() {
+    by "$1" "\"$tpcc\" requests $2 --moment 60 --cards 24 2> stderr | sed -n '$3' > stdout; echo \${PIPESTATUS[0]} > status" 0 '' "$4"
+}
+
+cards 'first cards of terminal 1' '' 1,5p \
+    'payment 1 6 1 6 BARBARATION 4876.91 60\npayment 1 9 1 9 BARBARANTI 1475.87 60\n'\
+'new-order 1 2 3 60 35:1:10 6:1:5 62:1:3 95:1:4 7:1:6 55:1:4 31:1:6 39:1:5 75:1:6 81:1:9 3:1:7 27:1:4 62:1:7 47:1:5 30:1:1\n'\
+'delivery 1 7 60\npayment 1 8 1 8 3 2721.72 60\n'
+# The last one is the first card of the second deck.
+cards 'later cards of terminal 1' '' '11p;14p;24p' 'status 1 1 BARBARBAR\nstock 1 1 10\npayment 1 7 1 7 BARBARABLE 4589.04 60\n'
+cards 'lines from other warehouses' '--terminal 8 --warehouses 3 --seed 164' 1p \
+    'new-order 2 6 9 60 19:1:3 39:2:8 2:2:6 69:3:9 45:2:8 81:2:5 31:2:4 39:2:8 38:2:8 3:2:2\n'
+cards 'an unused item is asked for' '--terminal 8 --warehouses 3 --seed 86' 2p 'new-order 2 9 2 60 21:2:8 98:2:3 49:2:9 74:2:3 27:2:8 101:2:4\n'
+cards 'payers of other warehouses' '--terminal 8 --warehouses 3 --seed 194' '3p;4p' \
+    'payment 2 1 1 1 BARBARABLE 1363.86 60\npayment 2 1 3 6 5 3143.71 60\n'
+by 'a deck'                      '"$tpcc" requests --terminal 5 --warehouses 3 --seed 7 2> stderr | cut -d " " -f 1,2 | sort | uniq -c | tr -s " " > stdout
+    echo ${PIPESTATUS[0]} > status' 0 '' ' 1 delivery 2\n 10 new-order 2\n 10 payment 2\n 1 status 2\n 1 stock 2\n'
 
 # ---- what a run shows
 

@@ -90,13 +90,13 @@ for name in new_order payment order_status delivery stock_level refusals; do
 done
 refuse_script examples/two_warehouses 'script --warehouses 2' $(($(allocations 'script --warehouses 2') + 1)) "${STEP:-3}"
 
-# A dump whose allocations are refused in turn: all of it, or want of memory and a first part.
+# A dump whose allocations, or each so-manieth one, are refused in turn: all of it, or want of memory and a first part.
 refuse_dump() {
     left_out "refused memory: $1" && return
     local call
     : > stdin
     "$tpcc" $1 > whole
-    for ((call = 1; ; call += ${STEP:-97})); do
+    for ((call = 1; ; call += ${2:-${STEP:-97}})); do
         failing "alloc $call" $1
         [ -s hit ] || break
         : > stderr.wanted
@@ -114,6 +114,7 @@ refuse_dump() {
 
 for table in WAREHOUSE DISTRICT CUSTOMER HISTORY ORDER ORDER-LINE NEW-ORDER ITEM STOCK; do refuse_dump "dump $table"; done
 refuse_dump 'dump ITEM --seeded'
+refuse_dump 'requests --cards 24' 1
 
 # A run with such a call: a report of equal amounts, or want of memory and nothing.
 refuse_run() {
@@ -136,13 +137,13 @@ refuse_run thread 'run --terminals 3 --servers 3 --cards 1' 1
 
 # ---- standard input that fails
 
-# A script with such a call: its status, its line on standard error and its output.
+# A script with such a call, or what other words ask: its status, its line on standard error and its output.
 badly() {
     left_out "$1" && return
     told "$3" > stdin
     told "$6" > stdout.wanted
     [ -z "$5" ] && : > stderr.wanted || echo "$5" > stderr.wanted
-    failing "$2" script
+    failing "$2" ${7:-script}
     [ -s hit ] || differs "$1: the call was not reached" status
     compare "$1" "$4"
 }
@@ -159,6 +160,7 @@ badly 'interrupted 1,001 times'           'interrupt-read 1001' "$first"        
 badly 'the first byte of a write alone'   'short-write 1'       "$first"            0 ''             "$screen"
 badly 'a write interrupted 1,000 times'   'interrupt-write 1000' "$first"           0 ''             "$screen"
 badly 'a write interrupted 1,001 times'   'interrupt-write 1001' "$first"           3 'fault 6 Write' ''
+badly 'a dump that is interrupted'        'interrupt-write 1'   ''                  0 ''             '@"$tpcc" dump STOCK' 'dump STOCK'
 
 # Standard output that takes each number of bytes, fewer than all, and then fails; or each seventh, and then takes nothing.
 bytes_in_all=0

@@ -6,23 +6,21 @@ use tpcc_money::{Cents, Moment};
 use tpcc_population::{Opening, Scale};
 use tpcc_rows::{Payment, Reply, Request, StatusQuery, Who};
 
-/// Ten customers of each district and 100 items.
-pub fn scale<R: Abort>(rt: &R, warehouses: u32) -> Scale {
-    Scale::new(warehouses, 10, 100).expect(rt, "a scale")
+/// One warehouse, ten customers of each district and 100 items.
+pub fn scale<R: Abort>(rt: &R) -> Scale {
+    Scale::new(1, 10, 100).expect(rt, "a scale")
 }
 
-pub fn opening<R: Abort>(rt: &R, warehouses: u32) -> Opening {
-    Opening::Plain {
-        scale: scale(rt, warehouses),
-    }
+pub fn opening<R: Abort>(rt: &R) -> Opening {
+    Opening::Plain { scale: scale(rt) }
 }
 
-/// Customer 1 of the warehouse's district 1 pays at home.
-pub fn payment(warehouse: u32, cents: i64) -> Request {
+/// Customer 1 of district 1 pays at home.
+pub fn payment(cents: i64) -> Request {
     Request::Payment(Payment {
-        warehouse,
+        warehouse: 1,
         district: 1,
-        customer_warehouse: warehouse,
+        customer_warehouse: 1,
         customer_district: 1,
         who: Who::Number(1),
         amount: Cents::new(cents),
@@ -48,13 +46,8 @@ pub fn balance(reply: &Reply) -> Option<Cents> {
     }
 }
 
-/// The balance in an answer, the place of its entry, and its purse.
-pub fn parts<P>(answer: Answer<P>) -> (Option<Cents>, Option<u64>, P) {
-    let balance = match answer.outcome() {
-        Ok(reply) => balance(reply),
-        Err(_) => None,
-    };
-    let place = answer.place();
+/// The purse of an answer.
+pub fn purse_of<P>(answer: Answer<P>) -> P {
     let (_, _, _, purse) = answer.into_parts();
-    (balance, place, purse)
+    purse
 }

@@ -1,17 +1,15 @@
-//! Books, desks, terminals' screens, audits and scripts, by their public calls alone.
+//! Books, turns, desks, receipts, screens and dumps that no script and no run brings about, by their public calls alone.
 #![tactic(auto)]
 
 #[cfg(test)]
 mod asked;
 #[cfg(test)]
-mod audit;
-#[cfg(test)]
-mod book;
+mod books;
 #[cfg(test)]
 mod desk;
 #[cfg(test)]
-mod script;
+mod dumps;
 #[cfg(test)]
-mod stories;
+mod screens;
 #[cfg(test)]
-mod terminal;
+mod turns;

@@ -1,13 +1,9 @@
-//! Mailboxes, jobs at them, runs and the parts of the program, by their public calls alone.
+//! Runs that are refused memory, and the progress of a run, by their public calls alone.
 #![tactic(auto)]
 
-#[cfg(test)]
-mod mailbox;
 #[cfg(test)]
 mod plain_turn;
 #[cfg(test)]
 mod program;
 #[cfg(test)]
 mod run;
-#[cfg(test)]
-mod server;

@@ -1,81 +1,86 @@
-//! The opening of one warehouse with one district, table by table.
-use crate::samples::{
-    customer, district, history, item, line, new_order, order, put, stock, warehouse,
-};
+//! The plain opening of one warehouse, ten customers of each district and a hundred items: filled at once, and loaded
+//! row by row.
+ghost use Rattle.tpcc_rows.specs.WellKeyed.{IsStocked};
+
+use crate::changes::{Change, changed, has_sixth_line};
 use std::alloc::AllocGlobal;
 use std::process::Abort;
-use tpcc_money::Cents;
-use tpcc_rows::{DistrictRow, Row};
+use tpcc_population::{Opening, Scale, fill, opening_is_sound};
+use tpcc_rows::{OrderLineRow, Row, RowRef, Table};
 use tpcc_tables::Tables;
 
-/// How many customers, and as many orders, the district has, the last of them that was delivered, how many items there
-/// are, and D_YTD.
-#[derive(Clone, Copy)]
-pub struct Scale {
-    pub customers: u32,
-    pub delivered: u32,
-    pub items: u32,
-    pub district_ytd: i64,
+/// Each table behind those whose rows its own rows name.
+const OWNERS_FIRST: [Table; 9] = [
+    Table::Warehouse,
+    Table::District,
+    Table::Customer,
+    Table::History,
+    Table::Item,
+    Table::Stock,
+    Table::Order,
+    Table::OrderLine,
+    Table::NewOrder,
+];
+
+/// One warehouse, so many customers of each district and a hundred items.
+pub fn scale(rt: &impl Abort, customers: u32) -> Scale {
+    Scale::new(1, customers, 100).expect(rt, "a scale")
 }
 
-/// Each order has items of its own.
-pub const TEN: Scale = Scale {
-    customers: 10,
-    delivered: 7,
-    items: 50,
-    district_ytd: 10_000,
-};
-
-fn put_homes(rt: &impl Abort, tables: &mut Tables, scale: Scale) {
-    put(rt, tables, Row::Warehouse(warehouse(1)));
-    let home = DistrictRow {
-        ytd: Cents::new(scale.district_ytd),
-        next_order: scale.customers.saturating_add(1),
-        ..district(1)
+pub fn filled(rt: &(impl Abort + AllocGlobal)) -> Tables
+    ensures stocked { IsStocked result.rows }
+{
+    let opening = Opening::Plain {
+        scale: scale(rt, 10),
     };
-    put(rt, tables, Row::District(home));
+    opening_is_sound(opening);
+    fill(rt.alloc(), &opening).expect(rt, "an opening")
 }
 
-fn put_customers(rt: &impl Abort, tables: &mut Tables, count: u32) {
-    for place in 0..count {
-        let id = place.saturating_add(1);
-        put(rt, tables, Row::Customer(customer(1, id)));
-        put(rt, tables, Row::History(history(id)));
+fn copied(row: RowRef<'_>) -> Row {
+    match row {
+        RowRef::Warehouse(row) => Row::Warehouse(*row),
+        RowRef::District(row) => Row::District(*row),
+        RowRef::Customer(row) => Row::Customer(*row),
+        RowRef::History(row) => Row::History(*row),
+        RowRef::Order(row) => Row::Order(*row),
+        RowRef::OrderLine(row) => Row::OrderLine(*row),
+        RowRef::NewOrder(row) => Row::NewOrder(row),
+        RowRef::Item(row) => Row::Item(*row),
+        RowRef::Stock(row) => Row::Stock(*row),
     }
 }
 
-fn put_items(rt: &impl Abort, tables: &mut Tables, count: u32) {
-    for place in 0..count {
-        let id = place.saturating_add(1);
-        put(rt, tables, Row::Item(item(id)));
-        put(rt, tables, Row::Stock(stock(1, id)));
-    }
+/// The row at a place of a table.
+pub fn row_at(rt: &impl Abort, tables: &Tables, table: Table, place: usize) -> Row {
+    copied(tables.row(table, place).expect(rt, "a row"))
 }
 
-fn put_lines(rt: &impl Abort, tables: &mut Tables, order: u32, waits: bool) {
-    for number in 1..6u32 {
-        put(rt, tables, Row::OrderLine(line(order, number, waits)));
-    }
-}
-
-fn put_orders(rt: &impl Abort, tables: &mut Tables, scale: Scale) {
-    for place in 0..scale.customers {
-        let id = place.saturating_add(1);
-        let waits = scale.delivered < id;
-        put(rt, tables, Row::Order(order(1, id, waits)));
-        put_lines(rt, tables, id, waits);
-        if waits {
-            put(rt, tables, Row::NewOrder(new_order(1, id)));
+/// The last row goes first, but in HISTORY, whose rows stand as they come.
+fn load_table(rt: &impl Abort, from: &Tables, table: Table, change: Change, into: &mut Tables) {
+    let count = from.count(table);
+    for turn in 0..count {
+        let place = if table == Table::History {
+            turn
+        } else {
+            count - 1 - turn
+        };
+        if let Some(row) = changed(change, row_at(rt, from, table, place)) {
+            assert!(rt; into.load(row).is_ok());
         }
     }
 }
 
-/// The opening of a scale.
-pub fn opened(rt: &(impl Abort + AllocGlobal), scale: Scale) -> Tables {
-    let mut tables = Tables::empty(rt.alloc());
-    put_homes(rt, &mut tables, scale);
-    put_customers(rt, &mut tables, scale.customers);
-    put_items(rt, &mut tables, scale.items);
-    put_orders(rt, &mut tables, scale);
-    tables
+/// The rows of these tables with one change, loaded into empty ones.
+pub fn loaded(rt: &(impl Abort + AllocGlobal), from: &Tables, change: Change) -> Tables {
+    let mut into = Tables::empty(rt.alloc());
+    for table in OWNERS_FIRST {
+        load_table(rt, from, table, change, &mut into);
+    }
+    if has_sixth_line(change) {
+        let fifth = *from.line(1, 1, 9, 5).expect(rt, "a line");
+        let sixth = OrderLineRow { number: 6, ..fifth };
+        assert!(rt; into.load(Row::OrderLine(sixth)).is_ok());
+    }
+    into
 }

@@ -1,21 +1,7 @@
-//! Tests on worked values that cross crates: each public call with ample memory, and its refusals.
+//! Texts that are printed, and the sizes of values.
 #![tactic(auto)]
 
 #[cfg(test)]
-mod draws;
-#[cfg(test)]
-mod journals;
-#[cfg(test)]
-mod money;
-#[cfg(test)]
-mod refusals;
-#[cfg(test)]
-mod replies;
-#[cfg(test)]
-mod requests;
-#[cfg(test)]
-mod rows;
+mod printed;
 #[cfg(test)]
 mod sizes;
-#[cfg(test)]
-mod texts;

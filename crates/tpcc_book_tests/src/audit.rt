@@ -1,4 +1,0 @@
-//! Audits: tables that are written out, and settlements.
-mod dumps;
-mod rows;
-pub mod settlements;

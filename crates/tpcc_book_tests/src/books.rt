@@ -1,0 +1,117 @@
+//! A book on one thread: two purses of one terminal, and the receipts of a terminal.
+ghost use Rattle.std.specs.Prelude.{◌≡◌};
+
+use crate::asked::{balance, opening, payment, purse_of, scale};
+use std::alloc::Global;
+use std::marker::Brand;
+use std::process::Abort;
+use tpcc_book::{Answer, Blanks, Book, Naming, Purse};
+use tpcc_money::Cents;
+use tpcc_rows::{Refusal, Request};
+use tpcc_terminal::{Receipt, Terminal};
+
+/// What happens at a new book.
+#[derive(Clone, Copy)]
+enum Story {
+    TwoPurses,
+    Receipts,
+}
+
+fn told<R: Abort>(rt: &R, alloc: Global, story: Story) {
+    at_book::<Brand, R>(rt, alloc, Blanks::new(), story)
+}
+
+fn at_book<N: Naming, R: Abort>(rt: &R, alloc: Global, blanks: Blanks, story: Story)
+    requires entries { blanks.entries.name ≡ N.entries }
+    requires cents { blanks.cents.name ≡ N.cents }
+{
+    let Ok((book, first)) = Book::<N>::start(alloc, &opening(rt), blanks) else {
+        panic!(rt; "memory for the opening")
+    };
+    match story {
+        Story::TwoPurses => two_purses(rt, book, first),
+        Story::Receipts => two_receipts(rt, alloc, book, first),
+    }
+}
+
+/// The refusal of a request, and the purse.
+fn asked<N: Naming>(
+    book: &mut Book<N>,
+    purse: Purse<N>,
+    request: Request,
+) -> (Option<Refusal>, Purse<N>) {
+    let answer = book.serve(request, purse);
+    let refusal = match answer.outcome() {
+        Ok(_) => None,
+        Err(refusal) => Some(*refusal),
+    };
+    (refusal, purse_of(answer))
+}
+
+/// The terminal, entries and cents of a purse.
+fn shown<N: Naming>(purse: &Purse<N>) -> (u32, u64, Cents) {
+    (purse.terminal(), purse.entries(), purse.paid())
+}
+
+#[test]
+fn the_second_purse_of_a_terminal_is_a_stranger(rt: HostRuntime) {
+    told(&rt, rt.alloc(), Story::TwoPurses)
+}
+
+fn two_purses<N: Naming, R: Abort>(rt: &R, book: Book<N>, first: Purse<N>) {
+    let mut book = book;
+    let mut first = first;
+    assert!(rt; first.room() == 10_000);
+    let one = first.split(5);
+    let two = first.split(5);
+    let (paid, one) = asked(&mut book, one, payment(100));
+    let (refused, two) = asked(&mut book, two, payment(100));
+    assert!(rt; paid.is_none() && refused == Some(Refusal::Stranger(1)));
+    assert!(rt; shown(&one) == (5, 1, Cents::new(100)));
+    assert!(rt; shown(&two) == (5, 0, Cents::new(0)));
+    assert!(rt; book.journal().len() == 1);
+}
+
+/// Notes an answer, and gives its purse back.
+fn noted<N: Naming, R: Abort>(
+    rt: &R,
+    terminal: &mut Terminal,
+    answer: Answer<Purse<N>>,
+) -> Purse<N> {
+    terminal.note(&answer).expect(rt, "memory for a receipt");
+    purse_of(answer)
+}
+
+/// The receipt of a payment by terminal 5, whose number and place are the same.
+fn is_receipt(receipt: &Receipt, number: u64, cents: i64, left: i64) -> bool {
+    (receipt.terminal, receipt.number, receipt.place) == (5, number, number)
+        && receipt.request == payment(cents)
+        && balance(&receipt.reply) == Some(Cents::new(left))
+}
+
+/// The receipts of 1.00 and 2.00, with the balances -11.00 and -13.00 behind them.
+fn are_both(receipts: &[Receipt]) -> bool {
+    match receipts {
+        [one, two] => is_receipt(one, 0, 100, -1100) && is_receipt(two, 1, 200, -1300),
+        _ => false,
+    }
+}
+
+#[test]
+fn a_terminal_keeps_the_receipts_of_its_journaled_answers(rt: HostRuntime) {
+    told(&rt, rt.alloc(), Story::Receipts)
+}
+
+/// The second of three payments is refused.
+fn two_receipts<N: Naming, R: Abort>(rt: &R, alloc: Global, book: Book<N>, first: Purse<N>) {
+    let mut book = book;
+    let mut first = first;
+    let made = Terminal::new(alloc, 5, scale(rt), 1);
+    let mut terminal = made.expect(rt, "memory for a terminal");
+    assert!(rt; first.room() == 10_000);
+    let mut purse = first.split(5);
+    for cents in [100, 99, 200] {
+        purse = noted(rt, &mut terminal, book.serve(payment(cents), purse));
+    }
+    assert!(rt; are_both(terminal.receipts().as_slice()));
+}

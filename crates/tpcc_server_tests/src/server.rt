@@ -1,0 +1,194 @@
+//! Jobs on worked rows, with ample memory: the plain opening of one warehouse, ten customers a district
+//! and a hundred items.
+ghost use Rattle.std.specs.Prelude.{◌≡◌, All, None};
+ghost use Rattle.tpcc_mailbox.specs.Tokens.{identity, idle_origin, waiting_origin, serving_origin, serving_hand};
+
+mod gates;
+mod left;
+mod reposts;
+mod rounds;
+
+use gates::held_up;
+use left::{asked_in_vain, not_collected};
+use reposts::closed_meanwhile;
+use rounds::limited;
+use std::alloc::Global;
+use std::marker::Brand;
+use std::process::Abort;
+use std::sync::Wait;
+use std::sync::atomic::{AtomicU64, Ordering};
+use std::thread::Threads;
+use std::time::Clock;
+use tpcc_book::{Blanks, Naming, Register, SeatedPurse, Seating, Turned, Turns, UnnamedTurns};
+use tpcc_money::{Cents, Moment};
+use tpcc_population::{Opening, Scale};
+use tpcc_rows::{Payment, Request, Who};
+use tpcc_server::{Job, JobIdle, JobMailboxes, JobServing, JobWaiting, Turning};
+
+/// What happens at the turns of a new book.
+#[derive(Clone, Copy)]
+enum Story {
+    AskedInVain,
+    NotCollected,
+    Limited,
+    HeldUp,
+    ClosedMeanwhile,
+}
+
+fn told<R: Threads + Wait + Clock + Abort + Sync>(rt: &R, alloc: Global, story: Story) {
+    at_a_book::<Brand, R>(rt, alloc, Blanks::new(), story)
+}
+
+fn at_a_book<N: Naming + Send + Sync, R: Threads + Wait + Clock + Abort + Sync>(
+    rt: &R,
+    alloc: Global,
+    blanks: Blanks,
+    story: Story,
+)
+    requires entries { blanks.entries.name ≡ N.entries }
+    requires cents { blanks.cents.name ≡ N.cents }
+{
+    let scale = Scale::new(1, 10, 100).expect(rt, "a scale");
+    let opening = Opening::Plain { scale };
+    let Ok(turns) = UnnamedTurns::<N>::start(alloc, &opening, blanks) else {
+        panic!(rt; "memory for the opening")
+    };
+    at_its_turns::<N, Brand, R>(rt, alloc, turns, story)
+}
+
+fn at_its_turns<
+    N: Naming + Send + Sync,
+    T: Seating + Send + Sync,
+    R: Threads + Wait + Clock + Abort + Sync,
+>(rt: &R, alloc: Global, turns: UnnamedTurns<N>, story: Story)
+    requires name { turns.table ≡ T.table }
+{
+    let (turns, mut first) = turns.named::<T>();
+    let one = first.split(&turns, 1);
+    let two = first.split(&turns, 2);
+    happens(rt, alloc, &turns, one, two, story);
+    let_go(first);
+    let_go(turns)
+}
+
+/// The story of the purses of two terminals.
+fn happens<
+    N: Naming + Send + Sync,
+    T: Seating + Send + Sync,
+    R: Threads + Wait + Clock + Abort + Sync,
+>(
+    rt: &R,
+    alloc: Global,
+    turns: &Turns<N, T>,
+    one: SeatedPurse<N, T>,
+    two: SeatedPurse<N, T>,
+    story: Story,
+) {
+    match story {
+        Story::AskedInVain => asked_in_vain(rt, alloc, one, two),
+        Story::NotCollected => not_collected(rt, alloc, turns, one, two),
+        Story::Limited => limited(rt, alloc, turns, one, two),
+        Story::HeldUp => held_up(rt, alloc, turns, one, two),
+        Story::ClosedMeanwhile => closed_meanwhile(rt, alloc, turns, one, two),
+    }
+}
+
+/// A turn that counts its calls.
+#[derive(Drop)]
+struct CountedTurn<'a> {
+    made: &'a AtomicU64,
+}
+
+impl<'a> Turning for CountedTurn<'a> {
+    fn turn_once(
+        self,
+        register: &mut Register,
+        request: Request,
+        terminal: u32,
+        number: u64,
+    ) -> Turned {
+        self.made.fetch_add(1, Ordering::SeqCst);
+        register.turn(request, terminal, number)
+    }
+}
+
+/// Customer 1 of district 1 pays 1.00.
+fn payment() -> Request {
+    Request::Payment(Payment {
+        warehouse: 1,
+        district: 1,
+        customer_warehouse: 1,
+        customer_district: 1,
+        who: Who::Number(1),
+        amount: Cents::new(100),
+        moment: Moment::new(60),
+    })
+}
+
+/// Lets a value go.
+fn let_go<X: Drop>(_value: X) {}
+
+/// The token of the last client of these.
+fn last_of<N: Naming, T: Seating, C, R: Abort>(
+    rt: &R,
+    idles: &mut Vec<JobIdle<N, T, C>>,
+    mailboxes: &JobMailboxes<N, T, C>,
+) -> JobIdle<N, T, C>
+    requires { All (λ x. idle_origin x ≡ identity mailboxes.now) idles.old.items }
+    ensures rest { All (λ x. idle_origin x ≡ identity mailboxes.now) idles.new.items }
+    ensures last { idle_origin result ≡ identity mailboxes.now }
+{
+    let _ = mailboxes;
+    idles.pop().expect(rt, "one more client")
+}
+
+/// One mailbox, with its client and a server.
+#[derive(Drop)]
+struct One<N: Naming, T: Seating, C> {
+    mailboxes: JobMailboxes<N, T, C>,
+    idle: JobIdle<N, T, C>,
+    serving: JobServing<N, T, C>,
+    ghost origin: { (idle_origin idle ≡ identity mailboxes) × (serving_origin serving ≡ identity mailboxes) },
+    ghost hand: { serving_hand serving ≡ None },
+}
+
+fn make_one<N: Naming, T: Seating, C: Drop, R: Abort>(rt: &R, alloc: Global) -> One<N, T, C> {
+    let made = JobMailboxes::<N, T, C>::new(alloc, 1);
+    let (mailboxes, mut idles, serving) = made.expect(rt, "memory for a mailbox");
+    let idle = last_of(rt, &mut idles, &mailboxes);
+    let_go(idles);
+    One {
+        mailboxes,
+        idle,
+        serving,
+    }
+}
+
+/// Posts a payment that is turned by this call.
+fn posted<N: Naming, T: Seating, C: Turning>(
+    mailboxes: &JobMailboxes<N, T, C>,
+    idle: JobIdle<N, T, C>,
+    purse: SeatedPurse<N, T>,
+    call: C,
+) -> JobWaiting<N, T, C>
+    requires { idle_origin idle ≡ identity mailboxes.now }
+    ensures { waiting_origin result ≡ identity mailboxes.now }
+{
+    mailboxes.post(idle, Job::of(payment(), purse, call))
+}
+
+/// The answer is there, and its purse has one entry.
+fn is_paid<N: Naming, T: Seating, C: Drop, R: Abort>(
+    rt: &R,
+    mailboxes: &JobMailboxes<N, T, C>,
+    waiting: JobWaiting<N, T, C>,
+)
+    requires { waiting_origin waiting ≡ identity mailboxes.now }
+{
+    let Ok((idle, answer)) = mailboxes.collect(waiting) else {
+        panic!(rt; "a job was not answered")
+    };
+    let_go(idle);
+    let (_, _, _, purse) = answer.into_parts();
+    assert!(rt; (purse.entries(), purse.paid()) == (1, Cents::new(100)));
+}

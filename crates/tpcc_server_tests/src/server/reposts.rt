@@ -1,0 +1,92 @@
+//! Mailboxes that are closed in the middle of a round.
+ghost use Rattle.std.specs.Prelude.{◌≡◌};
+ghost use Rattle.tpcc_mailbox.specs.Tokens.{identity, serving_origin, waiting_origin};
+
+use super::{One, Story, let_go, make_one, posted, told};
+use crate::plain_turn::PlainTurn;
+use std::alloc::Global;
+use std::process::Abort;
+use std::sync::Wait;
+use tpcc_book::{Naming, SeatedPurse, Seating, Turns};
+use tpcc_server::{Gate, JobMailboxes, JobServing, JobWaiting, serve_until_closed};
+
+/// A gate behind which the client of the first job posts again.
+#[derive(Drop)]
+struct Reposting<'a, N: Naming, T: Seating> {
+    client: Option<Reposter<'a, N, T>>,
+}
+
+impl<'a, N: Naming, T: Seating> Gate for Reposting<'a, N, T> {
+    fn before(&mut self, _mailbox: usize) {}
+
+    fn after(&mut self, _mailbox: usize) {
+        if let Some(client) = self.client.take() {
+            client.post_again()
+        }
+    }
+}
+
+/// The client, and the right to close.
+#[derive(Drop)]
+struct Reposter<'a, N: Naming, T: Seating> {
+    mailboxes: &'a JobMailboxes<N, T, PlainTurn>,
+    closer: JobServing<N, T, PlainTurn>,
+    waiting: JobWaiting<N, T, PlainTurn>,
+    ghost closes: { serving_origin closer ≡ identity mailboxes.now },
+    ghost waits: { waiting_origin waiting ≡ identity mailboxes.now },
+}
+
+impl<'a, N: Naming, T: Seating> Reposter<'a, N, T> {
+    /// Collects the answer, which is there behind the gate, posts again, and closes.
+    fn post_again(self) {
+        let Reposter {
+            mailboxes,
+            closer,
+            waiting,
+        } = self;
+        let mut closer = closer;
+        let Ok((idle, answer)) = mailboxes.collect(waiting) else {
+            return;
+        };
+        let (_, _, _, purse) = answer.into_parts();
+        let_go(posted(mailboxes, idle, purse, PlainTurn));
+        mailboxes.close(&mut closer);
+        let_go(closer)
+    }
+}
+
+#[test]
+fn a_round_is_made_behind_a_flag_that_was_seen(rt: HostRuntime) {
+    told(&rt, rt.alloc(), Story::ClosedMeanwhile)
+}
+
+/// Behind the first job its client collects, posts again and closes: the next round finds that job, since a
+/// server reads the flag before its round.
+pub(super) fn closed_meanwhile<N: Naming, T: Seating, R: Wait + Abort>(
+    rt: &R,
+    alloc: Global,
+    turns: &Turns<N, T>,
+    one: SeatedPurse<N, T>,
+    two: SeatedPurse<N, T>,
+) {
+    let_go(two);
+    let One {
+        mailboxes,
+        idle,
+        mut serving,
+    } = make_one(rt, alloc);
+    let closer = serving.split(&mailboxes);
+    let waiting = posted(&mailboxes, idle, one, PlainTurn);
+    let gate = Reposting {
+        client: Some(Reposter {
+            mailboxes: &mailboxes,
+            closer,
+            waiting,
+        }),
+    };
+    let (serving, gate, served) = serve_until_closed(rt, &mailboxes, serving, turns, gate, 9);
+    let_go(serving);
+    let_go(gate);
+    assert!(rt; served == 2);
+    let_go(mailboxes)
+}

@@ -1,0 +1,114 @@
+//! Rounds with limits on one thread: which jobs they find, how many, and when they pass a gate.
+ghost use Rattle.std.specs.Prelude.{◌≡◌, None};
+ghost use Rattle.tpcc_mailbox.specs.Tokens.{identity, serving_origin, serving_hand};
+
+use super::{CountedTurn, Story, is_paid, last_of, let_go, posted, told};
+use std::alloc::Global;
+use std::process::Abort;
+use std::sync::Wait;
+use std::sync::atomic::{AtomicU64, Ordering};
+use tpcc_book::{Naming, SeatedPurse, Seating, Turns};
+use tpcc_server::{Gate, JobMailboxes, JobServing, Turning, serve_round, serve_until_closed};
+
+/// A gate that sees whether each job is turned between its two calls, in the order of the mailboxes.
+#[derive(Drop)]
+struct Watch<'a> {
+    made: &'a AtomicU64,
+    inside: Option<usize>,
+    last: Option<usize>,
+    jobs: u64,
+    right: bool,
+}
+
+impl<'a> Gate for Watch<'a> {
+    fn before(&mut self, mailbox: usize) {
+        let not_turned = self.made.load(Ordering::SeqCst) == self.jobs;
+        let is_next = self.inside.is_none() && self.last < Some(mailbox);
+        self.right = self.right && is_next && not_turned;
+        self.inside = Some(mailbox);
+    }
+
+    fn after(&mut self, mailbox: usize) {
+        self.jobs = self.jobs.saturating_add(1);
+        let turned = self.made.load(Ordering::SeqCst) == self.jobs;
+        self.right = self.right && self.inside == Some(mailbox) && turned;
+        self.inside = None;
+        self.last = Some(mailbox);
+    }
+}
+
+impl<'a> Watch<'a> {
+    /// So many jobs were turned as they should, the last one of them in this mailbox.
+    fn has_seen(&self, jobs: u64, last: usize) -> bool {
+        self.right && self.jobs == jobs && self.last == Some(last)
+    }
+}
+
+#[test]
+fn limits_are_kept_and_no_job_is_passed_over(rt: HostRuntime) {
+    told(&rt, rt.alloc(), Story::Limited)
+}
+
+/// Jobs lie in the first and the last of three mailboxes.
+pub(super) fn limited<N: Naming, T: Seating, R: Wait + Abort>(
+    rt: &R,
+    alloc: Global,
+    turns: &Turns<N, T>,
+    one: SeatedPurse<N, T>,
+    two: SeatedPurse<N, T>,
+) {
+    let made = AtomicU64::new(0);
+    let opened = JobMailboxes::<N, T, CountedTurn>::new(alloc, 3);
+    let (mailboxes, mut idles, serving) = opened.expect(rt, "memory for three mailboxes");
+    let last = last_of(rt, &mut idles, &mailboxes);
+    let_go(last_of(rt, &mut idles, &mailboxes));
+    let first = last_of(rt, &mut idles, &mailboxes);
+    let_go(idles);
+    let first = posted(&mailboxes, first, one, CountedTurn { made: &made });
+    let last = posted(&mailboxes, last, two, CountedTurn { made: &made });
+    one_by_one(rt, &mailboxes, turns, serving, &made);
+    is_paid(rt, &mailboxes, first);
+    is_paid(rt, &mailboxes, last);
+    let_go(mailboxes)
+}
+
+/// The limit 0 answers none, the limit 1 the first job, a round the last one, and another round none.
+fn one_by_one<'a, N: Naming, T: Seating, R: Wait + Abort>(
+    rt: &R,
+    mailboxes: &JobMailboxes<N, T, CountedTurn<'a>>,
+    turns: &Turns<N, T>,
+    serving: JobServing<N, T, CountedTurn<'a>>,
+    made: &AtomicU64,
+)
+    requires { (serving_origin serving ≡ identity mailboxes.now) × (serving_hand serving ≡ None) }
+{
+    let watch = Watch {
+        made,
+        inside: None,
+        last: None,
+        jobs: 0,
+        right: true,
+    };
+    let (serving, watch, none) = serve_until_closed(rt, mailboxes, serving, turns, watch, 0);
+    assert!(rt; none == 0);
+    let (serving, watch, one) = serve_until_closed(rt, mailboxes, serving, turns, watch, 1);
+    assert!(rt; one == 1 && watch.has_seen(1, 0));
+    rounds(rt, mailboxes, turns, serving, watch)
+}
+
+fn rounds<N: Naming, T: Seating, C: Turning, R: Wait + Abort>(
+    rt: &R,
+    mailboxes: &JobMailboxes<N, T, C>,
+    turns: &Turns<N, T>,
+    serving: JobServing<N, T, C>,
+    watch: Watch<'_>,
+)
+    requires { (serving_origin serving ≡ identity mailboxes.now) × (serving_hand serving ≡ None) }
+{
+    let mut serving = serving;
+    let mut watch = watch;
+    let one = serve_round(rt, mailboxes, &mut serving, turns, &mut watch);
+    let none = serve_round(rt, mailboxes, &mut serving, turns, &mut watch);
+    let_go(serving);
+    assert!(rt; (one, none) == (1, 0) && watch.has_seen(2, 2));
+}

@@ -1,4 +1,0 @@
-//! Parts and names on rows built by hand.
-
-mod names;
-mod parts;

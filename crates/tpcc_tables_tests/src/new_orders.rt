@@ -1,8 +1,0 @@
-//! Orders on worked values.
-
-mod accepted;
-mod entering;
-mod growths;
-mod opening;
-mod refusals;
-mod stocked;

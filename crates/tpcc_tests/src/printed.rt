@@ -1,0 +1,29 @@
+//! Values as they are printed, with ample memory.
+use std::alloc::AllocGlobal;
+use std::fmt::Display;
+use std::process::Abort;
+use tpcc_money::{AmountFault, Cents, Rate};
+use tpcc_rows::{Field, Refusal, TextFault};
+
+fn is_printed(rt: &(impl Abort + AllocGlobal), value: impl Display + Drop, expected: &str) {
+    let text = value.to_string(rt.alloc()).expect(rt, "memory for a text");
+    assert!(rt; text.as_str() == expected, "{expected}");
+}
+
+#[test]
+fn amounts_and_rates(rt: HostRuntime) {
+    is_printed(&rt, Cents::new(5), "0.05");
+    is_printed(&rt, Cents::new(-5), "-0.05");
+    is_printed(&rt, Cents::new(i64::MIN), "-92233720368547758.08");
+    is_printed(&rt, Rate::new(1), "0.0001");
+    is_printed(&rt, Rate::new(9999), "0.9999");
+}
+
+#[test]
+fn faults_and_refusals(rt: HostRuntime) {
+    is_printed(&rt, AmountFault::Shape, "Shape");
+    is_printed(&rt, AmountFault::Range, "Range");
+    is_printed(&rt, TextFault::TooLong, "TooLong");
+    is_printed(&rt, Refusal::Stranger(3), "Stranger 3");
+    is_printed(&rt, Refusal::Count(Field::StockOrders), "Count StockOrders");
+}
