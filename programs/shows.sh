@@ -57,7 +57,7 @@ it 'screens among parts'     'script --show check --show screens' "@cat '$top/ex
 # ---- how such a script may end: the parts are those of the lines before the fault
 
 faulty="${first}payment 9 1 1 1 1 0.99 0\ncheck\n"
-of_faulty='== journal\npayment 1 1 1 1 1 1.00 0\n== report\nentries 1\npaid 1.00\nrise 1.00\n== check\nconsistent\n'
+of_faulty='@printf "== journal\npayment 1 1 1 1 1 1.00 0\n== report\nentries 1\npaid 1.00\nrise 1.00\n== check\nconsistent\n"'
 three='--show journal --show report --show check'
 it 'parts before a bad line'      "script $three" "${faulty}x\n$first"                      2 'fault 1 Bad 4' "$of_faulty"
 it 'parts before a cut line'      "script $three" "${faulty}check"                          2 'fault 2 Cut 4' "$of_faulty"
@@ -65,9 +65,9 @@ it 'parts before a long line'     "script $three" "@printf '$faulty'; times 4097
 it 'parts after 1,000,000 lines'  'script --show report' "@printf '$first'; times 1000000 'results\n'" 2 'fault 4 TooManyLines' \
     'entries 1\npaid 1.00\nrise 1.00\n'
 it 'screens before a bad line'    'script --show screens --show journal' 'check\nx\ncheck\n' 2 'fault 1 Bad 2' \
-    '== screens\nconsistent\n== journal\n'
+    '@printf "== screens\nconsistent\n== journal\n"'
 it 'parts of no script'           'script --show report --show results' ''                  0 '' \
-    '== report\nentries 0\npaid 0.00\nrise 0.00\n== results\n'
+    '@printf "== report\nentries 0\npaid 0.00\nrise 0.00\n== results\n"'
 it '16 parts of a script'         "script$(times 16 ' --show check')" ''                    0 '' "@times 16 '== check\nconsistent\n'"
 by 'parts before a failed read'   '"$tpcc" script --show check < / > stdout 2> stderr; echo $? > status' 3 'fault 5 Read' 'consistent\n'
 by 'a script'\''s parts to a full disk' 'printf "$first" | "$tpcc" script --show journal > /dev/full 2> stderr; echo ${PIPESTATUS[1]} > status' \
