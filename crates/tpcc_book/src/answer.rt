@@ -19,7 +19,8 @@ impl<P> Model for Answer<P> {
 
     ghost Value = { Told P };
 
-    ghost view = { λ a. record { request = a.request; outcome = a.outcome; place = a.place; purse = a.purse } };
+    ghost view = { λ a.
+        record { request = a.request; outcome = a.outcome; place = a.place; purse = a.purse } };
 }
 
 impl<P> Answer<P> {
@@ -29,7 +30,8 @@ impl<P> Answer<P> {
         place: Option<u64>,
         purse: P,
     ) -> Answer<P>
-        ensures { result ≡ record { request = request; outcome = outcome; place = place; purse = purse } }
+        ensures { result
+            ≡ record { request = request; outcome = outcome; place = place; purse = purse } }
     {
         Answer {
             request,

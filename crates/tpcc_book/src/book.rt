@@ -36,7 +36,8 @@ impl<N: Naming> Model for Book<N> {
 
     ghost view = { λ b. b.register };
 
-    ghost invariant = { λ b. (b.entries.total ≡ length b.register.entries) × (pos b.cents.total ≡ rise_of b.register) };
+    ghost invariant = { λ b. (b.entries.total ≡ length b.register.entries)
+        × (pos b.cents.total ≡ rise_of b.register) };
 }
 
 impl<N: Naming> Book<N> {
@@ -50,7 +51,8 @@ impl<N: Naming> Book<N> {
         requires entries { blanks.entries.name ≡ N.entries }
         requires cents { blanks.cents.name ≡ N.cents }
         ensures book { IfOk result (λ r. r.0 ≡ opened opening.now) }
-        ensures purse { IfOk result (λ r. r.1 ≡ record { terminal = 0; entries = 0; paid = pos 0; room = 10000 }) }
+        ensures purse { IfOk result (λ r.
+            r.1 ≡ record { terminal = 0; entries = 0; paid = pos 0; room = 10000 }) }
     {
         let register = Register::start(alloc, opening)?;
         let (entries, entry_share) = blanks.entries.open::<Entries<N>>();
@@ -140,7 +142,8 @@ impl<N: Naming> Book<N> {
     pub fn gather(&mut self, purses: Vec<Purse<N>>) -> (u64, Cents)
         requires all_there { rooms_of purses.items ≡ 10001 }
         ensures same { self.new ≡ self.old }
-        ensures entries { (result.0 ≡ entries_of purses.items) × (result.0 ≡ length self.old.entries) }
+        ensures entries { (result.0 ≡ entries_of purses.items)
+            × (result.0 ≡ length self.old.entries) }
         ensures paid { (result.1 ≡ paid_of purses.items) × (result.1 ≡ rise_of self.old) }
     {
         let mut rest = purses;

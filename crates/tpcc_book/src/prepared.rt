@@ -35,7 +35,9 @@ pub(crate) fn prepare(
     ensures ready { IfOk result (IsReady (state_of tables.old queue.old) request.now) }
     ensures accepted { OnOk result (refusal (state_of tables.old queue.old) request.now ≡ None) }
     ensures room { IfOk result (HasRoom (room_in tables.new queue.new)) }
-    ensures refused { IfErr result (λ first. option_or (refusal (state_of tables.old queue.old) request.now) (Some Refusal.NoMemory) ≡ Some first) }
+    ensures refused { IfErr result (λ first.
+        option_or (refusal (state_of tables.old queue.old) request.now) (Some Refusal.NoMemory)
+        ≡ Some first) }
 {
     match request {
         Request::NewOrder(order) => match tpcc_new_order::prepare(tables, order) {
@@ -62,11 +64,14 @@ pub(crate) fn prepare(
 #[tactic(auto, unfolding(tpcc_rows::specs::Turn::state_after, tpcc_rows::specs::Turn::reply_to, crate::specs::Ready::IsReady, crate::specs::Ready::HasRoom))]
 /// Writes what was prepared on the same rows and tickets, and gives the reply. Takes no memory.
 pub(crate) fn finish(tables: &mut Tables, queue: &mut Queue, prepared: &Prepared) -> Reply
-    requires ready { (request : Request) × IsReady (state_of tables.old queue.old) request prepared.now }
+    requires ready { (request : Request)
+        × IsReady (state_of tables.old queue.old) request prepared.now }
     requires room { HasRoom (room_in tables.old queue.old) prepared.now }
-    ensures state { (request : Request) → IsReady (state_of tables.old queue.old) request prepared.now
+    ensures state { (request : Request)
+        → IsReady (state_of tables.old queue.old) request prepared.now
         → state_of tables.new queue.new ≡ state_after (state_of tables.old queue.old) request }
-    ensures reply { (request : Request) → IsReady (state_of tables.old queue.old) request prepared.now
+    ensures reply { (request : Request)
+        → IsReady (state_of tables.old queue.old) request prepared.now
         → result ≡ reply_to (state_of tables.old queue.old) request }
 {
     match prepared {

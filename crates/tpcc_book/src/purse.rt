@@ -29,9 +29,12 @@ impl<N: Naming> Model for Purse<N> {
 
     ghost Value = { Held };
 
-    ghost view = { λ p. record { terminal = p.terminal; entries = p.entries; paid = pos p.cents; room = p.room } };
+    ghost view = { λ p.
+        record { terminal = p.terminal; entries = p.entries; paid = pos p.cents; room = p.room } };
 
-    ghost invariant = { λ p. (p.entry_share.parts ≡ p.room + 1) × (p.entry_share.amount ≡ p.entries) × (p.cent_share.parts ≡ p.room + 1) × (p.cent_share.amount ≡ p.cents) × (p.room ≤ 10000) × (p.cents < 2 ^ 63) };
+    ghost invariant = { λ p. (p.entry_share.parts ≡ p.room + 1) × (p.entry_share.amount ≡ p.entries)
+        × (p.cent_share.parts ≡ p.room + 1) × (p.cent_share.amount ≡ p.cents) × (p.room ≤ 10000)
+        × (p.cents < 2 ^ 63) };
 }
 
 impl<N: Naming> Purse<N> {

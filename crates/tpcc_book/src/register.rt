@@ -34,9 +34,19 @@ impl Model for Register {
 
     ghost Value = { Past };
 
-    ghost view = { λ r. record { opening = r.opening; state = record { rows = r.tables.rows; queue = r.queue.tickets }; entries = r.journal.entries } };
+    ghost view = { λ r.
+        record {
+          opening = r.opening;
+          state = record { rows = r.tables.rows; queue = r.queue.tickets };
+          entries = r.journal.entries;
+        } };
 
-    ghost invariant = { λ r. IsRegistered r.opening_year_to_date (record { opening = r.opening; state = record { rows = r.tables.rows; queue = r.queue.tickets }; entries = r.journal.entries }) };
+    ghost invariant = { λ r.
+        IsRegistered r.opening_year_to_date (record {
+          opening = r.opening;
+          state = record { rows = r.tables.rows; queue = r.queue.tickets };
+          entries = r.journal.entries;
+        }) };
 }
 
 impl Register {
@@ -141,8 +151,10 @@ impl Register {
         terminal: u32,
         number: u64,
     ) -> Result<(Reply, u64), Refusal>
-        ensures ok { IfOk result (λ r. Accepts self.old terminal number request.now (Some r.1) self.new r.0) }
-        ensures err { IfErr result (λ e. Refuses self.old terminal number request.now None self.new e) }
+        ensures ok { IfOk result (λ r.
+            Accepts self.old terminal number request.now (Some r.1) self.new r.0) }
+        ensures err { IfErr result (λ e.
+            Refuses self.old terminal number request.now None self.new e) }
     {
         let ready = make_ready(
             &mut self.tables,

@@ -59,8 +59,13 @@ fn decide(
     requires stocked { IsStocked tables.old.rows }
     ensures rows { tables.new.rows ≡ tables.old.rows }
     ensures tickets { queue.new.tickets ≡ queue.old.tickets }
-    ensures ready { IfOk result (CanFinish (state_of tables.old queue.old) journal.now.entries terminal number request.now (room_in tables.new queue.new)) }
-    ensures refused { IfErr result (λ r. option_or (turn_refusal (state_of tables.old queue.old) journal.now.entries terminal number request.now) (Some Refusal.NoMemory) ≡ Some r) }
+    ensures ready { IfOk result
+        (CanFinish (state_of tables.old queue.old) journal.now.entries terminal number request.now
+        (room_in tables.new queue.new)) }
+    ensures refused { IfErr result (λ r.
+        option_or (turn_refusal
+        (state_of tables.old queue.old) journal.now.entries terminal number request.now)
+        (Some Refusal.NoMemory) ≡ Some r) }
 {
     let prepared = prepare(tables, queue, request);
     by_order(journal_refusal(journal, terminal, number), prepared)
@@ -107,10 +112,15 @@ pub(crate) fn make_ready(
     ensures rows { tables.new.rows ≡ tables.old.rows }
     ensures tickets { queue.new.tickets ≡ queue.old.tickets }
     ensures entries { journal.new.entries ≡ journal.old.entries }
-    ensures ready { IfOk result (λ r. CanFinish (state_of tables.old queue.old) journal.old.entries terminal number request.now (room_in tables.new queue.new) r.prepared) }
+    ensures ready { IfOk result (λ r.
+        CanFinish (state_of tables.old queue.old) journal.old.entries terminal number request.now
+        (room_in tables.new queue.new) r.prepared) }
     ensures copy { IfOk result (λ r. r.copy ≡ request.now) }
     ensures room { OnOk result (0 < journal.new.room) }
-    ensures refused { IfErr result (λ r. option_or (turn_refusal (state_of tables.old queue.old) journal.old.entries terminal number request.now) (Some Refusal.NoMemory) ≡ Some r) }
+    ensures refused { IfErr result (λ r.
+        option_or (turn_refusal
+        (state_of tables.old queue.old) journal.old.entries terminal number request.now)
+        (Some Refusal.NoMemory) ≡ Some r) }
 {
     let prepared = decide(tables, queue, journal, request, terminal, number)?;
     let copy = copied(request)?;
@@ -130,8 +140,16 @@ pub(crate) fn commit(
     requires prepared { IsReady (state_of tables.old queue.old) ready.copy ready.prepared }
     requires room { HasRoom (room_in tables.old queue.old) ready.prepared }
     requires entry { 0 < journal.old.room }
-    ensures state { state_of tables.new queue.new ≡ state_after (state_of tables.old queue.old) ready.copy }
-    ensures entries { journal.new.entries ≡ journal.old.entries ++ record { terminal = terminal; number = number; request = ready.copy; reply = reply_to (state_of tables.old queue.old) ready.copy } ∷ [] }
+    ensures state { state_of tables.new queue.new
+        ≡ state_after (state_of tables.old queue.old) ready.copy }
+    ensures entries { journal.new.entries
+        ≡ journal.old.entries
+        ++ record {
+          terminal = terminal;
+          number = number;
+          request = ready.copy;
+          reply = reply_to (state_of tables.old queue.old) ready.copy;
+        } ∷ [] }
     ensures reply { result.0 ≡ reply_to (state_of tables.old queue.old) ready.copy }
     ensures place { result.1 ≡ length journal.old.entries }
 {

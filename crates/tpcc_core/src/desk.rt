@@ -35,7 +35,14 @@ impl<N: Naming> Model for Desk<N> {
 
     ghost Value = { DeskNow };
 
-    ghost view = { λ d. record { book = d.book; first = d.first; seats = d.seats.items; hands = d.servers.items; closed = d.closed } };
+    ghost view = { λ d.
+        record {
+          book = d.book;
+          first = d.first;
+          seats = d.seats.items;
+          hands = d.servers.items;
+          closed = d.closed;
+        } };
 }
 
 // The index of what has this number; the first has number 1.
@@ -126,7 +133,8 @@ impl<N: Naming> Desk<N> {
 
     fn post(&mut self, terminal: u32, request: Request) -> Result<(), CoreFault>
         ensures posted { OnOk result (IsPostedAt self.old terminal request self.new) }
-        ensures not_ready { IsErrOf result CoreFault.NotReady ↔ (can_post self.old terminal ≡ false) }
+        ensures not_ready { IsErrOf result CoreFault.NotReady
+            ↔ (can_post self.old terminal ≡ false) }
         ensures ready { OnOk result (can_post self.old terminal ≡ true) }
         ensures same { OnErr result (self.new ≡ self.old) }
     {
@@ -246,7 +254,8 @@ impl<N: Naming> Desk<N> {
     fn go(&mut self, event: Event) -> bool
         ensures went { result ≡ true → Moves self.old event self.new }
         ensures same { result ≡ false → self.new ≡ self.old }
-        ensures memory { result ≡ false → (is_ready self.old event ≡ true) × (is_post event ≡ true) }
+        ensures memory { result ≡ false → (is_ready self.old event ≡ true)
+            × (is_post event ≡ true) }
     {
         !matches!(self.step(event), Err(CoreFault::NoMemory))
     }

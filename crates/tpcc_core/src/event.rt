@@ -1,4 +1,7 @@
 //! The six events of a desk.
+ghost use Rattle.std.specs.List.{list_all};
+ghost use Rattle.std.specs.Prelude.{◌≡◌, true};
+ghost use Rattle.tpcc_core.specs.After.{is_in_range};
 
 use tpcc_rows::Request;
 
@@ -17,4 +20,24 @@ pub enum Event {
     Collect { terminal: u32 },
     /// The closed flag goes up. It stops nothing.
     Close,
+}
+
+impl Event {
+    /// A posted request's moment is in its range, as each [`tpcc_money::Moment`] is.
+    pub fn moment_in_range(&self)
+        ensures moment { is_in_range self.now ≡ true }
+    {
+        if let Event::Post { request, .. } = self {
+            request.moment_in_range();
+        }
+    }
+}
+
+/// The moments of all posted requests are in their range, as the laws of [`crate::laws`] ask of a list of events.
+pub fn moments_in_range(events: &[Event])
+    ensures moments { list_all is_in_range events.now ≡ true }
+{
+    for event in events {
+        event.moment_in_range();
+    }
 }

@@ -35,37 +35,50 @@ pub fn book_is_kept(opening: Opening)
 /// A letter or its answer is in one place alone, at most one of a terminal and one in a hand. So an Answer is ready
 /// exactly where the server's hand holds an answer.
 pub fn letters_are_apart()
-    ensures apart { (opening : Opening) (terminals servers : ℕ) (events : List Event) (desk : DeskNow)
+    ensures apart { (opening : Opening) (terminals servers : ℕ) (events : List Event)
+        (desk : DeskNow)
         → After opening terminals servers events desk → IsOrdered desk }
-    ensures answers { (opening : Opening) (terminals servers : ℕ) (events : List Event) (desk : DeskNow)
-        → After opening terminals servers events desk → (server : ℕ) → can_answer desk server ≡ tests_at holds_answer desk.hands server }
+    ensures answers { (opening : Opening) (terminals servers : ℕ) (events : List Event)
+        (desk : DeskNow)
+        → After opening terminals servers events desk → (server : ℕ)
+        → can_answer desk server ≡ tests_at holds_answer desk.hands server }
 {}
 
 /// A terminal's requests are served once each and in posting order: all that it posted, or all but the last, which
 /// is then under way.
 pub fn requests_are_served_in_order()
-    ensures order { (opening : Opening) (terminals servers : ℕ) (events : List Event) (desk : DeskNow) (after : After opening terminals servers events desk) (terminal : ℕ)
-        → IsAllOrAllButLast (map (λ answer. answer.request) (served after terminal)) (posted after terminal) }
-    ensures last { (opening : Opening) (terminals servers : ℕ) (events : List Event) (desk : DeskNow) (after : After opening terminals servers events desk) (terminal : ℕ)
-        → posted after terminal ≡ map (λ answer. answer.request) (served after terminal) ++ unserved (under_way desk terminal) }
+    ensures order { (opening : Opening) (terminals servers : ℕ) (events : List Event)
+        (desk : DeskNow) (after : After opening terminals servers events desk) (terminal : ℕ)
+        → IsAllOrAllButLast (map (λ answer. answer.request) (served after terminal))
+        (posted after terminal) }
+    ensures last { (opening : Opening) (terminals servers : ℕ) (events : List Event)
+        (desk : DeskNow) (after : After opening terminals servers events desk) (terminal : ℕ)
+        → posted after terminal
+        ≡ map (λ answer. answer.request) (served after terminal)
+        ++ unserved (under_way desk terminal) }
 {}
 
 /// A terminal has collected all its answers, or all but the last, which is then under way.
 pub fn answers_are_collected_in_order()
-    ensures order { (opening : Opening) (terminals servers : ℕ) (events : List Event) (desk : DeskNow) (after : After opening terminals servers events desk) (terminal : ℕ)
+    ensures order { (opening : Opening) (terminals servers : ℕ) (events : List Event)
+        (desk : DeskNow) (after : After opening terminals servers events desk) (terminal : ℕ)
         → IsAllOrAllButLast (collected_of desk terminal) (served after terminal) }
-    ensures last { (opening : Opening) (terminals servers : ℕ) (events : List Event) (desk : DeskNow) (after : After opening terminals servers events desk) (terminal : ℕ)
+    ensures last { (opening : Opening) (terminals servers : ℕ) (events : List Event)
+        (desk : DeskNow) (after : After opening terminals servers events desk) (terminal : ℕ)
         → served after terminal ≡ collected_of desk terminal ++ waiting (under_way desk terminal) }
 {}
 
 /// A terminal's entries in the journal are its accepted requests with their replies, in the order of serving and numbered
 /// 0, 1, 2 and so on. Each accepted answer, collected or under way, is that of the entry at its place.
 pub fn entries_are_accepted_requests()
-    ensures entries { (opening : Opening) (terminals servers : ℕ) (events : List Event) (desk : DeskNow) (after : After opening terminals servers events desk) (terminal : ℕ)
+    ensures entries { (opening : Opening) (terminals servers : ℕ) (events : List Event)
+        (desk : DeskNow) (after : After opening terminals servers events desk) (terminal : ℕ)
         → entries_by terminal desk.book.entries ≡ entries_from terminal 0 (served after terminal) }
-    ensures served { (opening : Opening) (terminals servers : ℕ) (events : List Event) (desk : DeskNow) (after : After opening terminals servers events desk) (terminal : ℕ)
+    ensures served { (opening : Opening) (terminals servers : ℕ) (events : List Event)
+        (desk : DeskNow) (after : After opening terminals servers events desk) (terminal : ℕ)
         → All (IsRecorded desk.book.entries terminal) (served after terminal) }
-    ensures collected { (opening : Opening) (terminals servers : ℕ) (events : List Event) (desk : DeskNow) (after : After opening terminals servers events desk) (terminal : ℕ)
+    ensures collected { (opening : Opening) (terminals servers : ℕ) (events : List Event)
+        (desk : DeskNow) (after : After opening terminals servers events desk) (terminal : ℕ)
         → All (IsRecorded desk.book.entries terminal) (collected_of desk terminal) }
 {}
 
@@ -80,9 +93,12 @@ pub fn purses_add_up(opening: Opening)
 
 /// A run over more events goes on where the one before it ended.
 pub fn events_follow()
-    ensures start { (opening : Opening) (terminals servers : ℕ) → (1 ≤ terminals) × (terminals ≤ 10000) → 1 ≤ servers
+    ensures start { (opening : Opening) (terminals servers : ℕ) → (1 ≤ terminals)
+        × (terminals ≤ 10000) → 1 ≤ servers
         → After opening terminals servers [] (started opening terminals servers) }
-    ensures more { (opening : Opening) (terminals servers : ℕ) (events later : List Event) (desk last : DeskNow)
-        → After opening terminals servers events desk → list_all is_in_range later ≡ true → Passes desk later last
+    ensures more { (opening : Opening) (terminals servers : ℕ) (events later : List Event)
+        (desk last : DeskNow)
+        → After opening terminals servers events desk → list_all is_in_range later ≡ true
+        → Passes desk later last
         → After opening terminals servers (events ++ later) last }
 {}

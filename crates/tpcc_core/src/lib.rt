@@ -11,6 +11,6 @@ mod seat;
 mod server;
 
 pub use desk::Desk;
-pub use event::Event;
+pub use event::{Event, moments_in_range};
 pub use fault::CoreFault;
 pub use mailbox::{Collected, Hand, Letter, Mailbox};

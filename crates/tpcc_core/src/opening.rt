@@ -17,7 +17,8 @@ pub(crate) fn seats<N: Naming>(
     requires first { first.old ≡ record { terminal = 0; entries = 0; paid = pos 0; room = 10000 } }
     requires terminals { terminals ≤ 10000 }
     ensures seats { IfOk result (λ seats. seats.items ≡ seats_of terminals) }
-    ensures first { OnOk result (first.new ≡ record { terminal = 0; entries = 0; paid = pos 0; room = 10000 - terminals }) }
+    ensures first { OnOk result (first.new
+        ≡ record { terminal = 0; entries = 0; paid = pos 0; room = 10000 - terminals }) }
 {
     let Ok(mut seats) = Vec::with_capacity(alloc, terminals as usize) else {
         return Err(NoMemory);

@@ -83,7 +83,8 @@ impl<P: Drop> Seat<P> {
 
     /// The purse goes into the mailbox with a request.
     pub(crate) fn post(&mut self, request: Request) -> Result<(), CoreFault>
-        ensures posted { OnOk result (self.new ≡ record self.old { mailbox = sent self.old.mailbox request }) }
+        ensures posted { OnOk result (self.new
+            ≡ record self.old { mailbox = sent self.old.mailbox request }) }
         ensures not_ready { IsErrOf result CoreFault.NotReady ↔ (is_free self.old.mailbox ≡ false) }
         ensures ready { OnOk result (is_free self.old.mailbox ≡ true) }
         ensures same { OnErr result (self.new ≡ self.old) }

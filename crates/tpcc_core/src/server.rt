@@ -59,7 +59,8 @@ impl<P: Drop> Server<P> {
 
     /// The letter that is to be served, with its terminal.
     pub(crate) fn release(&mut self) -> Option<(u32, Letter<P>)>
-        ensures released { IfSome result (λ r. (self.old ≡ Hand.Holds r.0 r.1) × (self.new ≡ Hand.Empty)) }
+        ensures released { IfSome result (λ r. (self.old ≡ Hand.Holds r.0 r.1)
+            × (self.new ≡ Hand.Empty)) }
         ensures ready { is_some result ≡ holds_letter self.old }
         ensures same { IfNone result (self.new ≡ self.old) }
     {

@@ -27,7 +27,9 @@ impl<N: Naming> Model for Pool<N> {
 
     ghost view = { λ p. record { parts = p.parts; entries = p.entries; paid = pos p.cents } };
 
-    ghost invariant = { λ p. (p.entry_share.parts ≡ p.parts) × (p.entry_share.amount ≡ p.entries) × (p.cent_share.parts ≡ p.parts) × (p.cent_share.amount ≡ p.cents) × (p.parts ≤ 10001) × (p.entries ≤ p.parts * 2 ^ 64) × (p.cents ≤ p.parts * 2 ^ 64) };
+    ghost invariant = { λ p. (p.entry_share.parts ≡ p.parts) × (p.entry_share.amount ≡ p.entries)
+        × (p.cent_share.parts ≡ p.parts) × (p.cent_share.amount ≡ p.cents) × (p.parts ≤ 10001)
+        × (p.entries ≤ p.parts * 2 ^ 64) × (p.cents ≤ p.parts * 2 ^ 64) };
 }
 
 impl<N: Naming> Pool<N> {
@@ -87,8 +89,10 @@ impl<N: Naming> Pool<N> {
         requires all { self.parts ≡ 10001 }
         requires entries { entries.old.total < 9223372036854775808 }
         requires cents { cents.old.total < 9223372036854775808 }
-        ensures entries { (entries.new.total ≡ entries.old.total) × (result.0 ≡ self.entries) × (result.0 ≡ entries.old.total) }
-        ensures cents { (cents.new.total ≡ cents.old.total) × (result.1 ≡ self.paid) × (result.1 ≡ pos cents.old.total) }
+        ensures entries { (entries.new.total ≡ entries.old.total) × (result.0 ≡ self.entries)
+            × (result.0 ≡ entries.old.total) }
+        ensures cents { (cents.new.total ≡ cents.old.total) × (result.1 ≡ self.paid)
+            × (result.1 ≡ pos cents.old.total) }
     {
         let Pool {
             parts: _,

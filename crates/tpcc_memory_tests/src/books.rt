@@ -1,0 +1,84 @@
+//! A book that is started, serves a request of each kind, and shows its answers and its log.
+ghost use Rattle.std.specs.Prelude.{◌≡◌};
+
+use crate::asked::{opening, requests};
+use std::alloc::{AllocGlobal, Global};
+use std::marker::Brand;
+use std::process::Abort;
+use tpcc_book::{Answer, Blanks, Book, Naming, Purse};
+use tpcc_conditions::check;
+use tpcc_journal::results;
+use tpcc_money::NoMemory;
+use tpcc_rows::{Refusal, Request};
+use tpcc_terminal::screen;
+
+#[test]
+fn a_book_serves_each_kind_of_request(rt: HostRuntime) {
+    if told(&rt, rt.alloc()).is_err() {
+        assert!(rt; told(&rt, rt.alloc()).is_ok());
+    }
+}
+
+fn told<R: Abort + AllocGlobal>(rt: &R, alloc: Global) -> Result<(), NoMemory> {
+    at_book::<Brand, R>(rt, alloc, Blanks::new())
+}
+
+fn at_book<N: Naming, R: Abort + AllocGlobal>(
+    rt: &R,
+    alloc: Global,
+    blanks: Blanks,
+) -> Result<(), NoMemory>
+    requires entries { blanks.entries.name ≡ N.entries }
+    requires cents { blanks.cents.name ≡ N.cents }
+{
+    let (book, purse) = Book::<N>::start(alloc, &opening(rt), blanks)?;
+    serve_all(rt, alloc, book, purse);
+    Ok(())
+}
+
+fn serve_all<N: Naming, R: Abort + AllocGlobal>(
+    rt: &R,
+    alloc: Global,
+    book: Book<N>,
+    purse: Purse<N>,
+) {
+    let mut book = book;
+    let mut purse = purse;
+    for request in requests(rt) {
+        purse = serve_one(rt, alloc, &mut book, purse, request);
+    }
+    assert!(rt; purse.entries() == 6 && book.journal().len() == 6);
+    assert!(rt; check(book.tables()).is_ok());
+    if results(alloc, book.journal()).is_err() {
+        assert!(rt; results(alloc, book.journal()).is_ok());
+    }
+}
+
+/// A request that is refused memory is served again.
+fn serve_one<N: Naming, R: Abort>(
+    rt: &R,
+    alloc: Global,
+    book: &mut Book<N>,
+    purse: Purse<N>,
+    request: Request,
+) -> Purse<N> {
+    let entries = book.journal().len();
+    let answer = book.serve(request, purse);
+    if answer.outcome().is_ok() {
+        return shown(rt, alloc, answer);
+    }
+    assert!(rt; matches!(answer.outcome(), Err(Refusal::NoMemory)));
+    assert!(rt; book.journal().len() == entries && check(book.tables()).is_ok());
+    let (request, _, _, purse) = answer.into_parts();
+    shown(rt, alloc, book.serve(request, purse))
+}
+
+/// The purse of an accepted answer, whose screen can be had.
+fn shown<P, R: Abort>(rt: &R, alloc: Global, answer: Answer<P>) -> P {
+    assert!(rt; answer.outcome().is_ok());
+    if screen(alloc, &answer).is_err() {
+        assert!(rt; screen(alloc, &answer).is_ok());
+    }
+    let (_, _, _, purse) = answer.into_parts();
+    purse
+}

@@ -1,0 +1,141 @@
+//! Openings, rows that are loaded, and transactions.
+ghost use Rattle.tpcc_rows.specs.WellKeyed.{IsStocked};
+
+use crate::asked::{BEFORE, opening, order, payment, ticket};
+use std::alloc::AllocGlobal;
+use std::process::Abort;
+use tpcc_audit::{DumpFault, dump};
+use tpcc_conditions::check;
+use tpcc_delivery::{Queue, deliver_next, queue};
+use tpcc_money::{Cents, Moment};
+use tpcc_new_order::enter;
+use tpcc_payment::pay;
+use tpcc_population::{fill, opening_is_sound};
+use tpcc_rows::{Entered, Order, Refusal, Row, RowRef, Table};
+use tpcc_tables::{LoadFault, Tables};
+
+fn filled(rt: &(impl Abort + AllocGlobal)) -> Tables
+    ensures stocked { IsStocked result.rows }
+{
+    let opening = opening(rt);
+    opening_is_sound(opening);
+    fill(rt.alloc(), &opening).expect(rt, BEFORE)
+}
+
+#[test]
+fn an_opening_is_filled(rt: HostRuntime) {
+    let tables = match fill(rt.alloc(), &opening(&rt)) {
+        Ok(tables) => tables,
+        Err(_) => fill(rt.alloc(), &opening(&rt)).expect(&rt, "an opening"),
+    };
+    assert!(rt; check(&tables).is_ok());
+    assert!(rt; tables.count(Table::OrderLine) == 500);
+}
+
+fn copied(row: RowRef<'_>) -> Row {
+    match row {
+        RowRef::Warehouse(row) => Row::Warehouse(*row),
+        RowRef::District(row) => Row::District(*row),
+        RowRef::Customer(row) => Row::Customer(*row),
+        RowRef::History(row) => Row::History(*row),
+        RowRef::Order(row) => Row::Order(*row),
+        RowRef::OrderLine(row) => Row::OrderLine(*row),
+        RowRef::NewOrder(row) => Row::NewOrder(row),
+        RowRef::Item(row) => Row::Item(*row),
+        RowRef::Stock(row) => Row::Stock(*row),
+    }
+}
+
+/// A refused row comes back, its table is as long as before, and takes it then.
+fn load(rt: &impl Abort, tables: &mut Tables, table: Table, row: Row) {
+    let count = tables.count(table);
+    if let Err((back, fault)) = tables.load(row) {
+        assert!(rt; fault == LoadFault::NoMemory && back == row);
+        assert!(rt; tables.count(table) == count);
+        assert!(rt; tables.load(back).is_ok());
+    }
+}
+
+/// Each table behind those whose rows its own rows name.
+const OWNERS_FIRST: [Table; 9] = [
+    Table::Warehouse,
+    Table::District,
+    Table::Customer,
+    Table::History,
+    Table::Item,
+    Table::Stock,
+    Table::Order,
+    Table::OrderLine,
+    Table::NewOrder,
+];
+
+#[test]
+fn rows_are_loaded(rt: HostRuntime) {
+    let from = filled(&rt);
+    let mut tables = Tables::empty(rt.alloc());
+    for table in OWNERS_FIRST {
+        for place in 0..from.count(table) {
+            let row = copied(from.row(table, place).expect(&rt, "a row"));
+            load(&rt, &mut tables, table, row);
+        }
+    }
+    assert!(rt; check(&tables).is_ok());
+}
+
+fn is_accepted(entered: Result<Entered, Refusal>) -> bool {
+    matches!(entered, Ok(Entered::Accepted(_)))
+}
+
+fn enter_one(rt: &impl Abort, tables: &mut Tables, order: &Order)
+    requires stocked { IsStocked tables.old.rows }
+{
+    let entered = enter(tables, order);
+    if let Err(refusal) = entered {
+        assert!(rt; refusal == Refusal::NoMemory);
+        assert!(rt; tables.count(Table::Order) == 100 && check(tables).is_ok());
+        assert!(rt; is_accepted(enter(tables, order)));
+    }
+}
+
+#[test]
+fn an_order_is_entered(rt: HostRuntime) {
+    let mut tables = filled(&rt);
+    let order = order(&rt);
+    enter_one(&rt, &mut tables, &order);
+    assert!(rt; tables.count(Table::OrderLine) == 505 && check(&tables).is_ok());
+}
+
+#[test]
+fn a_payment_is_made(rt: HostRuntime) {
+    let mut tables = filled(&rt);
+    if let Err(refusal) = pay(&mut tables, &payment()) {
+        assert!(rt; refusal == Refusal::NoMemory);
+        assert!(rt; tables.count(Table::History) == 100 && check(&tables).is_ok());
+        assert!(rt; pay(&mut tables, &payment()).is_ok());
+    }
+    let balance = tables.customer(1, 1, 1).map(|row| row.balance);
+    assert!(rt; balance == Some(Cents::new(-1_100)) && check(&tables).is_ok());
+}
+
+#[test]
+fn a_ticket_is_queued_and_runs(rt: HostRuntime) {
+    let mut tables = filled(&rt);
+    let mut waiting = Queue::new(rt.alloc());
+    if let Err(refusal) = queue(&tables, &mut waiting, ticket()) {
+        assert!(rt; refusal == Refusal::NoMemory && waiting.len() == 0);
+        assert!(rt; queue(&tables, &mut waiting, ticket()).is_ok());
+    }
+    assert!(rt; deliver_next(&mut tables, &mut waiting, Moment::new(120)).is_ok());
+    assert!(rt; tables.count(Table::NewOrder) == 29 && check(&tables).is_ok());
+}
+
+#[test]
+fn a_table_is_dumped(rt: HostRuntime) {
+    let tables = filled(&rt);
+    match dump(rt.alloc(), &tables, Table::Item, Vec::new(rt.alloc())) {
+        Ok(text) => assert!(rt; !text.is_empty()),
+        Err(DumpFault::NoMemory | DumpFault::Write) => {
+            assert!(rt; dump(rt.alloc(), &tables, Table::Item, Vec::new(rt.alloc())).is_ok());
+        }
+    }
+}
