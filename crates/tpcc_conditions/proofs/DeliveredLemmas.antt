@@ -14,15 +14,15 @@ use Rattle.tpcc_laws.proofs.Numbers.{amount_within}
 use Rattle.tpcc_rows.proofs.Booleans.{split}
 use Rattle.tpcc_laws.proofs.RemoveLemmas.{found_passes}
 use Rattle.tpcc_tables.specs.Loads.{is_order_line, find_order_line}
-use Rattle.tpcc_lookups.specs.Found.{found_list}
-use Rattle.tpcc_lookups.proofs.LineLemmas.{lines_below, no_lines, all_lines, next_line}
+use Rattle.std.specs.Option.{option_to_list}
+use Rattle.tpcc_tables.proofs.LineLemmas.{lines_below, no_lines, all_lines, next_line}
 use Rattle.tpcc_conditions.specs.Delivered.{line_amount, found_amount}
 
 -- the sum over the lines with numbers below n
 abbrev pub amount_below : Rows → OrderRow → ℕ → ℤ
 amount_below rows o n = total line_amount (lines_below rows o.warehouse o.district o.id n)
 
-one_found : (l : Option OrderLineRow) → total line_amount (found_list l) ≡ found_amount l
+one_found : (l : Option OrderLineRow) → total line_amount (option_to_list l) ≡ found_amount l
 one_found None = refl
 one_found (Some l) = omega (arith, ints)
 
@@ -33,7 +33,7 @@ pub next_amount : (rows : Rows) (o : OrderRow) (n : ℕ) → IsWellKeyed rows �
 next_amount rows o n well =
     let found = find_order_line rows o.warehouse o.district o.id n in
     ap (total line_amount) (next_line rows o.warehouse o.district o.id n well)
-    ∙ total-append line_amount (lines_below rows o.warehouse o.district o.id n) (found_list found)
+    ∙ total-append line_amount (lines_below rows o.warehouse o.district o.id n) (option_to_list found)
     ∙ ap (λ z. amount_below rows o n +ℤ z) (one_found found)
 
 only_delivered : (p : OrderLineRow → Bool) (ls : List OrderLineRow) → total line_amount (filter p ls) ≡ total (λ l. l.amount) (filter (λ l. p l && is_some l.delivered) ls)

@@ -6,7 +6,6 @@ use Rattle.std.specs.Map.{lookup}
 use Rattle.std.proofs.lemmas.Int.{ints}
 use Rattle.std.proofs.lemmas.Bool.Decides.{nat_tests}
 use Rattle.std.specs.Prelude.{option_map}
-use Rattle.tpcc_rows.specs.declared.rows.HistoryRow.{HistoryRow}
 use Rattle.tpcc_rows.specs.Tables.{Rows, is_paid_by, is_line_of, is_order_of}
 use Rattle.std.proofs.Common.{subst}
 use Rattle.tpcc_conditions.specs.declared.measure.Measure.{Measure}

@@ -1,4 +1,2 @@
 mod QueueLemmas
-pub mod LineLemmas
-mod AmountLemmas
 mod RunLemmas

@@ -1,6 +1,5 @@
 -- 2.7.4: what a run that was prepared is, and what it leaves of the queue.
-use Rattle.std.specs.Prelude.{◌≡◌, ℕ, ◌+◌, ◌+ℤ◌, ℤ, pos, Bool, not, List, [], ◌∷◌, Option, Some, None}
-use Rattle.tpcc_rows.specs.declared.rows.OrderLineRow.{OrderLineRow}
+use Rattle.std.specs.Prelude.{◌≡◌, ℕ, ◌+◌, ◌+ℤ◌, ℤ, Bool, not, List, [], ◌∷◌, None}
 use Rattle.tpcc_rows.specs.declared.requests.QueuedTicket.{QueuedTicket}
 use Rattle.tpcc_rows.specs.declared.refusals.Refusal.{Refusal}
 use Rattle.tpcc_rows.specs.declared.refusals.Refusal.TheVariants.{Count, Total}
@@ -14,11 +13,6 @@ use Rattle.tpcc_delivery.specs.declared.runs.PreparedRun.{PreparedRun}
 abbrev pub queue_after_first : List QueuedTicket → List QueuedTicket
 queue_after_first [] = []
 queue_after_first (q ∷ queue) = queue_after_run q queue
-
--- OL_AMOUNT of a line, 0.00 where there is none
-abbrev pub amount_of : Option OrderLineRow → ℤ
-amount_of None = pos 0
-amount_of (Some l) = l.amount
 
 -- the tests of a customer who is charged an amount, of the columns themselves
 unfoldable pub charge_tests : ℤ → ℕ → ℤ → List (Bool × Refusal)

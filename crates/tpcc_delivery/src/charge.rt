@@ -6,7 +6,6 @@ ghost use Rattle.tpcc_rows.specs.Ranges.{is_balance, is_count};
 ghost use Rattle.tpcc_rows.specs.Tables.{customer_at, order_at};
 ghost use Rattle.tpcc_delivery.specs.Runs.{charge_tests};
 
-use crate::amount::order_amount;
 use tpcc_money::Cents;
 use tpcc_rows::{Field, Refusal};
 use tpcc_tables::tables::Tables;
@@ -73,7 +72,7 @@ fn order_refusal(tables: &Tables, warehouse: u32, district: u32, order: u32) -> 
     let customer = customer_of(tables, warehouse, district, order);
     let balance = balance_of(tables, warehouse, district, customer);
     let delivery_count = delivery_count_of(tables, warehouse, district, customer);
-    let amount = order_amount(tables, warehouse, district, order);
+    let amount = tables.order_amount(warehouse, district, order);
     charge_refusal(balance, delivery_count, amount)
 }
 

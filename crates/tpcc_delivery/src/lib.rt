@@ -1,7 +1,6 @@
 //! Delivery (2.7): the queue of tickets, and runs that deliver one district each.
 #![tactic(auto)]
 
-mod amount;
 mod charge;
 mod runs;
 mod tickets;

@@ -11,6 +11,7 @@ use Rattle.tpcc_laws.proofs.DeliveryKeys.{list_all-filter}
 use Rattle.tpcc_laws.proofs.ListLemmas.{list_all-updated}
 use Rattle.tpcc_keyed.specs.declared.parts.part.Part.{Part}
 use Rattle.tpcc_keyed.specs.Parts.{is_of}
+use Rattle.tpcc_keyed.specs.Runs.{is_line_between}
 use Rattle.tpcc_keyed.specs.PartWords.{owns}
 use Rattle.tpcc_keyed.proofs.KeyLemmas.{same_if_equal}
 use Rattle.tpcc_keyed.proofs.PartLemmas.{AsksFor}
@@ -33,6 +34,12 @@ line_asks w d o l e =
 
 pub line_is_of : (owner : DistrictKey) (o : ℕ) (l : OrderLineRow) → is_line_of owner.warehouse owner.district o l ≡ true → is_of owner (order_line_key l) ≡ true
 line_is_of owner o l e = same_if_equal (take 2 (order_line_key l)) (owner.warehouse ∷ owner.district ∷ []) (line_asks owner.warehouse owner.district o l e)
+
+pub between_is_of : (owner : DistrictKey) (a b : ℕ) (l : OrderLineRow) → is_line_between owner.warehouse owner.district a b l ≡ true → is_of owner (order_line_key l) ≡ true
+between_is_of owner a b l e =
+    let w : l.warehouse ≡ owner.warehouse = grind (arith, nat_tests) in
+    let d : l.district ≡ owner.district = grind (arith, nat_tests) in
+    same_if_equal (take 2 (order_line_key l)) (owner.warehouse ∷ owner.district ∷ []) (λ i. w i ∷ d i ∷ [])
 
 -- a part owns its rows after a change that keeps their keys
 pub owns_updated : {T : Type 0} (key : T → List ℕ) (q : T → Bool) (change : T → T) → ((x : T) → key (change x) ≡ key x) → (part changed : Part T) → changed.owner ≡ part.owner → owns key part ≡ true → changed.rows.items ≡ updated q change part.rows.items → owns key changed ≡ true

@@ -1,10 +1,10 @@
 -- The names of customers after a change of their table, and that the middle name is the chosen customer's.
 use Rattle.std.proofs.Common.{◌≡◌, ◌∙◌, ℕ, zero, suc, ◌+◌, ◌-◌, ◌/◌, ◌==◌, Bool, true, false, cond, List, [], ◌∷◌, length, map, refl, ap, sym, arith, Less, Equal, Greater, Some, None}
-use Rattle.std.specs.Prelude.{◌&&◌, not, filter, find, Option, option_map, slice_get, if◌then◌else◌}
+use Rattle.std.specs.Prelude.{◌&&◌, not, filter, Option, option_map, slice_get}
 use Rattle.std.specs.List.{list_all}
 use Rattle.std.specs.Option.{option_and_then}
 use Rattle.std.specs.declared.cmp.Ordering.{Ordering}
-use Rattle.std.specs.Ordering.{is_lt, is_eq, nat_cmp, ordering_then, then_cmp, on}
+use Rattle.std.specs.Ordering.{is_lt, is_eq, nat_cmp, ordering_then}
 use Rattle.std.specs.Cmp.{IsTotalOrder, IsStrictWeakOrder}
 use Rattle.std.specs.Cmp.Lexicographic.{slice_cmp}
 use Rattle.std.specs.Str.{bytes_eq}
@@ -16,13 +16,13 @@ use Rattle.tpcc_rows.specs.declared.rows.CustomerRow.{CustomerRow}
 use Rattle.tpcc_rows.specs.declared.requests.Who.TheVariants.{Name}
 use Rattle.tpcc_rows.specs.Lists.{updated, inserted, sorted, is_ascending}
 use Rattle.tpcc_rows.specs.Tables.{Rows, customers_in, customer_key, find_customer}
-use Rattle.tpcc_rows.specs.ChosenCustomer.{chosen_customer, customers_named, first_name_before}
+use Rattle.tpcc_rows.specs.ChosenCustomer.{chosen_customer, first_name_before}
 use Rattle.tpcc_laws.proofs.ListLemmas.{key-chosen}
 use Rattle.tpcc_laws.proofs.InsertLemmas.{length-inserted, list_all-inserted_all}
 use Rattle.tpcc_rows.proofs.Booleans.{split, both_true}
 use Rattle.tpcc_laws.proofs.ChosenRow.{chosen_row}
 use Rattle.tpcc_keyed.specs.declared.names.CustomerName.{CustomerName}
-use Rattle.tpcc_keyed.specs.Names.{last_cmp, name_cmp, name_before, name_of, names_of, is_in_order, is_named, middle_id}
+use Rattle.tpcc_keyed.specs.Names.{name_before, name_of, names_of, is_in_order, is_named, middle_id}
 use Rattle.tpcc_keyed.proofs.OrderLemmas.{in_order-inserted, in_order-filter, in_order-sorted, one_order, sorted_is, count-sorted}
 use Rattle.tpcc_keyed.proofs.NameLemmas.{last_both, last_total, name_order, names_tied, equal_is_named}
 

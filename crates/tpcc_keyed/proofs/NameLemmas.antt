@@ -1,6 +1,6 @@
 -- The order of names, and the names of one last name in it.
-use Rattle.std.proofs.Common.{◌≡◌, ◌∙◌, ℕ, ◌-◌, ◌≤◌, ◌==◌, Bool, true, false, List, [], ◌∷◌, length, take, drop, refl, ap, sym, arith, Less, Equal, Greater}
-use Rattle.std.specs.Prelude.{◌&&◌, not, filter, nat_lt}
+use Rattle.std.proofs.Common.{◌≡◌, ◌∙◌, ℕ, ◌-◌, ◌≤◌, ◌==◌, Bool, true, false, List, [], take, drop, refl, ap, sym, arith, Less, Equal, Greater}
+use Rattle.std.specs.Prelude.{◌&&◌, not, filter}
 use Rattle.std.specs.List.{prefix_len}
 use Rattle.std.specs.List.Sorted.{IsPartitionedBy}
 use Rattle.std.specs.declared.cmp.Ordering.{Ordering}

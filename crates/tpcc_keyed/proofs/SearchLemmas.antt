@@ -1,5 +1,5 @@
 -- Searches by halves in ascending rows.
-use Rattle.std.proofs.Common.{◌≡◌, ◌∙◌, ℕ, zero, suc, ◌+◌, ◌<◌, ◌≤◌, Bool, true, false, cond, List, [], ◌∷◌, refl, ap, sym, arith, slice_get, get_or, length, take, Some, None}
+use Rattle.std.proofs.Common.{◌≡◌, ◌∙◌, ℕ, zero, suc, ◌+◌, ◌-◌, ◌<◌, ◌≤◌, Bool, true, false, cond, List, [], ◌∷◌, refl, ap, sym, arith, slice_get, get_or, length, take, Some, None}
 use Rattle.std.specs.Prelude.{nat_lt, not, find, position}
 use Rattle.std.specs.List.{list_all, list_any, prefix_len, position_or_len}
 use Rattle.std.specs.List.Sorted.{IsPartitionPoint, IsPartitionedBy}
@@ -8,6 +8,7 @@ use Rattle.tpcc_rows.specs.Lists.{is_ascending, key_before, inserted, inserted_a
 use Rattle.tpcc_laws.proofs.OrderKeys.{key_before_trans}
 use Rattle.tpcc_laws.proofs.InsertLemmas.{list_all-inserted}
 use Rattle.tpcc_keyed.specs.Searches.{is_same_key}
+use Rattle.tpcc_keyed.proofs.KeyLemmas.{same_keys}
 use Rattle.tpcc_keyed.proofs.PlaceLemmas.{none_before}
 
 pub all_at : {X : Type 0} (test : X → Bool) (xs : List X) (j : ℕ) (d : X) → list_all test xs ≡ true → j < length xs → test (get_or xs j d) ≡ true
@@ -145,6 +146,38 @@ halves_past {X = X} columns k xs i up is at = sym (position_is_none (is_it colum
   where
     past : (y : X) → slice_get xs i ≡ Some y → is_it columns k y ≡ false
     past y f = cc
+
+-- the row of a key stands at one place alone
+stood : {X : Type 0} (columns : X → List ℕ) (k : List ℕ) (xs : List X) (i : ℕ) (o : X) → is_ascending columns xs ≡ true → slice_get xs i ≡ Some o → is_it columns k o ≡ true → position_or_len (is_it columns k) xs ≡ i
+stood columns k [] i o up at e = cc
+stood columns k (x ∷ xs) zero o up at e =
+    let same : x ≡ o = cc in
+    let here : is_it columns k x ≡ true = ap (is_it columns k) same ∙ e in
+    λ j. cond (not (here j)) (1 + position_or_len (is_it columns k) xs) 0
+stood columns k (x ∷ xs) (suc i) o up at e =
+    let rest : is_ascending columns xs ≡ true = grind arith in
+    let above : list_all (λ later. key_before (columns x) (columns later)) xs ≡ true = grind arith in
+    let there = at_place o xs i o at in
+    let before : key_before (columns x) (columns o) ≡ true = ap (λ y. key_before (columns x) (columns y)) there.1 ∙ all_at (λ later. key_before (columns x) (columns later)) xs i o above there.0 in
+    let other : is_it columns k x ≡ false = apart_before (columns x) k (ap (key_before (columns x)) (sym (same_keys (columns o) k e)) ∙ before) in
+    let next : 1 + i ≡ suc i = omega arith in
+    (λ j. cond (not (other j)) (1 + stood columns k xs i o rest at e j) 0) ∙ next
+
+pub guessed_there : {X : Type 0} (columns : X → List ℕ) (k : List ℕ) (xs : List X) (i : ℕ) (o : X) → is_ascending columns xs ≡ true → slice_get xs i ≡ Some o → is_it columns k o ≡ true → Some i ≡ position (is_it columns k) xs
+guessed_there columns k xs i o up at e = sym (position_is (is_it columns k) xs i (stood columns k xs i o up at e) (at_place o xs i o at).0)
+
+-- rows of which the last does not come after a key all stand before one that does
+pub all_in_front : {X : Type 0} (columns : X → List ℕ) (k : List ℕ) (xs : List X) (o : X) → is_ascending columns xs ≡ true → slice_get xs (length xs - 1) ≡ Some o → not (key_before k (columns o)) ≡ true → length xs ≡ prefix_len (λ x. not (key_before k (columns x))) xs
+all_in_front {X = X} columns k xs o up at e = place_is_prefix p xs (length xs) (omega arith) ((λ i d lo hi. not_after columns k xs up i (length xs - 1) d (omega arith) (within d) (passes d)), (λ i d lo hi. absurd (omega arith)))
+  where
+    p : X → Bool
+    p x = not (key_before k (columns x))
+
+    within : (d : X) → length xs - 1 < length xs
+    within d = (at_place d xs (length xs - 1) o at).0
+
+    passes : (d : X) → p (get_or xs (length xs - 1) d) ≡ true
+    passes d = sym (ap p (at_place d xs (length xs - 1) o at).1) ∙ e
 
 pub some_at : {X : Type 0} (xs : List X) (i : ℕ) (o : X) → true ≡ nat_lt i (length xs) → o ≡ get_or xs i o → slice_get xs i ≡ Some o
 some_at [] i o lt e = grind (arith, nat_tests)

@@ -1,6 +1,6 @@
 -- Rows that lie side by side: those past one front of a list and within another.
 use Rattle.std.proofs.Common.{◌≡◌, ◌∙◌, ℕ, zero, suc, ◌+◌, ◌-◌, ◌<◌, ◌≤◌, Bool, true, false, cond, List, [], ◌∷◌, ◌++◌, length, take, drop, get_or, set, map, refl, ap, sym, arith}
-use Rattle.std.specs.Prelude.{◌&&◌, not, filter, if◌then◌else◌}
+use Rattle.std.specs.Prelude.{◌&&◌, not, filter}
 use Rattle.std.specs.List.{prefix_len, list_any}
 use Rattle.std.specs.List.Sorted.{IsPartitionedBy}
 use Rattle.tpcc_rows.specs.Lists.{updated}

@@ -3,3 +3,4 @@ pub mod Parts
 pub mod PartWords
 pub mod PartsView
 pub mod Names
+pub mod Runs

@@ -1,13 +1,24 @@
 //! New rows put into a table in ascending order of its keys.
-ghost use Rattle.std.specs.Prelude.{[], ◌∷◌, ◌++◌, ◌≡◌, ◌<◌, ◌≤◌, not, true, OnOk, OnErr, IsOk, ◌+◌, length, vec_len, vec_capacity};
+ghost use Rattle.std.specs.Prelude.{[], ◌∷◌, ◌++◌, ◌≡◌, ◌<◌, ◌≤◌, not, true, OnOk, OnErr, IsOk, IsTrue, ◌+◌, length, vec_len, vec_capacity};
 ghost use Rattle.std.specs.List.{prefix_len};
 ghost use Rattle.tpcc_rows.specs.Lists.{by_key, is_ascending, inserted, inserted_all};
 
 use crate::keyed::Keyed;
 use tpcc_money::NoMemory;
 
+/// Whether no row comes after a new one, as is so of the next number.
+fn goes_last<T: Keyed>(rows: &[T], added: &T) -> bool
+    requires keyed { is_ascending T.key rows.now ≡ true }
+    ensures { IsTrue result → length rows.now ≡ prefix_len (λ row. not (by_key T.key added.now row)) rows.now }
+{
+    match rows.last() {
+        Some(last) => !added.comes_before(last),
+        None => false,
+    }
+}
+
 /// How many rows stand before the first one that comes after a new row, searched by halves.
-fn place_for<T: Keyed>(rows: &[T], added: &T) -> usize
+fn by_halves<T: Keyed>(rows: &[T], added: &T) -> usize
     requires keyed { is_ascending T.key rows.now ≡ true }
     ensures { result ≡ prefix_len (λ row. not (by_key T.key added.now row)) rows.now }
 {
@@ -16,6 +27,17 @@ fn place_for<T: Keyed>(rows: &[T], added: &T) -> usize
             ensures { result ≡ not (by_key T.key added.entry.now row.now) }
         { !added.comes_before(row) },
     )
+}
+
+/// How many rows stand before the first one that comes after a new row.
+fn place_for<T: Keyed>(rows: &[T], added: &T) -> usize
+    requires keyed { is_ascending T.key rows.now ≡ true }
+    ensures { result ≡ prefix_len (λ row. not (by_key T.key added.now row)) rows.now }
+{
+    if goes_last(rows, added) {
+        return rows.len();
+    }
+    by_halves(rows, added)
 }
 
 /// Puts a new row at its place; refuses only for want of memory.

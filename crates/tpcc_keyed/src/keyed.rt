@@ -4,6 +4,7 @@ ghost use Rattle.tpcc_rows.specs.Lists.{key_before};
 ghost use Rattle.tpcc_keyed.specs.Searches.{is_same_key};
 ghost use Rattle.tpcc_keyed.specs.Parts.{district_numbers};
 
+use crate::places;
 use tpcc_rows::keys::*;
 use tpcc_rows::rows::*;
 
@@ -31,6 +32,10 @@ pub trait Keyed: Copy {
     /// Whether this row is the one of a key.
     fn has_key(&self, sought: &Self::Key) -> bool
         ensures { result ≡ is_same_key (key self.now) (numbers sought.now) };
+
+    /// Where the row of a key stands, if no number is missing before it. It may be any place: a
+    /// search looks whether the row is there.
+    fn likely_place(rows: &[Self], sought: &Self::Key) -> usize;
 }
 
 /// A row of a district: the key begins with the district's two numbers.
@@ -64,6 +69,10 @@ impl Keyed for WarehouseRow {
     fn has_key(&self, sought: &WarehouseKey) -> bool {
         self.id == sought.warehouse
     }
+
+    fn likely_place(_rows: &[WarehouseRow], sought: &WarehouseKey) -> usize {
+        places::after_first(1, sought.warehouse)
+    }
 }
 
 impl Keyed for DistrictRow {
@@ -85,6 +94,10 @@ impl Keyed for DistrictRow {
 
     fn has_key(&self, sought: &DistrictKey) -> bool {
         self.warehouse == sought.warehouse && self.id == sought.district
+    }
+
+    fn likely_place(_rows: &[DistrictRow], sought: &DistrictKey) -> usize {
+        places::of_district(sought.warehouse, sought.district)
     }
 }
 
@@ -111,6 +124,16 @@ impl Keyed for CustomerRow {
             && self.district == sought.district
             && self.id == sought.customer
     }
+
+    fn likely_place(rows: &[CustomerRow], sought: &CustomerKey) -> usize {
+        let Some(last) = rows.last() else {
+            return 0;
+        };
+        let before = places::of_district(sought.warehouse, sought.district);
+        before
+            .wrapping_mul(last.id as usize)
+            .wrapping_add(places::after_first(1, sought.customer))
+    }
 }
 
 impl Keyed for OrderRow {
@@ -134,6 +157,13 @@ impl Keyed for OrderRow {
         self.warehouse == sought.warehouse
             && self.district == sought.district
             && self.id == sought.order
+    }
+
+    fn likely_place(rows: &[OrderRow], sought: &OrderKey) -> usize {
+        let Some(first) = rows.first() else {
+            return 0;
+        };
+        places::after_first(first.id, sought.order)
     }
 }
 
@@ -167,6 +197,10 @@ impl Keyed for OrderLineRow {
             && self.order == sought.order
             && self.number == sought.number
     }
+
+    fn likely_place(rows: &[OrderLineRow], _sought: &OrderLineKey) -> usize {
+        rows.len()
+    }
 }
 
 impl Keyed for NewOrderRow {
@@ -192,6 +226,13 @@ impl Keyed for NewOrderRow {
             && self.district == sought.district
             && self.order == sought.order
     }
+
+    fn likely_place(rows: &[NewOrderRow], sought: &NewOrderKey) -> usize {
+        let Some(first) = rows.first() else {
+            return 0;
+        };
+        places::after_first(first.order, sought.order)
+    }
 }
 
 impl Keyed for ItemRow {
@@ -214,6 +255,10 @@ impl Keyed for ItemRow {
     fn has_key(&self, sought: &ItemKey) -> bool {
         self.id == sought.item
     }
+
+    fn likely_place(_rows: &[ItemRow], sought: &ItemKey) -> usize {
+        places::after_first(1, sought.item)
+    }
 }
 
 impl Keyed for StockRow {
@@ -235,6 +280,13 @@ impl Keyed for StockRow {
 
     fn has_key(&self, sought: &StockKey) -> bool {
         self.warehouse == sought.warehouse && self.item == sought.item
+    }
+
+    fn likely_place(rows: &[StockRow], sought: &StockKey) -> usize {
+        let Some(last) = rows.last() else {
+            return 0;
+        };
+        places::of_group(sought.warehouse, last.item, sought.item)
     }
 }
 

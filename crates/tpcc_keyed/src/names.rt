@@ -45,10 +45,14 @@ impl CustomerName {
     fn compare_last(&self, warehouse: u32, district: u32, last: &[u8]) -> Ordering
         ensures { result ≡ last_cmp self.now warehouse district last.now }
     {
-        let by_last = self.last.bytes().cmp(last);
-        self.warehouse
+        let by_district = self
+            .warehouse
             .cmp(&warehouse)
-            .then(self.district.cmp(&district).then(by_last))
+            .then(self.district.cmp(&district));
+        match by_district {
+            Ordering::Equal => self.last.bytes().cmp(last),
+            unequal => unequal,
+        }
     }
 
     fn compare(&self, other: &CustomerName) -> Ordering

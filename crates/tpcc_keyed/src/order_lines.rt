@@ -1,7 +1,8 @@
-//! The lines of one order, which lie side by side in their district's part.
-ghost use Rattle.std.specs.Prelude.{◌≡◌, filter, true, Some, vec_capacity};
+//! The lines of one order, and of orders in a row, which lie side by side in their district's part.
+ghost use Rattle.std.specs.Prelude.{◌≡◌, ◌≤◌, filter, true, Some, vec_capacity};
 ghost use Rattle.tpcc_rows.specs.Lists.{is_ascending, updated};
 ghost use Rattle.tpcc_rows.specs.Tables.{is_line_of, order_line_key};
+ghost use Rattle.tpcc_keyed.specs.Runs.{is_line_between};
 
 use crate::parts::Parts;
 use crate::parts::part::Part;
@@ -31,6 +32,25 @@ impl Parts<OrderLineRow> {
             district,
         });
         runs::lines_of(part, warehouse, district, order)
+    }
+
+    /// The lines of a district's orders from number `first` on, and below `next`.
+    pub fn lines_between(
+        &self,
+        warehouse: u32,
+        district: u32,
+        first: u32,
+        next: u32,
+    ) -> &[OrderLineRow]
+        requires keyed { is_ascending order_line_key self.now.rows ≡ true }
+        requires order { first ≤ next }
+        ensures { result.now ≡ filter (is_line_between warehouse district first next) self.now.rows }
+    {
+        let part = self.part(DistrictKey {
+            warehouse,
+            district,
+        });
+        runs::lines_between(part, warehouse, district, first, next)
     }
 
     /// The moment of delivery of an order's lines, set.

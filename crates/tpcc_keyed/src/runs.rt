@@ -1,9 +1,10 @@
-//! The lines of one order, which lie side by side in rows that ascend.
+//! The lines of one order, and of orders in a row, which lie side by side in rows that ascend.
 ghost use Rattle.std.specs.Prelude.{[], ◌∷◌, ◌≡◌, ◌≤◌, filter, length, map, not, true, Some, vec_capacity};
 ghost use Rattle.std.specs.List.{prefix_len};
 ghost use Rattle.tpcc_rows.specs.Lists.{is_ascending, key_before, updated};
 ghost use Rattle.tpcc_rows.specs.declared.rows.OrderLineRow.{OrderLineRow};
 ghost use Rattle.tpcc_rows.specs.Tables.{is_line_of, order_line_key};
+ghost use Rattle.tpcc_keyed.specs.Runs.{is_line_between};
 
 use tpcc_money::Moment;
 use tpcc_rows::rows::OrderLineRow;
@@ -66,6 +67,42 @@ pub fn lines_of(rows: &[OrderLineRow], warehouse: u32, district: u32, order: u32
 {
     let (start, end) = place_of(rows, warehouse, district, order);
     &rows[start..end]
+}
+
+/// Where the lines of a district's orders from number `first` on, and below `next`, begin and end.
+fn span_of(
+    rows: &[OrderLineRow],
+    warehouse: u32,
+    district: u32,
+    first: u32,
+    next: u32,
+) -> (usize, usize)
+    requires keyed { is_ascending order_line_key rows.now ≡ true }
+    requires order { first ≤ next }
+    ensures order { result.0 ≤ result.1 }
+    ensures within { result.1 ≤ length rows.now }
+    ensures start { result.0 ≡ prefix_len (λ row. key_before (order_line_key row) (warehouse ∷ district ∷ first ∷ [])) rows.now }
+    ensures end { result.1 ≡ prefix_len (λ row. key_before (order_line_key row) (warehouse ∷ district ∷ next ∷ [])) rows.now }
+{
+    let start = start_of(rows, warehouse, district, first);
+    let end = start_of(rows, warehouse, district, next);
+    (start, end)
+}
+
+/// The lines of a district's orders from number `first` on, and below `next`.
+pub fn lines_between(
+    rows: &[OrderLineRow],
+    warehouse: u32,
+    district: u32,
+    first: u32,
+    next: u32,
+) -> &[OrderLineRow]
+    requires keyed { is_ascending order_line_key rows.now ≡ true }
+    requires order { first ≤ next }
+    ensures { result.now ≡ filter (is_line_between warehouse district first next) rows.now }
+{
+    let (from, to) = span_of(rows, warehouse, district, first, next);
+    &rows[from..to]
 }
 
 fn stamp_all(lines: &mut [OrderLineRow], moment: Moment)

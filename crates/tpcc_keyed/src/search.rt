@@ -1,13 +1,26 @@
-//! Rows searched by halves, in ascending order of their keys.
-ghost use Rattle.std.specs.Prelude.{◌≡◌, find, position, true};
+//! Rows in ascending order of their keys, found where the key tells, or else searched by halves.
+ghost use Rattle.std.specs.Prelude.{◌≡◌, IfSome, Some, find, position, true};
 ghost use Rattle.std.specs.Option.{option_copied};
 ghost use Rattle.tpcc_rows.specs.Lists.{is_ascending, key_before};
 ghost use Rattle.tpcc_keyed.specs.Searches.{is_same_key};
 
 use crate::keyed::Keyed;
 
-/// The place of the row of a key.
-pub fn place_of<T: Keyed>(rows: &[T], key: &T::Key) -> Option<usize>
+/// The place of the row of a key, where it stands at the place that its key tells.
+fn guessed<T: Keyed>(rows: &[T], key: &T::Key) -> Option<usize>
+    requires keyed { is_ascending T.key rows.now ≡ true }
+    ensures { IfSome result (λ place. Some place ≡ position (λ row. is_same_key (T.key row) (T.numbers key.now)) rows.now) }
+{
+    let place = T::likely_place(rows, key);
+    let row = rows.get(place)?;
+    if row.has_key(key) {
+        return Some(place);
+    }
+    None
+}
+
+/// The place of the row of a key, searched by halves.
+fn by_halves<T: Keyed>(rows: &[T], key: &T::Key) -> Option<usize>
     requires keyed { is_ascending T.key rows.now ≡ true }
     ensures { result ≡ position (λ row. is_same_key (T.key row) (T.numbers key.now)) rows.now }
 {
@@ -21,6 +34,17 @@ pub fn place_of<T: Keyed>(rows: &[T], key: &T::Key) -> Option<usize>
         return Some(place);
     }
     None
+}
+
+/// The place of the row of a key: in one step where keys have no gaps.
+pub fn place_of<T: Keyed>(rows: &[T], key: &T::Key) -> Option<usize>
+    requires keyed { is_ascending T.key rows.now ≡ true }
+    ensures { result ≡ position (λ row. is_same_key (T.key row) (T.numbers key.now)) rows.now }
+{
+    match guessed(rows, key) {
+        Some(place) => Some(place),
+        None => by_halves(rows, key),
+    }
 }
 
 /// The row of a key.

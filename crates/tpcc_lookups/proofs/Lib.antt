@@ -1,3 +1,1 @@
-pub mod FilterLemmas
-pub mod LineLemmas
 mod LowLemmas

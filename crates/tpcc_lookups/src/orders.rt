@@ -5,9 +5,9 @@ ghost use Rattle.tpcc_rows.specs.Lookups.{last_order_number, shown_order, status
 ghost use Rattle.tpcc_rows.specs.Tables.{find_order};
 
 use crate::asked::asking_customer;
-use crate::lines::add_lines;
+use crate::lines::shown_lines;
 use tpcc_rows::refusals::Refusal;
-use tpcc_rows::replies::{LastOrder, Status, StatusLines};
+use tpcc_rows::replies::{LastOrder, Status};
 use tpcc_rows::requests::StatusQuery;
 use tpcc_rows::rows::CustomerRow;
 use tpcc_tables::tables::Tables;
@@ -18,13 +18,12 @@ fn shown(tables: &Tables, warehouse: u32, district: u32, order: u32) -> LastOrde
     ensures { result ≡ shown_order tables.now.rows warehouse district order }
 {
     let row = tables.order(warehouse, district, order).unwrap();
-    let mut lines = StatusLines::empty();
-    add_lines(tables, warehouse, district, order, &mut lines);
+    let lines = tables.order_lines(warehouse, district, order);
     LastOrder {
         order,
         entry_date: row.entry_date,
         carrier: row.carrier,
-        lines,
+        lines: shown_lines(lines.as_slice()),
     }
 }
 

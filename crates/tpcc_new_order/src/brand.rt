@@ -10,13 +10,13 @@ use tpcc_rows::rows::{ItemRow, StockRow};
 fn has_original(bytes: &[u8]) -> bool
     ensures { result ≡ has_text (codes "ORIGINAL") bytes.now }
 {
-    if bytes.starts_with(b"ORIGINAL".as_slice()) {
+    let Some((first, rest)) = bytes.split_first() else {
+        return false;
+    };
+    if *first == b'O' && rest.starts_with(b"RIGINAL".as_slice()) {
         return true;
     }
-    match bytes.split_first() {
-        Some((_, rest)) => has_original(rest),
-        None => false,
-    }
+    has_original(rest)
 }
 
 /// B where I_DATA and S_DATA both contain ORIGINAL, else G.

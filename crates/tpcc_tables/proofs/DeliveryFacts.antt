@@ -1,6 +1,6 @@
 -- What is known of the amounts of a delivery that nothing refuses.
-use Rattle.std.proofs.Common.{◌≡◌, ℕ, zero, suc, ◌+◌, ◌<◌, ◌^◌, Bool, true, false, List, [], ◌∷◌, take, refl, sym, ◌∙◌, arith, cond, Option, Some, None}
-use Rattle.std.specs.Prelude.{ℤ, pos, neg_ℤ, ◌+ℤ◌, ◌≤ℤ◌, filter, unwrap_or, if◌then◌else◌, not, FitsSigned}
+use Rattle.std.proofs.Common.{◌≡◌, ℕ, zero, suc, ◌+◌, ◌*◌, ◌<◌, ◌^◌, Bool, true, List, [], ◌∷◌, take, length, refl, sym, ◌∙◌, arith, Option, Some, None}
+use Rattle.std.specs.Prelude.{ℤ, pos, neg_ℤ, ◌+ℤ◌, ◌≤ℤ◌, filter, unwrap_or, not, FitsSigned}
 use Rattle.std.specs.Int.{w64}
 use Rattle.std.specs.List.{list_all}
 use Rattle.std.proofs.lemmas.Int.{ints}
@@ -11,13 +11,14 @@ use Rattle.tpcc_rows.specs.declared.rows.OrderLineRow.{OrderLineRow}
 use Rattle.tpcc_rows.specs.declared.rows.NewOrderRow.{NewOrderRow}
 use Rattle.tpcc_rows.specs.Lists.{updated}
 use Rattle.tpcc_rows.specs.Ranges.{is_balance, is_total, is_count, is_text, is_exact_text, is_amount_within, is_customer_row, is_order_line_row, is_carrier, is_moment}
-use Rattle.tpcc_rows.specs.Tables.{Rows, is_customer, is_order, is_new_order, is_line_of, find_customer, customer_at, order_at, no_customer}
+use Rattle.tpcc_rows.specs.Tables.{Rows, is_customer, is_order, is_new_order, is_line_of, lines_of, find_customer, customer_at, order_at, no_customer}
 use Rattle.tpcc_rows.specs.WellKeyed.{IsInRange, IsWellKeyed}
 use Rattle.tpcc_rows.specs.Delivery.{order_amount, district_refusal, delivery_tests, after_delivery, delivered_customer}
 use Rattle.tpcc_laws.proofs.DeliveryKeeps.{carried, stamped}
 use Rattle.tpcc_laws.proofs.DeliveryKeys.{delivery_is_keyed, delivery_has_parents}
 use Rattle.tpcc_laws.proofs.DeliveryRanges.{delivery_in_range}
 use Rattle.tpcc_laws.proofs.ListLemmas.{list_all-mono}
+use Rattle.tpcc_tables.proofs.LineLemmas.{few_lines}
 use Rattle.tpcc_laws.proofs.Numbers.{amount_within, balance_fits, count_fits, not_false}
 use Rattle.tpcc_rows.proofs.Booleans.{split}
 use Rattle.tpcc_laws.proofs.RemoveLemmas.{found_passes}
@@ -63,6 +64,21 @@ part_paid (x ∷ xs) (suc k) h =
 paid_lines : (q : OrderLineRow → Bool) (xs : List OrderLineRow) → list_all is_paid xs ≡ true → list_all is_paid (filter q xs) ≡ true
 paid_lines q [] h = refl
 paid_lines q (x ∷ xs) h = grind (arith, paid_lines q xs)
+
+paid_below : (xs : List OrderLineRow) → list_all is_paid xs ≡ true → total (λ l. l.amount) xs ≤ℤ pos (length xs * 999999)
+paid_below [] h = omega (arith, ints)
+paid_below (x ∷ xs) h =
+    let s = split (is_paid x) (list_all is_paid xs) h in
+    let a = amount_within (pos 0) (pos 999999) x.amount s.0 in
+    let rest = paid_below xs s.1 in
+    omega (arith, ints, a, rest)
+
+-- the sum of an order's lines fits at each step
+pub amount_fits : (rows : Rows) (w d o k : ℕ) → IsWellKeyed rows → FitsSigned w64 (total (λ l. l.amount) (take k (lines_of rows w d o)))
+amount_fits rows w d o k well =
+    let paid = paid_lines (is_line_of w d o) rows.order_lines (list_all-mono is_order_line_row is_paid line_is_paid rows.order_lines well.ranges.order_lines) in
+    let part = part_paid (lines_of rows w d o) k paid in
+    omega (arith, ints, part, paid_below (lines_of rows w d o) paid, few_lines rows w d o well)
 
 -- ---- the customer's balance before and after
 

@@ -1,6 +1,6 @@
 -- The rows of an order that is entered, written list by list.
 use Rattle.std.proofs.Common.{◌≡◌, ℕ, ◌+◌, ◌<◌, ◌≤◌, ◌^◌, true, false, List, [], ◌∷◌, length, map, refl, sym, ◌∙◌, subst, arith, Some, None}
-use Rattle.std.specs.Prelude.{◌&&◌, ◌==◌, not, find, Bool, Option, is_some, is_none}
+use Rattle.std.specs.Prelude.{◌&&◌, not, find, Bool, Option, is_some, is_none}
 use Rattle.std.specs.List.{list_all, list_any, enumerate_from}
 use Rattle.tpcc_rows.specs.declared.rows.DistrictRow.{DistrictRow}
 use Rattle.tpcc_rows.specs.declared.rows.OrderRow.{OrderRow}

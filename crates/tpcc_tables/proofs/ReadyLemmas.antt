@@ -1,7 +1,6 @@
 -- Tables stay ready for an order.
 use Rattle.std.proofs.Common.{◌≡◌, ℕ, ◌<◌, ◌≤◌, Bool, true, false, List, [], ◌∷◌, ◌++◌, ◌+◌, ◌∙◌, refl, sym, arith, ap, Some, length, take, get_or}
 use Rattle.std.specs.Prelude.{◌&&◌, find}
-use Rattle.std.specs.List.{list_all}
 use Rattle.std.proofs.lemmas.List.{take_more}
 use Rattle.std.proofs.lemmas.List.Folds.{list_all-append}
 use Rattle.tpcc_rows.proofs.Booleans.{both_true}

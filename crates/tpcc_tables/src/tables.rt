@@ -1,12 +1,13 @@
 //! The tables as one value.
-ghost use Rattle.std.specs.Prelude.{◌≡◌, ◌<◌, ◌≤◌, ◌+◌, OnOk, OnErr, IsOk, [], ◌∷◌, ◌++◌};
+ghost use Rattle.std.specs.Prelude.{◌≡◌, ◌<◌, ◌≤◌, ◌+◌, ◌-◌, ◌&&◌, OnOk, OnErr, IsOk, [], ◌∷◌, ◌++◌, nat_le, nat_lt, length, map, filter};
 ghost use Rattle.std.specs.Option.{option_copied};
-ghost use Rattle.tpcc_rows.specs.Tables.{find_warehouse, find_district, find_customer, find_order, find_new_order, find_item, find_stock};
+ghost use Rattle.tpcc_rows.specs.Tables.{find_warehouse, find_district, find_customer, find_order, find_new_order, find_item, find_stock, lines_of, order_lines_in};
 ghost use Rattle.tpcc_rows.specs.declared.requests.Who.TheVariants.{Name};
 ghost use Rattle.tpcc_rows.specs.ChosenCustomer.{chosen_customer};
 ghost use Rattle.tpcc_rows.specs.WellKeyed.{IsWellKeyed};
-ghost use Rattle.tpcc_rows.specs.Delivery.{oldest_new_order};
-ghost use Rattle.tpcc_rows.specs.Lookups.{last_order_number};
+ghost use Rattle.tpcc_rows.specs.Delivery.{oldest_new_order, order_amount};
+ghost use Rattle.tpcc_rows.specs.Lookups.{last_order_number, is_low};
+ghost use Rattle.tpcc_rows.specs.Lists.{distinct};
 ghost use Rattle.tpcc_tables.specs.Loads.{find_order_line};
 
 mod filled;
@@ -14,10 +15,13 @@ mod load;
 mod positions;
 mod writes;
 
-use crate::{extremes, find};
+use crate::copies::copied;
+use crate::{delivery, extremes, find, levels};
 use std::alloc::Global;
 use std::marker::Model;
 use tpcc_keyed::{Names, Parts};
+use tpcc_money::Cents;
+use tpcc_rows::few::Few;
 use tpcc_rows::rows::*;
 
 /// The nine tables (1.3), whose rows are always well-keyed: keys ascend, parents exist, and all columns are in their
@@ -137,6 +141,33 @@ impl Tables {
         ensures { option_copied result ≡ find_order_line self.now.rows warehouse district order number }
     {
         find::line(&self.order_lines, warehouse, district, order, number)
+    }
+
+    /// The ORDER-LINE rows of an order, in the order of their numbers: at most 15 (1.3.1).
+    pub fn order_lines(&self, warehouse: u32, district: u32, order: u32) -> Few<OrderLineRow, 15>
+        ensures lines { result ≡ lines_of self.now.rows warehouse district order }
+        ensures few { length result ≤ 15 }
+    {
+        copied(self.order_lines.lines_of(warehouse, district, order))
+    }
+
+    /// The sum of OL_AMOUNT of an order's lines (2.7.4.2), 0.00 where it has none.
+    pub fn order_amount(&self, warehouse: u32, district: u32, order: u32) -> Cents
+        ensures amount { result ≡ order_amount self.now.rows warehouse district order }
+    {
+        delivery::amount(self.order_lines.lines_of(warehouse, district, order))
+    }
+
+    /// How many distinct items of a district's 20 orders before number `next` have less stock in
+    /// the warehouse than the threshold (2.8.2.2).
+    pub fn low_stock(&self, warehouse: u32, district: u32, threshold: u32, next: u32) -> u32
+        ensures count { result ≡ length (filter (is_low self.now.rows warehouse threshold) (distinct (map (λ l. l.item) (filter (λ l. nat_le (next - 20) l.order && nat_lt l.order next) (order_lines_in self.now.rows warehouse district))))) }
+    {
+        let first = next.saturating_sub(20);
+        let lines = self
+            .order_lines
+            .lines_between(warehouse, district, first, next);
+        levels::count_short(self.stocks.as_slice(), warehouse, threshold, lines)
     }
 
     /// The NEW-ORDER row of a key.

@@ -1,5 +1,5 @@
 //! The parts of districts in ascending order, found and put in by halves.
-ghost use Rattle.std.specs.Prelude.{◌≡◌, OnOk, OnErr, not, position, true};
+ghost use Rattle.std.specs.Prelude.{◌≡◌, IfSome, OnOk, OnErr, Some, not, position, true};
 ghost use Rattle.std.specs.List.{prefix_len};
 ghost use Rattle.tpcc_rows.specs.Lists.{is_ascending, key_before};
 ghost use Rattle.tpcc_keyed.specs.Searches.{is_same_key};
@@ -8,6 +8,7 @@ ghost use Rattle.tpcc_keyed.specs.PartWords.{is_part, part_numbers, IsOpened};
 
 use crate::keyed::Owned;
 use crate::parts::part::Part;
+use crate::places;
 use std::alloc::Global;
 use tpcc_money::NoMemory;
 use tpcc_rows::DistrictKey;
@@ -25,8 +26,21 @@ fn is_same(key: DistrictKey, other: DistrictKey) -> bool
     key.warehouse == other.warehouse && key.district == other.district
 }
 
+/// The place of a district's part, where it stands at the place that the district's numbers tell.
+fn guessed<T>(parts: &[Part<T>], owner: DistrictKey) -> Option<usize>
+    requires rising { is_ascending part_numbers parts.now ≡ true }
+    ensures { IfSome result (λ place. Some place ≡ position (is_part (district_numbers owner)) parts.now) }
+{
+    let place = places::of_district(owner.warehouse, owner.district);
+    let part = parts.get(place)?;
+    if is_same(part.owner, owner) {
+        return Some(place);
+    }
+    None
+}
+
 /// The place of a district's part, searched by halves.
-pub fn place_of<T>(parts: &[Part<T>], owner: DistrictKey) -> Option<usize>
+fn by_halves<T>(parts: &[Part<T>], owner: DistrictKey) -> Option<usize>
     requires rising { is_ascending part_numbers parts.now ≡ true }
     ensures { result ≡ position (is_part (district_numbers owner)) parts.now }
 {
@@ -40,6 +54,17 @@ pub fn place_of<T>(parts: &[Part<T>], owner: DistrictKey) -> Option<usize>
         return Some(place);
     }
     None
+}
+
+/// The place of a district's part: in one step where each district has a part.
+pub fn place_of<T>(parts: &[Part<T>], owner: DistrictKey) -> Option<usize>
+    requires rising { is_ascending part_numbers parts.now ≡ true }
+    ensures { result ≡ position (is_part (district_numbers owner)) parts.now }
+{
+    match guessed(parts, owner) {
+        Some(place) => Some(place),
+        None => by_halves(parts, owner),
+    }
 }
 
 /// How many parts stand before the first one of a later district.

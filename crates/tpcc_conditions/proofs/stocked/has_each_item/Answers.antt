@@ -1,4 +1,4 @@
-use Rattle.std.proofs.Common.{◌≡◌, sym, ◌∙◌, Bool, arith}
+use Rattle.std.proofs.Common.{◌≡◌, sym, ◌∙◌, arith}
 use Rattle.std.specs.Prelude.{is_some}
 use Rattle.tpcc_rows.specs.declared.rows.ItemRow.{ItemRow}
 use Rattle.tpcc_rows.specs.Tables.{find_stock}

@@ -1,6 +1,6 @@
-use Rattle.std.proofs.Common.{ap, ◌∙◌}
-use Rattle.tpcc_rows.specs.Lookups.{is_low, stock_reply}
-use Rattle.tpcc_lookups.proofs.LowLemmas.{level_is, passing}
+use Rattle.std.proofs.Common.{ap}
+use Rattle.tpcc_rows.specs.Lookups.{stock_reply}
+use Rattle.tpcc_lookups.proofs.LowLemmas.{level_is}
 use Rattle.tpcc_lookups.proofs.stocks.stock_level.Goals as goal
 
 pub returns-clause-reply : goal.returns-clause-reply
@@ -8,5 +8,4 @@ returns-clause-reply c =
     let rows = c.args.tables.now.rows in
     let query = c.args.query.now in
     ap (λ n. record (stock_reply rows query) { low_stock = n })
-    (level_is rows query c.in_ok-next.field-0.now c.lines_before-lines.result c.count_short.result c.in_ok-next.ensures.district c.lines_before-lines.ensures.lines
-    (c.count_short.ensures ∙ ap (passing (is_low rows query.warehouse query.threshold)) c.as_slice.ensures.items))
+    (level_is rows query c.in_ok-next.field-0.now c.low_stock.result c.in_ok-next.ensures.district c.low_stock.ensures.count)

@@ -1,5 +1,4 @@
-use Rattle.std.proofs.Common.{◌≡◌, ◌∙◌, sym, ap, [], ◌∷◌, find, Some, None}
-use Rattle.tpcc_rows.specs.declared.rows.OrderRow.{OrderRow}
+use Rattle.std.proofs.Common.{◌≡◌, ◌∙◌, sym, [], ◌∷◌, find, Some}
 use Rattle.tpcc_rows.specs.Tables.{is_order, order_key}
 use Rattle.tpcc_laws.proofs.DeliveryKeeps.{carried}
 use Rattle.tpcc_keyed.specs.Searches.{is_same_key}

@@ -1,4 +1,4 @@
-use Rattle.std.proofs.Common.{rules, arith, ap, ◌≤◌, ◌∙◌, ◌++◌, ◌+◌, ◌-◌, length, take, drop, length-append, length-take, length-take-le, length-drop, true, ◌≡◌}
+use Rattle.std.proofs.Common.{rules, arith, ap, ◌≤◌, ◌∙◌, ◌+◌, ◌-◌, length, drop, length-append, length-take, length-take-le, length-drop}
 use Rattle.std.specs.Prelude.{codes}
 use Rattle.std.specs.List.{list_all}
 use Rattle.tpcc_rows.specs.Printable.{is_printable}

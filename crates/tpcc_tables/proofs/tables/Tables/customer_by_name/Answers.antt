@@ -1,4 +1,4 @@
-use Rattle.std.proofs.Common.{◌≡◌, ap, sym, ◌∙◌, Some, None}
+use Rattle.std.proofs.Common.{ap, sym, ◌∙◌}
 use Rattle.tpcc_rows.specs.declared.requests.Who.TheVariants.{Name}
 use Rattle.tpcc_rows.specs.ChosenCustomer.{chosen_customer}
 use Rattle.tpcc_rows.specs.Tables.{find_customer}

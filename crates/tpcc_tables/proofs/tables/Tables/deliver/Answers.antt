@@ -1,10 +1,9 @@
-use Rattle.std.proofs.Common.{◌≡◌, ◌∙◌, List, refl, sym, ap, subst, arith, take, filter, Some, None}
-use Rattle.std.specs.Prelude.{ℤ, ◌+ℤ◌, FitsSigned, find, unwrap_or}
+use Rattle.std.proofs.Common.{◌≡◌, ◌∙◌, List, refl, sym, ap, subst, arith, take, Some, None}
+use Rattle.std.specs.Prelude.{ℤ, ◌+ℤ◌, FitsSigned, find}
 use Rattle.std.specs.Int.{w64}
 use Rattle.tpcc_money.specs.Amounts.{total}
-use Rattle.tpcc_rows.specs.declared.rows.OrderRow.{OrderRow}
 use Rattle.tpcc_rows.specs.declared.rows.OrderLineRow.{OrderLineRow}
-use Rattle.tpcc_rows.specs.Tables.{is_customer, is_order, is_line_of, no_order}
+use Rattle.tpcc_rows.specs.Tables.{is_customer}
 use Rattle.tpcc_rows.specs.WellKeyed.{IsWellKeyed}
 use Rattle.tpcc_rows.specs.Delivery.{district_refusal, after_delivery, delivered_customer}
 use Rattle.tpcc_laws.proofs.Numbers.{is_in}

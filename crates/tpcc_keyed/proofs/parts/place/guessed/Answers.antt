@@ -1,0 +1,9 @@
+use Rattle.std.proofs.Common.{◌∙◌, sym}
+use Rattle.tpcc_keyed.specs.Parts.{district_numbers}
+use Rattle.tpcc_keyed.specs.PartWords.{part_numbers}
+use Rattle.tpcc_keyed.proofs.SearchLemmas.{some_at, guessed_there}
+use Rattle.tpcc_keyed.proofs.parts.place.guessed.Goals as goal
+
+pub returns-then-is_same : goal.returns-then-is_same
+returns-then-is_same g c =
+    guessed_there part_numbers (district_numbers c.args.owner) c.args.parts.now c.of_district-place.result c.in_ok-part.part.now c.requires.rising (some_at c.args.parts.now c.of_district-place.result c.in_ok-part.part.now c.in_ok-part.ensures.lookup.0 c.in_ok-part.ensures.lookup.1) (sym c.is_same.ensures ∙ c.if-is_same.true)
