@@ -25,7 +25,7 @@ stands_beside log log' served drawn (Holds k base) h other = absurd (other h.0)
 ticket_of : (a b : ℕ) (xs ys : List Entry) → Holds a xs ≡ Holds b ys → a ≡ b
 ticket_of a b xs ys e = cc e
 
-base_of : (a b : ℕ) (xs ys : List Entry) → Holds a xs ≡ Holds b ys → xs ≡ ys
+pub base_of : (a b : ℕ) (xs ys : List Entry) → Holds a xs ≡ Holds b ys → xs ≡ ys
 base_of a b xs ys e = cc e
 
 words_stay : (start : Opening) (s : State (Option Past) Knows) (h : IsTurning start s) → slice_set s.words 0 (slice_index s.words 0) ≡ s.words

@@ -99,8 +99,8 @@ splits start id v idle has s h at =
     let mine = h.each id v at in
     let kept = kept_of v in
     let given = given_of v in
-    let fits : IsSeated start h.log h.served h.drawn kept = record { start_is = λ some. mine.start_is (omega arith); front = mine.front; told = mine.told; backed = rw idle (omega arith); stands = mine.stands } in
-    let fits' : IsSeated start h.log h.served h.drawn given = record { start_is = λ some. mine.start_is (omega arith); front = mine.front; told = λ x k there. absurd (some-ne-none x (sym there)); backed = omega arith; stands = tt } in
+    let fits : IsSeated start h.log h.served h.drawn kept = record { start_is = λ part. mine.start_is (omega arith); front = mine.front; told = mine.told; backed = rw idle (omega arith); stands = mine.stands } in
+    let fits' : IsSeated start h.log h.served h.drawn given = record { start_is = λ part. mine.start_is (omega arith); front = mine.front; told = λ x k there. absurd (some-ne-none x (sym there)); backed = omega arith; stands = tt } in
     let here = seated_set start h.log h.served h.drawn s.homes s.views id v kept (seats_of start s h) at refl fits in
     let both = seated_more start h.log h.served h.drawn s.homes (set s.views id kept) given here refl fits' in
     record {
@@ -132,7 +132,7 @@ joins start id v other w idle has has' s h at apart there =
     let both = both_of v w in
     let was : get_elem? s.views other ≡ some w = sym (set_else s.views id other both apart) ∙ there in
     let theirs = h.each other w was in
-    let fits : IsSeated start h.log h.served h.drawn both = record { start_is = λ some. mine.start_is has; front = mine.front; told = told_of start h.log v w mine.told theirs.told (theirs.start_is has', theirs.front); backed = omega (arith, mine.backed); stands = mine.stands } in
+    let fits : IsSeated start h.log h.served h.drawn both = record { start_is = λ part. mine.start_is has; front = mine.front; told = told_of start h.log v w mine.told theirs.told (theirs.start_is has', theirs.front); backed = omega (arith, mine.backed); stands = mine.stands } in
     let fits' : IsSeated start h.log h.served h.drawn nobody = record { start_is = λ none. absurd (omega arith); front = (h.log, refl); told = λ x k e. absurd (some-ne-none x (sym e)); backed = omega arith; stands = tt } in
     let here = seated_set start h.log h.served h.drawn s.homes s.views id v both (seats_of start s h) at refl fits in
     let last = seated_set start h.log h.served h.drawn s.homes (set s.views id both) other w nobody here there (sym idle) fits' in
@@ -151,13 +151,13 @@ joins start id v other w idle has has' s h at apart there =
 
 -- who was joined last is split off again
 pub frees : (start : Opening) (id : ℕ) (v : Knows) → 0 < last_parts v.told → last_parts v.told < v.parts → Splits (IsTurning start) id v (freed_of v) (back_of v)
-frees start id v some few s h at =
+frees start id v has few s h at =
     let mine = h.each id v at in
     let kept = freed_of v in
     let given = back_of v in
     let one : out_of v.stage ≤ 1 = out_most v.stage in
-    let fits : IsSeated start h.log h.served h.drawn kept = record { start_is = λ some. mine.start_is (omega arith); front = mine.front; told = λ x k there. absurd (some-ne-none x (sym there)); backed = omega (arith, one, few); stands = mine.stands } in
-    let fits' : IsSeated start h.log h.served h.drawn given = record { start_is = λ some. mine.start_is (omega (arith, few)); front = mine.front; told = λ x k there. absurd (some-ne-none x (sym there)); backed = omega arith; stands = tt } in
+    let fits : IsSeated start h.log h.served h.drawn kept = record { start_is = λ part. mine.start_is (omega arith); front = mine.front; told = λ x k there. absurd (some-ne-none x (sym there)); backed = omega (arith, one, few); stands = mine.stands } in
+    let fits' : IsSeated start h.log h.served h.drawn given = record { start_is = λ part. mine.start_is (omega (arith, few)); front = mine.front; told = λ x k there. absurd (some-ne-none x (sym there)); backed = omega arith; stands = tt } in
     let here = seated_set start h.log h.served h.drawn s.homes s.views id v kept (seats_of start s h) at refl fits in
     let both = seated_more start h.log h.served h.drawn s.homes (set s.views id kept) given here refl fits' in
     record {
