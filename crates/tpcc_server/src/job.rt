@@ -7,7 +7,7 @@ use crate::errand::Errand;
 use crate::turning::{Call, Turner, Turning};
 use std::marker::Model;
 use std::sync::Wait;
-use tpcc_book::{Answer, Naming, Register, SeatedPurse, Seating, Turned, Turns};
+use tpcc_book::{Answer, HeldTurn, Naming, Register, SeatedPurse, Seating, Turned, Turns};
 use tpcc_mailbox::{Answers, Idle, Mailboxes, Serving, Waiting};
 use tpcc_rows::Request;
 
@@ -115,6 +115,26 @@ impl<N: Naming, T: Seating, C: Turning> Errand<N, T> for Job<N, T, C> {
         } = self;
         turns.serve_by(
             rt,
+            request,
+            purse,
+            move |register: &mut Register, request: Request, terminal: u32, number: u64| -> Turned
+                ensures turn { IsTurn register.old terminal number request result register.new }
+            { call.turn_once(register, request, terminal, number) },
+        )
+    }
+
+    fn run_held(
+        self,
+        turns: &Turns<N, T>,
+        held: HeldTurn<N, T>,
+    ) -> (HeldTurn<N, T>, Answer<SeatedPurse<N, T>>) {
+        let Job {
+            request,
+            purse,
+            call,
+        } = self;
+        turns.serve_held(
+            held,
             request,
             purse,
             move |register: &mut Register, request: Request, terminal: u32, number: u64| -> Turned
