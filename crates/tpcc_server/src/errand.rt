@@ -1,10 +1,9 @@
 //! Work that is served once.
-ghost use Rattle.std.specs.Prelude.{◌≡◌};
 ghost use Rattle.tpcc_rows.specs.declared.requests.Request.{Request};
 ghost use Rattle.tpcc_book.specs.Seats.{Seated, IsTurned};
 
 use std::sync::Wait;
-use tpcc_book::{Answer, HeldTurn, Naming, SeatedPurse, Seating, Turns};
+use tpcc_book::{Answer, Naming, SeatedPurse, Seating, Turns};
 
 /// A request and a purse that are served once, in turn: running the errand spends it.
 pub trait Errand<N: Naming, T: Seating> {
@@ -17,13 +16,4 @@ pub trait Errand<N: Naming, T: Seating> {
     /// Waits for the purse's turn, and serves the request for it.
     fn run<R: Wait>(self, turns: &Turns<N, T>, rt: &R) -> Answer<SeatedPurse<N, T>>
         ensures turned { IsTurned (request self) (purse self) result };
-
-    /// Serves the request for the purse in a turn that is kept. It does not wait.
-    fn run_held(
-        self,
-        turns: &Turns<N, T>,
-        held: HeldTurn<N, T>,
-    ) -> (HeldTurn<N, T>, Answer<SeatedPurse<N, T>>)
-        ensures keeper { result.0 ≡ held }
-        ensures turned { IsTurned (request self) (purse self) result.1 };
 }

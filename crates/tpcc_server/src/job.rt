@@ -85,6 +85,30 @@ impl<N: Naming, T: Seating, C: Turning> Job<N, T, C> {
             call,
         }
     }
+
+    /// Makes the call once in a turn that is kept, for the job's own request and purse. It does not wait.
+    pub fn run_held(
+        self,
+        turns: &Turns<N, T>,
+        held: HeldTurn<N, T>,
+    ) -> (HeldTurn<N, T>, Answer<SeatedPurse<N, T>>)
+        ensures keeper { result.0 ≡ held }
+        ensures turned { IsTurned self.request self.purse result.1 }
+    {
+        let Job {
+            request,
+            purse,
+            call,
+        } = self;
+        turns.serve_held(
+            held,
+            request,
+            purse,
+            move |register: &mut Register, asked: Request, terminal: u32, number: u64| -> Turned
+                ensures turn { IsTurn register.old terminal number asked result register.new }
+            { call.turn_once(register, asked, terminal, number) },
+        )
+    }
 }
 
 impl<N: Naming, T: Seating, C: Drop> Job<N, T, C> {
@@ -115,26 +139,6 @@ impl<N: Naming, T: Seating, C: Turning> Errand<N, T> for Job<N, T, C> {
         } = self;
         turns.serve_by(
             rt,
-            request,
-            purse,
-            move |register: &mut Register, request: Request, terminal: u32, number: u64| -> Turned
-                ensures turn { IsTurn register.old terminal number request result register.new }
-            { call.turn_once(register, request, terminal, number) },
-        )
-    }
-
-    fn run_held(
-        self,
-        turns: &Turns<N, T>,
-        held: HeldTurn<N, T>,
-    ) -> (HeldTurn<N, T>, Answer<SeatedPurse<N, T>>) {
-        let Job {
-            request,
-            purse,
-            call,
-        } = self;
-        turns.serve_held(
-            held,
             request,
             purse,
             move |register: &mut Register, request: Request, terminal: u32, number: u64| -> Turned

@@ -39,8 +39,14 @@ impl<N: Naming, T: Seating> Stand<N, T> {
         ensures keeper { keeper_in result ≡ keeper_in self }
     {
         match self {
-            Stand::Holding(held) if turns.is_awaited(&held) => Stand::Free(turns.end(held)),
-            same => same,
+            Stand::Free(purse) => Stand::Free(purse),
+            Stand::Holding(held) => {
+                if turns.is_awaited(&held) {
+                    Stand::Free(turns.end(held))
+                } else {
+                    Stand::Holding(held)
+                }
+            }
         }
     }
 }
