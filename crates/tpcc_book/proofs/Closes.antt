@@ -94,7 +94,7 @@ tells_book start words slots told purses last t begin = go told refl
 
 -- what a seat has seen begins the journal
 seen_of : (start : Opening) (s : State (Option Past) Knows) (h : IsTurning start s) (id : ℕ) (v : Knows) → get_elem? s.views id ≡ some v → HasSeen v h.log
-seen_of start s h id v at = let mine = h.each id v at in record { front = mine.front; told = mine.told }
+seen_of start s h id v at = let mine = h.each id v at in record { front = mine.front; told = λ x k at. (mine.told x k at).1 }
 
 none_left : (log : List Entry) → AllBegin [] log
 none_left log k d lt = absurd (omega (arith, lt))

@@ -11,7 +11,7 @@ use Rattle.tpcc_book.specs.declared.turns.knows.Knows.{Knows}
 use Rattle.tpcc_book.specs.declared.turns.knows.Stage.{Stage}
 use Rattle.tpcc_book.specs.declared.turns.knows.Stage.TheVariants.{Idle, Out, Holds}
 use Rattle.tpcc_book.specs.Turning.{knows, out_of, HasTicket, Stands, IsSeated, IsTurning, Ended}
-use Rattle.tpcc_book.proofs.Seats.{total_set, each_set, apart_set, prefix_self, prefix_trans}
+use Rattle.tpcc_book.proofs.Seats.{total_set, each_set, apart_set, prefix_self, prefix_trans, heard_on}
 use Rattle.tpcc_population.specs.declared.opening.Opening.{Opening}
 
 -- who doesn't have the number that is served stands as well at the next one
@@ -20,16 +20,16 @@ stands_on log log' served drawn Idle h other = tt
 stands_on log log' served drawn (Out k) h other = let apart : k ≢ served = other in (omega (arith, h.0, apart), h.1)
 stands_on log log' served drawn (Holds k base) h other = absurd (other h.0)
 
-holder : (log : List Entry) (served drawn : ℕ) (s : Stage) (t : ℕ) (base : List Entry) → s ≡ Holds t base → Stands log served drawn s → (t ≡ served) × (t < drawn) × (base ≡ log)
+pub holder : (log : List Entry) (served drawn : ℕ) (s : Stage) (t : ℕ) (base : List Entry) → s ≡ Holds t base → Stands log served drawn s → (t ≡ served) × (t < drawn) × (base ≡ log)
 holder log served drawn s t base is h = subst (Stands log served drawn) is h
 
-some_same : (a b : Past) → ◌≡◌ {A = List (ℕ × Option Past)} ((0, Some a) ∷ []) ((0, Some b) ∷ []) → a ≡ b
+pub some_same : (a b : Past) → ◌≡◌ {A = List (ℕ × Option Past)} ((0, Some a) ∷ []) ((0, Some b) ∷ []) → a ≡ b
 some_same a b e =
     let pair : ◌≡◌ {A = ℕ × Option Past} (0, Some a) (0, Some b) = cc e in
     let held : Some a ≡ Some b = ap (λ (p : ℕ × Option Past). p.1) pair in cc held
 
 -- its seat has the book, so no other place has it
-is_away : (start : Opening) (s : State (Option Past) Knows) (h : IsTurning start s) (id : ℕ) (v : Knows) (t : ℕ) (base : List Entry) → get_elem? s.views id ≡ some v → v.stage ≡ Holds t base → s.homes ≡ none ∷ []
+pub is_away : (start : Opening) (s : State (Option Past) Knows) (h : IsTurning start s) (id : ℕ) (v : Knows) (t : ℕ) (base : List Entry) → get_elem? s.views id ≡ some v → v.stage ≡ Holds t base → s.homes ≡ none ∷ []
 is_away start s h id v t base at holds =
     elim h.book [ inl b ↦ absurd (b.nobody id v t base at holds) | inr b ↦ b.gone ]
 
@@ -62,14 +62,14 @@ ends start slots id v s0 t base book new c holds carried longer opening next s h
             (λ j u apart e. let f = h.each j u e in record {
               start_is = f.start_is;
               front = prefix_trans u.front h.log book.entries f.front grown;
-              told = λ xs k there. prefix_trans xs h.log book.entries (f.told xs k there) grown;
+              told = λ x k there. heard_on start h.log book.entries x (f.told x k there) grown;
               backed = f.backed;
               stands = stands_on h.log book.entries h.served h.drawn u.stage f.stands (others j u apart e);
             })
             (record {
               start_is = mine.start_is;
               front = prefix_self book.entries book.entries refl;
-              told = λ xs k there. prefix_trans xs h.log book.entries (mine.told xs k there) grown;
+              told = λ x k there. heard_on start h.log book.entries x (mine.told x k there) grown;
               backed = omega arith;
               stands = tt;
             });

@@ -6,7 +6,7 @@ use Rattle.tpcc_rows.specs.declared.entry.Entry.{Entry}
 use Rattle.tpcc_book.specs.Purses.{Held, Pooled, pool_of, pooled}
 use Rattle.tpcc_book.specs.Seats.{Seated, view_of, purses_of}
 use Rattle.tpcc_book.specs.Gathering.{HasSeen, AllBegin, HasJoined}
-use Rattle.tpcc_book.specs.Shares.{both_of}
+use Rattle.tpcc_book.specs.Shares.{both_of, heard_of}
 use Rattle.tpcc_book.specs.declared.turns.knows.Knows.{Knows}
 use Rattle.tpcc_book.proofs.Gathers.{first_pooled, one_more_pooled}
 
@@ -31,10 +31,10 @@ first_joined purses rest pool v p same one is =
 
 -- what it had seen before is told with what the other had
 seen_by_both : (log : List Entry) (v : Knows) (p : Seated) → HasSeen (both_of v (view_of p)) log → HasSeen v log
-seen_by_both log v p s = record { front = s.front; told = λ xs k at. s.told xs (suc k) at }
+seen_by_both log v p s = record { front = s.front; told = λ x k at. s.told x (suc k) at }
 
 seen_by_other : (log : List Entry) (v : Knows) (p : Seated) → HasSeen (both_of v (view_of p)) log → IsPrefix p.front log
-seen_by_other log v p s = s.told p.front 0 refl
+seen_by_other log v p s = s.told (heard_of (view_of p)) 0 refl
 
 -- one more seat, and one more purse in the pool
 pub one_more_joined : (purses rest left : List Seated) (pool now : Pooled) (v both : Knows) (p : Seated) → HasJoined purses rest pool v → rest ≡ left ++ p ∷ [] → now ≡ pooled pool p.purse → both ≡ both_of v (view_of p) → HasJoined purses left now both

@@ -8,9 +8,10 @@ use lib.ListN.{get_elem?}
 use Rattle.atomic_table.proofs.Lists.{at_set}
 use Rattle.tpcc_rows.specs.declared.entry.Entry.{Entry}
 use Rattle.tpcc_book.specs.declared.turns.knows.Knows.{Knows}
+use Rattle.tpcc_book.specs.declared.turns.knows.Heard.{Heard}
 use Rattle.tpcc_book.specs.declared.turns.knows.Stage.{Stage}
 use Rattle.tpcc_book.specs.declared.turns.knows.Stage.TheVariants.{Idle, Out, Holds}
-use Rattle.tpcc_book.specs.Turning.{total, HasTicket, Stands, IsSeated}
+use Rattle.tpcc_book.specs.Turning.{total, HasTicket, Stands, IsHeard, IsSeated}
 use Rattle.tpcc_population.specs.declared.opening.Opening.{Opening}
 
 -- the total after a change of one seat
@@ -75,3 +76,7 @@ prefix_self xs ys e = ([], append-nil xs ∙ e)
 
 pub prefix_trans : (xs ys zs : List Entry) → IsPrefix xs ys → IsPrefix ys zs → IsPrefix xs zs
 prefix_trans xs ys zs p q = (p.0 ++ q.0, sym (append_assoc xs p.0 q.0) ∙ (ap (λ w. w ++ q.0) p.1 ∙ q.1))
+
+-- what was heard stays a beginning of a longer journal
+pub heard_on : (start : Opening) (log log' : List Entry) (x : Heard) → IsHeard start log x → IsPrefix log log' → IsHeard start log' x
+heard_on start log log' x h longer = (h.0, prefix_trans x.front log log' h.1 longer)

@@ -120,14 +120,14 @@ turned_of held after views views' purse me two four ticket old new answer reques
     }
 
 -- the journal after a turn begins with the one before it
-grown : (old new : Past) (terminal number : ℕ) (request : Request) (place : Option ℕ) (outcome : Result Reply Refusal)
+pub grown : (old new : Past) (terminal number : ℕ) (request : Request) (place : Option ℕ) (outcome : Result Reply Refusal)
     → ForOk outcome (Accepts old terminal number request place new) → ForErr outcome (Refuses old terminal number request place new) → IsPrefix old.entries new.entries
 grown old new terminal number request place (Ok reply) ok err =
     subst (λ (p : Past). IsPrefix old.entries p.entries) (sym (ok reply refl).new_is) (entry_of old terminal number request ∷ [], refl)
 grown old new terminal number request place (Err refusal) ok err =
     subst (λ (p : Past). IsPrefix old.entries p.entries) (sym (err refusal refl).same) (prefix_self old.entries old.entries refl)
 
-same_opening : (old new : Past) (terminal number : ℕ) (request : Request) (place : Option ℕ) (outcome : Result Reply Refusal)
+pub same_opening : (old new : Past) (terminal number : ℕ) (request : Request) (place : Option ℕ) (outcome : Result Reply Refusal)
     → ForOk outcome (Accepts old terminal number request place new) → ForErr outcome (Refuses old terminal number request place new) → new.opening ≡ old.opening
 same_opening old new terminal number request place (Ok reply) ok err = ap (λ (p : Past). p.opening) (ok reply refl).new_is
 same_opening old new terminal number request place (Err refusal) ok err = ap (λ (p : Past). p.opening) (err refusal refl).same

@@ -8,6 +8,7 @@ use Rattle.tpcc_book.specs.Purses.{Held, Pooled}
 use Rattle.tpcc_book.specs.Serve.{rooms_of, entries_of, paid_of}
 use Rattle.tpcc_book.specs.Seats.{Seated, purses_of}
 use Rattle.tpcc_book.specs.declared.turns.knows.Knows.{Knows}
+use Rattle.tpcc_book.specs.declared.turns.knows.Heard.{Heard}
 use Rattle.tpcc_book.specs.declared.turns.knows.Stage.TheVariants.{Idle}
 
 -- what is pooled and what is left are all
@@ -19,7 +20,7 @@ pub record AreAll (purses : List Held) (pool : Pooled) (rest : List Held) : Type
 -- the journal begins with all that a seat has seen, or was told
 pub record HasSeen (v : Knows) (log : List Entry) : Type 0 where
   pub front : IsPrefix v.front log
-  pub told : (xs : List Entry) (k : ℕ) → get_elem? v.told k ≡ some xs → IsPrefix xs log
+  pub told : (x : Heard) (k : ℕ) → get_elem? v.told k ≡ some x → IsPrefix x.front log
 
 -- the journal begins with the front of each purse
 abbrev pub AllBegin : List Seated → List Entry → Type 0

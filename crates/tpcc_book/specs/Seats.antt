@@ -1,10 +1,12 @@
 -- What a seated purse is seen as.
-use Rattle.std.specs.Prelude.{◌≡◌, ◌+◌, List, [], ◌∷◌, map}
+use Rattle.std.specs.Prelude.{ℕ, ◌≡◌, ◌+◌, List, [], ◌∷◌, map, Option, None}
 use Rattle.atomic_table.specs.Seated.{TableId}
+use Rattle.atomic_table.specs.Table.{Me}
 use Rattle.tpcc_rows.specs.declared.entry.Entry.{Entry}
 use Rattle.tpcc_book.specs.Purses.{Held}
 use Rattle.tpcc_book.specs.declared.turns.knows.Knows.{Knows}
-use Rattle.tpcc_book.specs.declared.turns.knows.Stage.TheVariants.{Idle}
+use Rattle.tpcc_book.specs.declared.turns.knows.Stage.{Stage}
+use Rattle.tpcc_book.specs.declared.turns.knows.Stage.TheVariants.{Idle, Out, Holds}
 use mathlib.Core.List.{IsPrefix}
 use Rattle.tpcc_rows.specs.declared.requests.Request.{Request}
 use Rattle.std.specs.Result.{ForOk}
@@ -37,6 +39,24 @@ purses_of = map (λ p. p.purse)
 pub record Unnamed : Type 0 where
   pub opening : Opening
   pub table : TableId
+
+-- who keeps a turn: the purse, and the opening of its book
+pub record Keeper : Type 0 where
+  pub purse : Held
+  pub start : Opening
+
+abbrev pub keeper_of : Seated → Keeper
+keeper_of p = record { purse = p.purse; start = p.start }
+
+abbrev pub number_of : Stage → ℕ
+number_of Idle = 0
+number_of (Out t) = t
+number_of (Holds t base) = t
+
+-- a seat with so many parts that has the turn, with the journal of this book, which is out of its place
+abbrev pub keeping : Me (Option Past) Knows → ℕ → Past → Me (Option Past) Knows
+keeping me parts book =
+    (knows me.0.start book.entries parts (Holds (number_of me.0.stage) book.entries) [], (0, None) ∷ [])
 
 -- an answer with the purse alone
 abbrev pub by_purse : Told Seated → Told Held

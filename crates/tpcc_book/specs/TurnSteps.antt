@@ -1,12 +1,15 @@
 -- What the steps of a turn ask and tell.
-use Rattle.std.specs.Prelude.{ℕ, ◌≡◌, ◌+◌, ◌%◌, ◌^◌, List, [], ◌∷◌, Option, Some, None}
+use Rattle.std.specs.Prelude.{ℕ, ◌≡◌, ◌+◌, ◌<◌, ◌%◌, ◌^◌, List, [], ◌∷◌, Option, Some, None}
+use mathlib.Core.Option.{some}
 use mathlib.Core.List.{IsPrefix}
+use lib.ListN.{get_elem?}
 use Rattle.atomic_table.specs.Table.{Me}
 use Rattle.tpcc_rows.specs.declared.entry.Entry.{Entry}
 use Rattle.tpcc_book.specs.Past.{Past}
 use Rattle.tpcc_book.specs.declared.turns.knows.Knows.{Knows}
+use Rattle.tpcc_book.specs.declared.turns.knows.Heard.{Heard}
 use Rattle.tpcc_book.specs.declared.turns.knows.Stage.TheVariants.{Out, Holds}
-use Rattle.tpcc_book.specs.Turning.{knows}
+use Rattle.tpcc_book.specs.Turning.{knows, IsHeard}
 
 -- a ticket was drawn
 pub record Drawn (me : Me (Option Past) Knows) (found : ℕ) (now : Me (Option Past) Knows) : Type 0 where
@@ -48,3 +51,30 @@ pub record Giving (me : Me (Option Past) Knows) (ticket : ℕ) (book : Past) : T
   pub slot : me.1 ≡ (0, None) ∷ []
   pub longer : IsPrefix base book.entries
   pub opening : book.opening ≡ me.0.start
+
+-- the seat has the turn, and its book's journal begins with the one that the turn was begun with
+pub record Growing (me : Me (Option Past) Knows) (book : Past) : Type 0 where
+  pub number : ℕ
+  pub base : List Entry
+  pub stage : me.0.stage ≡ Holds number base
+  pub slot : me.1 ≡ (0, None) ∷ []
+  pub longer : IsPrefix base book.entries
+  pub some_part : 0 < me.0.parts
+
+-- the turn goes on with the journal of this book; what was told begins the journal before
+pub record Shown (me : Me (Option Past) Knows) (book : Past) (now : Me (Option Past) Knows) : Type 0 where
+  pub number : ℕ
+  pub base : List Entry
+  pub stage : me.0.stage ≡ Holds number base
+  pub now_is : now ≡ (knows me.0.start book.entries me.0.parts (Holds number book.entries) me.0.told, (0, None) ∷ [])
+  pub told : (x : Heard) (k : ℕ) → get_elem? me.0.told k ≡ some x → IsHeard me.0.start base x
+
+-- the same with the book in the seat's slot
+pub record CanGrow (me : Me (Option Past) Knows) : Type 0 where
+  pub number : ℕ
+  pub base : List Entry
+  pub book : Past
+  pub stage : me.0.stage ≡ Holds number base
+  pub slot : me.1 ≡ (0, Some book) ∷ []
+  pub longer : IsPrefix base book.entries
+  pub some_part : 0 < me.0.parts

@@ -7,6 +7,7 @@ use Rattle.atomic_table.specs.Table.{State, Me, Step}
 use Rattle.tpcc_rows.specs.declared.entry.Entry.{Entry}
 use Rattle.tpcc_book.specs.Past.{Past}
 use Rattle.tpcc_book.specs.declared.turns.knows.Knows.{Knows}
+use Rattle.tpcc_book.specs.declared.turns.knows.Heard.{Heard}
 use Rattle.tpcc_book.specs.declared.turns.knows.Stage.{Stage}
 use Rattle.tpcc_book.specs.declared.turns.knows.Stage.TheVariants.{Idle, Out, Holds}
 use Rattle.tpcc_population.specs.declared.opening.Opening.{Opening}
@@ -16,7 +17,7 @@ use Rattle.tpcc_population.specs.declared.opening.Opening.TheVariants.{Plain}
 abbrev pub no_opening : Opening
 no_opening = Plain (record { warehouses = 0; customers = 0; items = 0 })
 
-abbrev pub knows : Opening → List Entry → ℕ → Stage → List (List Entry) → Knows
+abbrev pub knows : Opening → List Entry → ℕ → Stage → List Heard → Knows
 knows start front parts stage told =
     record { start = start; front = front; parts = parts; stage = stage; told = told }
 
@@ -46,11 +47,15 @@ Stands log served drawn Idle = Unit {0}
 Stands log served drawn (Out t) = (served ≤ t) × (t < drawn)
 Stands log served drawn (Holds t base) = (t ≡ served) × (t < drawn) × (base ≡ log)
 
+-- what was heard is the opening, and a beginning of the journal
+abbrev pub IsHeard : Opening → List Entry → Heard → Type 0
+IsHeard start log x = (x.start ≡ start) × IsPrefix x.front log
+
 -- what is seen are beginnings of the journal, and a ticket needs a part
 pub record IsSeated (start : Opening) (log : List Entry) (served drawn : ℕ) (v : Knows) : Type 0 where
   pub start_is : 0 < v.parts → v.start ≡ start
   pub front : IsPrefix v.front log
-  pub told : (xs : List Entry) (k : ℕ) → get_elem? v.told k ≡ some xs → IsPrefix xs log
+  pub told : (x : Heard) (k : ℕ) → get_elem? v.told k ≡ some x → IsHeard start log x
   pub backed : out_of v.stage ≤ v.parts
   pub stands : Stands log served drawn v.stage
 
@@ -105,3 +110,12 @@ Looked s me found now =
 abbrev pub Ended : Step (Option Past) → Me (Option Past) Knows → ℕ → Me (Option Past) Knows → Type 0
 Ended s me found now =
     (book : Past) → me.1 ≡ (0, Some book) ∷ [] → now ≡ (knows me.0.start book.entries me.0.parts Idle me.0.told, [])
+
+-- the journal of the book in hand is the turns' journal now; the one before began with all that was told
+pub record Grew (me : Me (Option Past) Knows) (ticket : ℕ) (base : List Entry) (book : Past) (now : Me (Option Past) Knows) : Type 0 where
+  pub now_is : now ≡ (knows me.0.start book.entries me.0.parts (Holds ticket book.entries) me.0.told, me.1)
+  pub told : (x : Heard) (k : ℕ) → get_elem? me.0.told k ≡ some x → IsHeard me.0.start base x
+
+abbrev pub Grown : Step (Option Past) → Me (Option Past) Knows → ℕ → Me (Option Past) Knows → Type 0
+Grown s me found now =
+    (ticket : ℕ) (base : List Entry) (book : Past) → me.0.stage ≡ Holds ticket base → me.1 ≡ (0, Some book) ∷ [] → Grew me ticket base book now

@@ -18,4 +18,4 @@ pub use naming::{Blanks, Entries, Naming, PaidCents};
 pub use purse::Purse;
 pub use register::Register;
 pub use turned::Turned;
-pub use turns::{SeatedPurse, Seating, Turns, UnnamedTurns};
+pub use turns::{HeldTurn, SeatedPurse, Seating, Turns, UnnamedTurns};

@@ -8,6 +8,7 @@ ghost use Rattle.tpcc_book.specs.Seats.{IsTurned};
 ghost use Rattle.tpcc_book.specs.Turn.{TakesTurn, MakesTurn};
 
 mod gather;
+mod held;
 mod knows;
 mod rule;
 mod seated;
@@ -24,6 +25,7 @@ use crate::turns::knows::Knows;
 use crate::turns::rule::TurnRule;
 use crate::turns::steps::{give, take};
 use atomic_table::Table;
+pub use held::HeldTurn;
 pub use seated::{SeatedPurse, Seating};
 use std::alloc::Global;
 use std::marker::{Model, PhantomData};

@@ -1,14 +1,20 @@
 //! The threads that serve.
-ghost use Rattle.std.specs.Prelude.{◌≡◌, None};
+ghost use Rattle.std.specs.Prelude.{◌≡◌, ◌+◌, ◌≤◌, None};
 ghost use Rattle.tpcc_mailbox.specs.Tokens.{identity, serving_origin, serving_hand};
+ghost use Rattle.tpcc_audit.specs.Settlement.{AllSeen};
 
+use crate::gathered::Gathered;
+use std::alloc::Global;
 use std::sync::Wait;
-use std::thread::{Scope, Threads};
-use tpcc_book::{Naming, Seating, Turns};
+use std::thread::{JoinHandle, Scope, Threads};
+use tpcc_book::{Naming, SeatedPurse, Seating, Turns};
 use tpcc_server::{JobMailboxes, JobServing, OpenGate, Turning, serve_until_closed};
 
-/// Starts so many servers, and gives the number of those that could be made. The first has no limit, so jobs
-/// are served until the mailboxes are closed; each other ends once it has served `retire` jobs, unless that is 0.
+/// The thread of a server, which gives the server's purse back.
+pub(crate) type ServerHandle<N, T> = JoinHandle<SeatedPurse<N, T>>;
+
+/// Starts so many servers, each with an empty purse of its own, as many as can be made. The first has no limit, so
+/// jobs are served until the mailboxes are closed; each other ends once it has served `retire` jobs, unless that is 0.
 pub(crate) fn start_servers<
     's,
     E,
@@ -19,32 +25,38 @@ pub(crate) fn start_servers<
 >(
     scope: &Scope<'s, E>,
     rt: &'s R,
+    alloc: Global,
     mailboxes: &'s JobMailboxes<N, T, C>,
     turns: &'s Turns<N, T>,
     serving: &mut JobServing<N, T, C>,
+    first: &mut SeatedPurse<N, T>,
     count: u32,
     retire: u32,
-) -> u32
+) -> Vec<ServerHandle<N, T>>
     requires origin { serving_origin serving.old ≡ identity mailboxes.now }
+    requires room { count ≤ first.old.purse.room }
     ensures origin { serving_origin serving.new ≡ identity mailboxes.now }
+    ensures room { first.old.purse.room ≤ first.new.purse.room + count }
 {
     let later = if retire == 0 {
         u64::MAX
     } else {
         u64::from(retire)
     };
-    let mut made = 0u32;
-    for _ in 0..count {
-        let limit = if made == 0 { u64::MAX } else { later };
+    let mut handles = Vec::new(alloc);
+    for number in 0..count {
+        let limit = if handles.is_empty() { u64::MAX } else { later };
+        let purse = first.split(turns, number);
         let one = serving.split(mailboxes);
-        if start_server(scope, rt, mailboxes, turns, one, limit) {
-            made = made.saturating_add(1);
+        if let Some(handle) = start_server(scope, rt, mailboxes, turns, one, purse, limit) {
+            // A handle that finds no room is let go: the scope joins its thread, and the caller sees that one is missing.
+            let _ = handles.push(handle);
         }
     }
-    made
+    handles
 }
 
-// Starts one server; false where its thread can't be made.
+// Starts one server; None where its thread can't be made.
 fn start_server<
     's,
     E,
@@ -58,12 +70,31 @@ fn start_server<
     mailboxes: &'s JobMailboxes<N, T, C>,
     turns: &'s Turns<N, T>,
     serving: JobServing<N, T, C>,
+    purse: SeatedPurse<N, T>,
     limit: u64,
-) -> bool
+) -> Option<ServerHandle<N, T>>
     requires origin { serving_origin serving ≡ identity mailboxes.now }
     requires free { serving_hand serving ≡ None }
 {
     scope
-        .spawn(move || { serve_until_closed(rt, mailboxes, serving, turns, OpenGate, limit).2 })
-        .is_ok()
+        .spawn(move || {
+            serve_until_closed(rt, mailboxes, serving, turns, OpenGate, limit, purse).3
+        })
+        .ok()
+}
+
+/// Joins the threads of all servers, and keeps their purses.
+pub(crate) fn join_servers<N: Naming, T: Seating, R: Threads>(
+    rt: &R,
+    alloc: Global,
+    handles: Vec<ServerHandle<N, T>>,
+    all: &mut Gathered<N, T>,
+)
+    requires seen { AllSeen all.old.purses.items all.old.receipts.items }
+    ensures seen { AllSeen all.new.purses.items all.new.receipts.items }
+{
+    let mut handles = handles;
+    while let Some(handle) = handles.pop() {
+        all.keep(handle.join(rt), Vec::new(alloc));
+    }
 }

@@ -1,12 +1,12 @@
 //! The threads of a run: those of its terminals, and those that serve them, if any.
-ghost use Rattle.std.specs.Prelude.{◌≡◌, ◌≤◌, ◌<◌, All};
+ghost use Rattle.std.specs.Prelude.{◌≡◌, ◌+◌, ◌≤◌, ◌<◌, All};
 ghost use Rattle.tpcc_mailbox.specs.Tokens.{identity, idle_origin, serving_origin};
 ghost use Rattle.tpcc_audit.specs.Settlement.{AllSeen};
 
 use crate::fault::RunFault;
 use crate::gathered::Gathered;
 use crate::plan::Plan;
-use crate::servers::start_servers;
+use crate::servers::{join_servers, start_servers};
 use crate::threads::ask_everything;
 use crate::way::{ByMailbox, ByTurn, by_mailboxes, by_turns};
 use std::alloc::{AllocError, Global};
@@ -17,7 +17,7 @@ use tpcc_book::{Naming, SeatedPurse, Seating, Turns};
 use tpcc_population::Scale;
 use tpcc_server::{JobIdle, JobMailboxes, JobServing, Turning};
 
-// Starts the servers, and lets the terminals ask them. The scope joins the servers, since the mailboxes are closed.
+// Starts the servers, lets the terminals ask them, and joins them once the mailboxes are closed.
 fn drive<
     's,
     E,
@@ -42,21 +42,27 @@ fn drive<
     retire: u32,
 ) -> Gathered<N, T>
     requires serving { serving_origin serving ≡ identity mailboxes.now }
-    requires room { plan.now.terminals < first.purse.room }
+    requires room { plan.now.terminals + count < first.purse.room }
     requires terminals { plan.now.terminals ≤ 999 }
     requires make { F.IsAlwaysCallable make.now }
     ensures seen { AllSeen result.purses.items result.receipts.items }
 {
     let mut serving = serving;
-    let servers = start_servers(scope, rt, mailboxes, turns, &mut serving, count, retire);
-    if servers == 0 {
+    let mut first = first;
+    let wanted = count as usize;
+    let servers = start_servers(
+        scope, rt, alloc, mailboxes, turns, &mut serving, &mut first, count, retire,
+    );
+    let missing = servers.len() < wanted;
+    if servers.is_empty() {
         mailboxes.close(&mut serving);
     }
     let mut all = ask_everything(scope, rt, alloc, turns, ways, first, make, scale, plan);
-    if servers < count {
+    if missing {
         all.note(RunFault::NoMemory);
     }
     mailboxes.close(&mut serving);
+    join_servers(rt, alloc, servers, &mut all);
     all
 }
 
@@ -83,7 +89,7 @@ pub(crate) fn serve_by_servers<
 ) -> Gathered<N, T>
     requires idles { All (λ idle. idle_origin idle ≡ identity mailboxes.now) idles.items }
     requires serving { serving_origin serving ≡ identity mailboxes.now }
-    requires room { plan.now.terminals < first.purse.room }
+    requires room { plan.now.terminals + count < first.purse.room }
     requires terminals { plan.now.terminals ≤ 999 }
     requires make { F.IsAlwaysCallable make.now }
     ensures seen { AllSeen result.purses.items result.receipts.items }
@@ -96,7 +102,7 @@ pub(crate) fn serve_by_servers<
         rt,
         |scope| -> Gathered<N, T>
             requires serving { serving_origin serving ≡ identity mailboxes.now }
-            requires room { plan.now.terminals < first.purse.room }
+            requires room { plan.now.terminals + count < first.purse.room }
             requires terminals { plan.now.terminals ≤ 999 }
             requires make { F.IsAlwaysCallable make.now }
             ensures seen { AllSeen result.purses.items result.receipts.items }

@@ -1,5 +1,5 @@
 //! The ways by which a terminal's requests come to the book.
-ghost use Rattle.std.specs.Prelude.{◌≡◌, All, IfOk, IfSome};
+ghost use Rattle.std.specs.Prelude.{◌≡◌, ◌<◌, All, IfSome, IsSome, vec_len};
 ghost use Rattle.tpcc_rows.specs.declared.requests.Request.{Request};
 ghost use Rattle.tpcc_book.specs.Seats.{IsTurned};
 ghost use Rattle.tpcc_mailbox.specs.Tokens.{identity, idle_origin};
@@ -91,6 +91,7 @@ fn next_way<'s, N: Naming, T: Seating, C>(
 ) -> Option<ByMailbox<'s, N, T, C>>
     requires idles { All (λ idle. idle_origin idle ≡ identity mailboxes.now) idles.old.items }
     ensures rest { All (λ idle. idle_origin idle ≡ identity mailboxes.now) idles.new.items }
+    ensures less { IsSome result → vec_len idles.new < vec_len idles.old }
 {
     let idle = next_idle(idles, mailboxes)?;
     Some(ByMailbox { mailboxes, idle })
@@ -104,6 +105,7 @@ fn next_idle<N: Naming, T: Seating, C>(
     requires idles { All (λ idle. idle_origin idle ≡ identity mailboxes.now) idles.old.items }
     ensures rest { All (λ idle. idle_origin idle ≡ identity mailboxes.now) idles.new.items }
     ensures one { IfSome result (λ idle. idle_origin idle ≡ identity mailboxes.now) }
+    ensures less { IsSome result → vec_len idles.new < vec_len idles.old }
 {
     let _ = mailboxes;
     idles.pop()

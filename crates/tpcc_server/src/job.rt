@@ -7,7 +7,7 @@ use crate::errand::Errand;
 use crate::turning::{Call, Turner, Turning};
 use std::marker::Model;
 use std::sync::Wait;
-use tpcc_book::{Answer, Naming, Register, SeatedPurse, Seating, Turned, Turns};
+use tpcc_book::{Answer, HeldTurn, Naming, Register, SeatedPurse, Seating, Turned, Turns};
 use tpcc_mailbox::{Answers, Idle, Mailboxes, Serving, Waiting};
 use tpcc_rows::Request;
 
@@ -84,6 +84,30 @@ impl<N: Naming, T: Seating, C: Turning> Job<N, T, C> {
             purse,
             call,
         }
+    }
+
+    /// Makes the call once in a turn that is kept, for the job's own request and purse. It does not wait.
+    pub fn run_held(
+        self,
+        turns: &Turns<N, T>,
+        held: HeldTurn<N, T>,
+    ) -> (HeldTurn<N, T>, Answer<SeatedPurse<N, T>>)
+        ensures keeper { result.0 ≡ held }
+        ensures turned { IsTurned self.request self.purse result.1 }
+    {
+        let Job {
+            request,
+            purse,
+            call,
+        } = self;
+        turns.serve_held(
+            held,
+            request,
+            purse,
+            move |register: &mut Register, asked: Request, terminal: u32, number: u64| -> Turned
+                ensures turn { IsTurn register.old terminal number asked result register.new }
+            { call.turn_once(register, asked, terminal, number) },
+        )
     }
 }
 

@@ -10,6 +10,7 @@ mod errand;
 mod gate;
 mod job;
 mod serving;
+mod stand;
 mod turning;
 
 pub use asking::ask;

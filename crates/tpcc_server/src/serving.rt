@@ -1,25 +1,30 @@
 //! What a server does with its mailboxes.
 ghost use Rattle.std.specs.Prelude.{◌≡◌, ℕ, ◌+◌, ◌<◌, ◌≤◌, List, ◌++◌, length, true, None};
 ghost use Rattle.tpcc_mailbox.specs.Tokens.{identity, mailbox_count, serving_origin, serving_hand, serving_splits, serving_answered, serving_saw_closed};
+ghost use Rattle.tpcc_book.specs.Seats.{keeper_of};
 ghost use Rattle.tpcc_server.specs.Rounds.{IsRising, HasAnsweredInTurn};
+ghost use Rattle.tpcc_server.specs.Stands.{keeper_in};
 
 use crate::errand::Errand;
 use crate::gate::Gate;
 use crate::job::{JobMailboxes, JobServing};
+use crate::stand::Stand;
 use crate::turning::Turning;
 use std::sync::Wait;
 use std::thread;
-use tpcc_book::{Naming, Seating, Turns};
+use tpcc_book::{HeldTurn, Naming, SeatedPurse, Seating, Turns};
 
-/// Looks at each mailbox once, in order, and answers the jobs that it finds, each in its own turn. It
-/// gives their number.
+/// Looks at each mailbox once, in order, and answers the jobs that it finds, each in a turn of its own. It gives
+/// their number. The server's own purse keeps the book's turn from one job to the next while nobody else waits for it,
+/// and comes back without it.
 pub fn serve_round<N: Naming, T: Seating, C: Turning, G: Gate, R: Wait>(
     rt: &R,
     mailboxes: &JobMailboxes<N, T, C>,
     serving: &mut JobServing<N, T, C>,
     turns: &Turns<N, T>,
     gate: &mut G,
-) -> u64
+    keeper: SeatedPurse<N, T>,
+) -> (u64, SeatedPurse<N, T>)
     requires origin { serving_origin serving.old ≡ identity mailboxes.now }
     requires free { serving_hand serving.old ≡ None }
     ensures origin { serving_origin serving.new ≡ serving_origin serving.old }
@@ -27,14 +32,53 @@ pub fn serve_round<N: Naming, T: Seating, C: Turning, G: Gate, R: Wait>(
     ensures free { serving_hand serving.new ≡ None }
     ensures closed { serving_saw_closed serving.new ≡ serving_saw_closed serving.old }
     ensures splits { serving_splits serving.new ≡ serving_splits serving.old }
-    ensures served { result ≤ mailbox_count mailboxes.now }
+    ensures served { result.0 ≤ mailbox_count mailboxes.now }
+    ensures keeper { keeper_of result.1 ≡ keeper_of keeper }
     // The number is that of the jobs answered, at most one a mailbox.
     ensures answered { (ks : List ℕ)
         × (serving_answered serving.new ≡ serving_answered serving.old ++ ks)
-        × (length ks ≡ result)
+        × (length ks ≡ result.0)
         × IsRising 0 ks (mailbox_count mailboxes.now) }
 {
-    serve_some(rt, mailboxes, serving, turns, gate, u64::MAX)
+    let stand = Stand::Free(keeper);
+    let (served, stand) = serve_some(rt, mailboxes, serving, turns, gate, u64::MAX, stand);
+    (served, stand.rest(turns))
+}
+
+// Passes the gate in front of a job; one that may hold the server up, without the turn.
+fn pass_before<N: Naming, T: Seating, G: Gate>(
+    turns: &Turns<N, T>,
+    gate: &mut G,
+    mailbox: usize,
+    stand: Stand<N, T>,
+) -> Stand<N, T>
+    ensures keeper { keeper_in result ≡ keeper_in stand }
+{
+    let stand = if gate.is_open() {
+        stand
+    } else {
+        Stand::Free(stand.rest(turns))
+    };
+    gate.before(mailbox);
+    stand
+}
+
+// The same behind a job. Where somebody else waits for the turn it is given up too.
+fn pass_after<N: Naming, T: Seating, G: Gate>(
+    turns: &Turns<N, T>,
+    gate: &mut G,
+    mailbox: usize,
+    held: HeldTurn<N, T>,
+) -> Stand<N, T>
+    ensures keeper { keeper_in result ≡ held }
+{
+    let stand = if gate.is_open() {
+        Stand::Holding(held).give_way(turns)
+    } else {
+        Stand::Free(turns.end(held))
+    };
+    gate.after(mailbox);
+    stand
 }
 
 // A round that ends once it has answered so many jobs.
@@ -45,35 +89,40 @@ fn serve_some<N: Naming, T: Seating, C: Turning, G: Gate, R: Wait>(
     turns: &Turns<N, T>,
     gate: &mut G,
     most: u64,
-) -> u64
+    stand: Stand<N, T>,
+) -> (u64, Stand<N, T>)
     requires origin { serving_origin serving.old ≡ identity mailboxes.now }
     requires free { serving_hand serving.old ≡ None }
     ensures origin { serving_origin serving.new ≡ serving_origin serving.old }
     ensures free { serving_hand serving.new ≡ None }
     ensures closed { serving_saw_closed serving.new ≡ serving_saw_closed serving.old }
     ensures splits { serving_splits serving.new ≡ serving_splits serving.old }
-    ensures served { result ≤ mailbox_count mailboxes.now }
-    ensures most { result ≤ most }
-    ensures answered { HasAnsweredInTurn (serving_answered serving.old) (serving_answered serving.new) result (mailbox_count mailboxes.now) }
+    ensures served { result.0 ≤ mailbox_count mailboxes.now }
+    ensures most { result.0 ≤ most }
+    ensures keeper { keeper_in result.1 ≡ keeper_in stand }
+    ensures answered { HasAnsweredInTurn (serving_answered serving.old) (serving_answered serving.new) result.0 (mailbox_count mailboxes.now) }
 {
+    let mut stand = stand;
     let mut served = 0u64;
     for k in 0..mailboxes.len() {
         if served == most {
             break;
         }
         if let Some((taken, job)) = mailboxes.take(serving, k) {
-            gate.before(k);
-            let answer = job.run(turns, rt);
+            let before = pass_before(turns, gate, k, stand);
+            let (held, answer) = job.run_held(turns, before.hold(rt, turns));
             mailboxes.answer(serving, taken, answer);
-            gate.after(k);
+            stand = pass_after(turns, gate, k, held);
             served += 1;
         }
     }
-    served
+    (served, stand)
 }
 
 /// Makes rounds until it has answered `limit` jobs, or has made one whole round after it saw the
-/// mailboxes closed. It gives the server and the gate back, and the number of jobs that it answered.
+/// mailboxes closed. It gives the server, the gate and its own purse back, and the number of jobs that it answered.
+/// Between two jobs the purse keeps the book's turn, unless somebody else waits for it or the gate may hold the
+/// server up.
 pub fn serve_until_closed<N: Naming, T: Seating, C: Turning, G: Gate, R: Wait>(
     rt: &R,
     mailboxes: &JobMailboxes<N, T, C>,
@@ -81,13 +130,15 @@ pub fn serve_until_closed<N: Naming, T: Seating, C: Turning, G: Gate, R: Wait>(
     turns: &Turns<N, T>,
     gate: G,
     limit: u64,
-) -> (JobServing<N, T, C>, G, u64)
+    keeper: SeatedPurse<N, T>,
+) -> (JobServing<N, T, C>, G, u64, SeatedPurse<N, T>)
     requires origin { serving_origin serving ≡ identity mailboxes.now }
     requires free { serving_hand serving ≡ None }
     ensures origin { serving_origin result.0 ≡ identity mailboxes.now }
     ensures free { serving_hand result.0 ≡ None }
     ensures splits { serving_splits result.0 ≡ serving_splits serving }
     ensures limit { result.2 ≤ limit }
+    ensures keeper { keeper_of result.3 ≡ keeper_of keeper }
     // The number is that of the jobs answered.
     ensures answered { (ks : List ℕ)
         × (serving_answered result.0 ≡ serving_answered serving ++ ks)
@@ -97,18 +148,21 @@ pub fn serve_until_closed<N: Naming, T: Seating, C: Turning, G: Gate, R: Wait>(
 {
     let mut serving = serving;
     let mut gate = gate;
+    let mut stand = Stand::Free(keeper);
     let mut served = 0u64;
     for _ in rt.forever() {
         // Read before the round, so that a job posted before the mailboxes were closed is found.
         let closed = mailboxes.is_closed(&mut serving);
-        let answered = serve_some(
+        let (answered, left) = serve_some(
             rt,
             mailboxes,
             &mut serving,
             turns,
             &mut gate,
             limit - served,
+            stand,
         );
+        stand = left.give_way(turns);
         served += answered;
         if closed || served == limit {
             break;
@@ -118,5 +172,5 @@ pub fn serve_until_closed<N: Naming, T: Seating, C: Turning, G: Gate, R: Wait>(
             thread::yield_now();
         }
     }
-    (serving, gate, served)
+    (serving, gate, served, stand.rest(turns))
 }

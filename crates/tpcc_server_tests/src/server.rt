@@ -66,12 +66,12 @@ fn at_its_turns<
     let (turns, mut first) = turns.named::<T>();
     let one = first.split(&turns, 1);
     let two = first.split(&turns, 2);
-    happens(rt, alloc, &turns, one, two, story);
-    let_go(first);
+    let other = first.split(&turns, 3);
+    happens(rt, alloc, &turns, one, two, (first, other), story);
     let_go(turns)
 }
 
-/// The story of the purses of two terminals.
+/// The story of the purses of two terminals, and those of two servers.
 fn happens<
     N: Naming + Send + Sync,
     T: Seating + Send + Sync,
@@ -82,14 +82,28 @@ fn happens<
     turns: &Turns<N, T>,
     one: SeatedPurse<N, T>,
     two: SeatedPurse<N, T>,
+    keepers: (SeatedPurse<N, T>, SeatedPurse<N, T>),
     story: Story,
 ) {
+    let (keeper, other) = keepers;
     match story {
-        Story::AskedInVain => asked_in_vain(rt, alloc, one, two),
-        Story::NotCollected => not_collected(rt, alloc, turns, one, two),
-        Story::Limited => limited(rt, alloc, turns, one, two),
-        Story::HeldUp => held_up(rt, alloc, turns, one, two),
-        Story::ClosedMeanwhile => closed_meanwhile(rt, alloc, turns, one, two),
+        Story::AskedInVain => {
+            let_go((keeper, other));
+            asked_in_vain(rt, alloc, one, two)
+        }
+        Story::HeldUp => held_up(rt, alloc, turns, one, two, keeper, other),
+        Story::NotCollected => {
+            let_go((other, two));
+            not_collected(rt, alloc, turns, one, keeper)
+        }
+        Story::Limited => {
+            let_go(other);
+            limited(rt, alloc, turns, one, two, keeper)
+        }
+        Story::ClosedMeanwhile => {
+            let_go((other, two));
+            closed_meanwhile(rt, alloc, turns, one, keeper)
+        }
     }
 }
 

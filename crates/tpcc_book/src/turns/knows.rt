@@ -11,13 +11,21 @@ pub enum Stage {
     Holds(u64, LinkedList<Entry>),
 }
 
+/// What a seat that was joined into another had seen: the book's opening and the first entries, and its parts. No
+/// value of it is made.
+pub struct Heard {
+    pub start: Opening,
+    pub front: LinkedList<Entry>,
+    pub parts: u64,
+}
+
 /// What a seat knows: the book's opening, the entries that it has seen, its parts of the book of the
-/// 10,001 that there are, where it stands, and what was seen by seats that were joined into it. No
+/// 10,001 that there are, where it stands, and what it heard from seats that were joined into it. No
 /// value of it is made.
 pub struct Knows {
     pub start: Opening,
     pub front: LinkedList<Entry>,
     pub parts: u64,
     pub stage: Stage,
-    pub told: LinkedList<LinkedList<Entry>>,
+    pub told: LinkedList<Heard>,
 }

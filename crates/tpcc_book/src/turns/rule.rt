@@ -40,6 +40,15 @@ impl<N: Naming> Play<Option<Book<N>>, Knows> for Look {
     ghost then = { Looked };
 }
 
+/// Telling that the journal is that of the book in hand.
+pub struct Grow;
+
+impl<N: Naming> Play<Option<Book<N>>, Knows> for Grow {
+    ghost use Rattle.tpcc_book.specs.Turning.{Grown};
+
+    ghost then = { Grown };
+}
+
 /// Giving the book back, and serving the next ticket.
 pub struct End;
 

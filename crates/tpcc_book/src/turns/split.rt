@@ -21,6 +21,17 @@ impl Split<Knows> for OnePart {
     ghost right = { given_of };
 }
 
+/// Who was joined last goes, with its parts, and has seen as much.
+pub struct LastJoined;
+
+impl Split<Knows> for LastJoined {
+    ghost use Rattle.tpcc_book.specs.Shares.{freed_of, back_of};
+
+    ghost left = { freed_of };
+
+    ghost right = { back_of };
+}
+
 impl<N: Naming, T: Seating> SeatedPurse<N, T> {
     /// An empty purse of a terminal, which takes one of the rooms, and has seen as much. It does not wait.
     pub fn split(&mut self, turns: &Turns<N, T>, terminal: u32) -> SeatedPurse<N, T>

@@ -1,15 +1,19 @@
 //! The steps of a turn: a ticket is drawn, looked for, and ended.
-ghost use Rattle.std.specs.Prelude.{◌≡◌, ◌<◌, ℕ, [], ◌∷◌, Option, Some};
+ghost use Rattle.std.specs.Prelude.{◌≡◌, ◌<◌, ℕ, List, [], ◌∷◌, Option, Some};
 ghost use Rattle.atomic_table.specs.Table.{rest};
-ghost use Rattle.tpcc_book.specs.declared.turns.knows.Stage.TheVariants.{Idle, Out};
-ghost use Rattle.tpcc_book.specs.Turning.{knows, Took};
-ghost use Rattle.tpcc_book.specs.TurnSteps.{Drawn, Awaits, Taken, Giving, Ending};
+ghost use Rattle.tpcc_book.specs.declared.turns.knows.Stage.TheVariants.{Idle, Out, Holds};
+ghost use Rattle.tpcc_book.specs.Turning.{knows, Took, Grew};
+ghost use Rattle.tpcc_book.specs.TurnSteps.{Drawn, Awaits, Taken, Giving, Ending, Growing, CanGrow, Shown};
+ghost use Rattle.tpcc_book.specs.Shares.{both_of, last_parts, freed_of, back_of};
+ghost use Rattle.tpcc_rows.specs.declared.entry.Entry.{Entry};
 ghost use Rattle.tpcc_book.specs.Past.{Past};
 
 use crate::book::Book;
 use crate::naming::Naming;
 use crate::turns::knows::Knows;
-use crate::turns::rule::{Draw, End, Look, TurnRule};
+use crate::turns::gather::Joining;
+use crate::turns::rule::{Draw, End, Grow, Look, TurnRule};
+use crate::turns::split::LastJoined;
 use atomic_table::{Seat, Shared, TableRule};
 use std::sync::Wait;
 use std::thread;
@@ -89,6 +93,55 @@ fn put<B: Drop, V, K, P: TableRule<Option<B>, V, K>>(
     ensures put { seat.new.me ≡ (seat.old.me.0, (0, Some book) ∷ rest seat.old.me.1) }
 {
     let _none = board.exchange(seat, 0, Some(book));
+}
+
+/// Joins an idle seat into one that has the turn.
+pub(crate) fn adopt<N: Naming>(board: &Board<N>, seat: &mut Place<N>, other: Place<N>)
+    requires fits { (seat.old.table_id ≡ board.now.table_id) × (board.now.table_id.words ≡ 2) }
+    requires other { (other.table_id ≡ board.now.table_id) × (other.me.0.stage ≡ Idle) × (other.me.1 ≡ []) }
+    requires parts { (0 < seat.old.me.0.parts) × (0 < other.me.0.parts) }
+    ensures same { (seat.new.table_id ≡ seat.old.table_id) × (seat.new.id ≡ seat.old.id) }
+    ensures adopted { seat.new.me ≡ (both_of seat.old.me.0 other.me.0, seat.old.me.1) }
+{
+    board.join_seat::<Joining>(seat, other);
+}
+
+/// Tells the turn's seat that the journal is that of the book, which comes back.
+pub(crate) fn show<N: Naming>(board: &Board<N>, seat: &mut Place<N>, book: Book<N>) -> Book<N>
+    requires fits { (seat.old.table_id ≡ board.now.table_id) × (board.now.table_id.words ≡ 2) }
+    requires growing { Growing seat.old.me book }
+    ensures same { (seat.new.table_id ≡ seat.old.table_id) × (seat.new.id ≡ seat.old.id) }
+    ensures book { result ≡ book }
+    ensures shown { Shown seat.old.me book seat.new.me }
+{
+    put(board, seat, book);
+    grow(board, seat);
+    let Some(book) = board.exchange(seat, 0, None) else {
+        unreachable!()
+    };
+    book
+}
+
+// Tells the turn's seat that the journal is that of the book in its slot.
+fn grow<N: Naming>(board: &Board<N>, seat: &mut Place<N>)
+    requires fits { (seat.old.table_id ≡ board.now.table_id) × (board.now.table_id.words ≡ 2) }
+    requires grows { CanGrow seat.old.me }
+    ensures same { (seat.new.table_id ≡ seat.old.table_id) × (seat.new.id ≡ seat.old.id) }
+    ensures grown { (number : ℕ) (base : List Entry) (book : Past) → seat.old.me.0.stage ≡ Holds number base
+        → seat.old.me.1 ≡ (0, Some book) ∷ [] → Grew seat.old.me number base book seat.new.me }
+{
+    board.load::<Grow>(seat, 0);
+}
+
+/// Splits off the seat that was joined last.
+pub(crate) fn free<N: Naming>(board: &Board<N>, seat: &mut Place<N>) -> Place<N>
+    requires fits { (seat.old.table_id ≡ board.now.table_id) × (board.now.table_id.words ≡ 2) }
+    requires parts { (0 < last_parts seat.old.me.0.told) × (last_parts seat.old.me.0.told < seat.old.me.0.parts) }
+    ensures same { (seat.new.table_id ≡ seat.old.table_id) × (seat.new.id ≡ seat.old.id) }
+    ensures left { seat.new.me ≡ (freed_of seat.old.me.0, seat.old.me.1) }
+    ensures back { (result.table_id ≡ seat.old.table_id) × (result.me ≡ (back_of seat.old.me.0, [])) }
+{
+    board.split_seat::<LastJoined>(seat)
 }
 
 /// Gives the book back, and ends the turn.

@@ -24,6 +24,10 @@ struct HeldGate<'a, R: Clock> {
 }
 
 impl<'a, R: Clock> Gate for HeldGate<'a, R> {
+    fn is_open(&self) -> bool {
+        false
+    }
+
     fn before(&mut self, _mailbox: usize) {
         if self.taken.fetch_add(1, Ordering::SeqCst) != 0 {
             return;
@@ -52,7 +56,15 @@ pub(super) fn held_up<
     N: Naming + Send + Sync,
     T: Seating + Send + Sync,
     R: Threads + Wait + Clock + Abort + Sync,
->(rt: &R, alloc: Global, turns: &Turns<N, T>, one: SeatedPurse<N, T>, two: SeatedPurse<N, T>) {
+>(
+    rt: &R,
+    alloc: Global,
+    turns: &Turns<N, T>,
+    one: SeatedPurse<N, T>,
+    two: SeatedPurse<N, T>,
+    keeper: SeatedPurse<N, T>,
+    stand_in: SeatedPurse<N, T>,
+) {
     let opened = JobMailboxes::<N, T, PlainTurn>::new(alloc, 2);
     let (mailboxes, mut idles, mut serving) = opened.expect(rt, "memory for two mailboxes");
     let last = last_of(rt, &mut idles, &mailboxes);
@@ -62,7 +74,7 @@ pub(super) fn held_up<
     let last = posted(&mailboxes, last, two, PlainTurn);
     mailboxes.close(&mut serving);
     let other = serving.split(&mailboxes);
-    both_serve(rt, &mailboxes, turns, serving, other);
+    both_serve(rt, &mailboxes, turns, serving, other, keeper, stand_in);
     is_paid(rt, &mailboxes, first);
     is_paid(rt, &mailboxes, last);
     let_go(mailboxes)
@@ -79,6 +91,8 @@ fn both_serve<
     turns: &Turns<N, T>,
     serving: JobServing<N, T, PlainTurn>,
     other: JobServing<N, T, PlainTurn>,
+    keeper: SeatedPurse<N, T>,
+    stand_in: SeatedPurse<N, T>,
 )
     requires { (serving_origin serving ≡ identity mailboxes.now)
         × (serving_hand serving ≡ None)
@@ -95,12 +109,12 @@ fn both_serve<
             requires { IsSync R.row
                 × (serving_origin serving ≡ identity mailboxes.now)
                 × (serving_hand serving ≡ None) }
-        { serve_all(rt, mailboxes, turns, serving, first, last) },
+        { serve_all(rt, mailboxes, turns, serving, keeper, first, last) },
         || -> (bool, u64)
             requires { IsSync R.row
                 × (serving_origin other ≡ identity mailboxes.now)
                 × (serving_hand other ≡ None) }
-        { serve_all(rt, mailboxes, turns, other, first, last) },
+        { serve_all(rt, mailboxes, turns, other, stand_in, first, last) },
     );
     assert!(rt; one == (false, 1) && two == (false, 1));
 }
@@ -111,6 +125,7 @@ fn serve_all<N: Naming, T: Seating, R: Wait + Clock>(
     mailboxes: &JobMailboxes<N, T, PlainTurn>,
     turns: &Turns<N, T>,
     serving: JobServing<N, T, PlainTurn>,
+    keeper: SeatedPurse<N, T>,
     taken: &AtomicU64,
     passed: &AtomicU64,
 ) -> (bool, u64)
@@ -122,7 +137,9 @@ fn serve_all<N: Naming, T: Seating, R: Wait + Clock>(
         passed,
         limit_met: false,
     };
-    let (serving, gate, served) = serve_until_closed(rt, mailboxes, serving, turns, gate, u64::MAX);
+    let (serving, gate, served, keeper) =
+        serve_until_closed(rt, mailboxes, serving, turns, gate, u64::MAX, keeper);
+    let_go(keeper);
     let_go(serving);
     (gate.limit_met, served)
 }

@@ -96,11 +96,10 @@ pub(super) fn not_collected<N: Naming, T: Seating, R: Wait + Abort>(
     alloc: Global,
     turns: &Turns<N, T>,
     one: SeatedPurse<N, T>,
-    two: SeatedPurse<N, T>,
+    keeper: SeatedPurse<N, T>,
 ) {
-    let_go(two);
     let made = AtomicU64::new(0);
-    let answer = answer_left(rt, alloc, turns, one, CountedTurn { made: &made });
+    let answer = answer_left(rt, alloc, turns, one, keeper, CountedTurn { made: &made });
     assert!(rt; (answer.place(), made.load(Ordering::SeqCst)) == (Some(0), 1));
 }
 
@@ -110,6 +109,7 @@ fn answer_left<N: Naming, T: Seating, C: Turning, R: Wait + Abort>(
     alloc: Global,
     turns: &Turns<N, T>,
     purse: SeatedPurse<N, T>,
+    keeper: SeatedPurse<N, T>,
     call: C,
 ) -> JobAnswer<N, T> {
     let One {
@@ -118,7 +118,9 @@ fn answer_left<N: Naming, T: Seating, C: Turning, R: Wait + Abort>(
         mut serving,
     } = make_one(rt, alloc);
     let waiting = posted(&mailboxes, idle, purse, call);
-    let served = serve_round(rt, &mailboxes, &mut serving, turns, &mut OpenGate);
+    let (served, keeper) =
+        serve_round(rt, &mailboxes, &mut serving, turns, &mut OpenGate, keeper);
+    let_go(keeper);
     assert!(rt; served == 1);
     let Left::Reply(answer) = reclaimed(rt, alloc, mailboxes, waiting, serving) else {
         panic!(rt; "the answer was not there")

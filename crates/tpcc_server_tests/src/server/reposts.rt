@@ -17,6 +17,10 @@ struct Reposting<'a, N: Naming, T: Seating> {
 }
 
 impl<'a, N: Naming, T: Seating> Gate for Reposting<'a, N, T> {
+    fn is_open(&self) -> bool {
+        false
+    }
+
     fn before(&mut self, _mailbox: usize) {}
 
     fn after(&mut self, _mailbox: usize) {
@@ -67,9 +71,8 @@ pub(super) fn closed_meanwhile<N: Naming, T: Seating, R: Wait + Abort>(
     alloc: Global,
     turns: &Turns<N, T>,
     one: SeatedPurse<N, T>,
-    two: SeatedPurse<N, T>,
+    keeper: SeatedPurse<N, T>,
 ) {
-    let_go(two);
     let One {
         mailboxes,
         idle,
@@ -84,7 +87,9 @@ pub(super) fn closed_meanwhile<N: Naming, T: Seating, R: Wait + Abort>(
             waiting,
         }),
     };
-    let (serving, gate, served) = serve_until_closed(rt, &mailboxes, serving, turns, gate, 9);
+    let (serving, gate, served, keeper) =
+        serve_until_closed(rt, &mailboxes, serving, turns, gate, 9, keeper);
+    let_go(keeper);
     let_go(serving);
     let_go(gate);
     assert!(rt; served == 2);

@@ -21,6 +21,10 @@ struct Watch<'a> {
 }
 
 impl<'a> Gate for Watch<'a> {
+    fn is_open(&self) -> bool {
+        false
+    }
+
     fn before(&mut self, mailbox: usize) {
         let not_turned = self.made.load(Ordering::SeqCst) == self.jobs;
         let is_next = self.inside.is_none() && self.last < Some(mailbox);
@@ -56,6 +60,7 @@ pub(super) fn limited<N: Naming, T: Seating, R: Wait + Abort>(
     turns: &Turns<N, T>,
     one: SeatedPurse<N, T>,
     two: SeatedPurse<N, T>,
+    keeper: SeatedPurse<N, T>,
 ) {
     let made = AtomicU64::new(0);
     let opened = JobMailboxes::<N, T, CountedTurn>::new(alloc, 3);
@@ -66,7 +71,7 @@ pub(super) fn limited<N: Naming, T: Seating, R: Wait + Abort>(
     let_go(idles);
     let first = posted(&mailboxes, first, one, CountedTurn { made: &made });
     let last = posted(&mailboxes, last, two, CountedTurn { made: &made });
-    one_by_one(rt, &mailboxes, turns, serving, &made);
+    one_by_one(rt, &mailboxes, turns, serving, keeper, &made);
     is_paid(rt, &mailboxes, first);
     is_paid(rt, &mailboxes, last);
     let_go(mailboxes)
@@ -78,6 +83,7 @@ fn one_by_one<'a, N: Naming, T: Seating, R: Wait + Abort>(
     mailboxes: &JobMailboxes<N, T, CountedTurn<'a>>,
     turns: &Turns<N, T>,
     serving: JobServing<N, T, CountedTurn<'a>>,
+    keeper: SeatedPurse<N, T>,
     made: &AtomicU64,
 )
     requires { (serving_origin serving ≡ identity mailboxes.now) × (serving_hand serving ≡ None) }
@@ -89,11 +95,13 @@ fn one_by_one<'a, N: Naming, T: Seating, R: Wait + Abort>(
         jobs: 0,
         right: true,
     };
-    let (serving, watch, none) = serve_until_closed(rt, mailboxes, serving, turns, watch, 0);
+    let (serving, watch, none, keeper) =
+        serve_until_closed(rt, mailboxes, serving, turns, watch, 0, keeper);
     assert!(rt; none == 0);
-    let (serving, watch, one) = serve_until_closed(rt, mailboxes, serving, turns, watch, 1);
+    let (serving, watch, one, keeper) =
+        serve_until_closed(rt, mailboxes, serving, turns, watch, 1, keeper);
     assert!(rt; one == 1 && watch.has_seen(1, 0));
-    rounds(rt, mailboxes, turns, serving, watch)
+    rounds(rt, mailboxes, turns, serving, keeper, watch)
 }
 
 fn rounds<N: Naming, T: Seating, C: Turning, R: Wait + Abort>(
@@ -101,14 +109,16 @@ fn rounds<N: Naming, T: Seating, C: Turning, R: Wait + Abort>(
     mailboxes: &JobMailboxes<N, T, C>,
     turns: &Turns<N, T>,
     serving: JobServing<N, T, C>,
+    keeper: SeatedPurse<N, T>,
     watch: Watch<'_>,
 )
     requires { (serving_origin serving ≡ identity mailboxes.now) × (serving_hand serving ≡ None) }
 {
     let mut serving = serving;
     let mut watch = watch;
-    let one = serve_round(rt, mailboxes, &mut serving, turns, &mut watch);
-    let none = serve_round(rt, mailboxes, &mut serving, turns, &mut watch);
+    let (one, keeper) = serve_round(rt, mailboxes, &mut serving, turns, &mut watch, keeper);
+    let (none, keeper) = serve_round(rt, mailboxes, &mut serving, turns, &mut watch, keeper);
+    let_go(keeper);
     let_go(serving);
     assert!(rt; (one, none) == (1, 0) && watch.has_seen(2, 2));
 }

@@ -4,10 +4,10 @@ use Rattle.tpcc_server.proofs.serving.serve_until_closed.Goals.{in-None, in-Some
 use Rattle.tpcc_server.proofs.serving.serve_until_closed.Goals as goal
 
 pub loop-preserved : goal.loop-preserved
-loop-preserved g c = (search rules, search rules, search rules, search rules, one_round _ _ _ _ _ _ _ c.loop.invariant.4 c.is_closed-closed.ensures.answered c.serve_some-answered.ensures.answered)
+loop-preserved g c = (search rules, search rules, search rules, search rules, search rules, one_round _ _ _ _ _ _ _ c.loop.invariant.5 c.is_closed-closed.ensures.answered c.serve_some-answered.ensures.answered)
 
 pub returns-clause-answered : goal.returns-clause-answered
 returns-clause-answered g c = elim c.match-next.branch [
-  | in-None w ↦ renamed _ _ _ _ _ c.loop.invariant.4 (search rules) (search rules)
-  | in-Some+then-closed w ↦ renamed _ _ _ _ _ (one_round _ _ _ _ _ _ _ c.loop.invariant.4 w.is_closed-closed.ensures.answered w.serve_some-answered.ensures.answered) (search rules) (search rules)
+  | in-None w ↦ renamed _ _ _ _ _ c.loop.invariant.5 (search rules) (search rules)
+  | in-Some+then-closed w ↦ renamed _ _ _ _ _ (one_round _ _ _ _ _ _ _ c.loop.invariant.5 w.is_closed-closed.ensures.answered w.serve_some-answered.ensures.answered) (search rules) (search rules)
 ]

@@ -16,5 +16,5 @@ join_seat-requires g c =
       c.into_seat.ensures.0 ∙ (c.purse.invariant.0 ∙ sym c.requires.name.0),
       c.into_seat.ensures.3,
       omega (arith, c.requires.words),
-      joins c.args.board.now.key all.id all.me.0 other.id other.me.0 c.requires.idle.0 (ap (λ (v : Knows). v.stage) is) c.requires.idle.1,
+      joins c.args.board.now.key all.id all.me.0 other.id other.me.0 (ap (λ (v : Knows). v.stage) is) c.requires.idle.1 (omega (arith, ap (λ (v : Knows). v.parts) is)),
     )

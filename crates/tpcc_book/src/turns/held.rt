@@ -1,0 +1,128 @@
+//! A turn that is kept over the requests of many purses.
+ghost use Rattle.std.specs.Prelude.{◌≡◌};
+ghost use Rattle.tpcc_book.specs.Seats.{IsTurned, keeper_of};
+ghost use Rattle.tpcc_book.specs.Turn.{TakesTurn, MakesTurn};
+
+use crate::answer::Answer;
+use crate::book::Book;
+use crate::naming::Naming;
+use crate::purse::Purse;
+use crate::register::Register;
+use crate::turned::Turned;
+use crate::turns::Turns;
+use crate::turns::seated::{SeatedPurse, Seating};
+use crate::turns::steps::{Place, adopt, free, give, show, take};
+use std::marker::{Model, PhantomData};
+use std::sync::Wait;
+use tpcc_rows::Request;
+
+/// The turn of one purse, its keeper, with the book. Each request that is served in it is a turn of the book for the
+/// purse that asks; no other turn comes until this one is ended.
+#[derive(Drop)]
+pub struct HeldTurn<N: Naming, T: Seating> {
+    purse: Purse<N>,
+    seat: Place<N>,
+    ticket: u64,
+    book: Book<N>,
+    of: PhantomData<T>,
+}
+
+impl<N: Naming, T: Seating> Model for HeldTurn<N, T> {
+    ghost use Rattle.std.specs.Prelude.{◌≡◌, ◌+◌, ◌%◌, ◌^◌};
+    ghost use Rattle.tpcc_book.specs.Seats.{Keeper, keeping, number_of};
+
+    ghost Value = { Keeper };
+
+    ghost view = { λ h. record { purse = h.purse; start = h.seat.me.0.start } };
+
+    ghost invariant = { λ h. (h.seat.table_id ≡ T.table) × (h.seat.me ≡ keeping h.seat.me (h.purse.room + 1) h.book) × (h.ticket ≡ number_of h.seat.me.0.stage % 2 ^ 64) × (h.book.opening ≡ h.seat.me.0.start) };
+}
+
+impl<N: Naming, T: Seating> Turns<N, T> {
+    /// Waits for the purse's turn, and keeps it.
+    pub fn begin<R: Wait>(&self, rt: &R, purse: SeatedPurse<N, T>) -> HeldTurn<N, T>
+        ensures keeper { result ≡ keeper_of purse }
+    {
+        let SeatedPurse { purse, badge, of } = purse;
+        let mut seat = badge.into_seat::<Option<Book<N>>>();
+        let (ticket, book) = take(rt, &self.table.shared, &mut seat);
+        HeldTurn {
+            purse,
+            seat,
+            ticket,
+            book,
+            of,
+        }
+    }
+
+    /// Whether somebody else has drawn a turn since this one.
+    pub fn is_awaited(&self, held: &HeldTurn<N, T>) -> bool {
+        self.table.shared.peek(0) != held.ticket.wrapping_add(1)
+    }
+
+    /// Serves a request for a purse in a turn that is kept, by a call that makes a turn of the book.
+    pub fn serve_held<F: FnOnce(&mut Register, Request, u32, u64) -> Turned>(
+        &self,
+        held: HeldTurn<N, T>,
+        request: Request,
+        purse: SeatedPurse<N, T>,
+        turn: F,
+    ) -> (HeldTurn<N, T>, Answer<SeatedPurse<N, T>>)
+        requires takes { TakesTurn (F.pre turn) }
+        requires turns { MakesTurn (F.post turn) }
+        ensures keeper { result.0 ≡ held }
+        ensures turned { IsTurned request purse result.1 }
+    {
+        let HeldTurn {
+            purse: keeper,
+            mut seat,
+            ticket,
+            mut book,
+            of,
+        } = held;
+        let SeatedPurse {
+            purse,
+            badge,
+            of: _,
+        } = purse;
+        let board = &self.table.shared;
+        adopt(board, &mut seat, badge.into_seat::<Option<Book<N>>>());
+        let answer = book.serve_by(request, purse, turn);
+        let (request, outcome, place, purse) = answer.into_parts();
+        let book = show(board, &mut seat, book);
+        let _journal = book.journal();
+        let back = free(board, &mut seat);
+        let purse = SeatedPurse {
+            purse,
+            badge: back.into_badge(),
+            of: PhantomData,
+        };
+        let held = HeldTurn {
+            purse: keeper,
+            seat,
+            ticket,
+            book,
+            of,
+        };
+        (held, Answer::new(request, outcome, place, purse))
+    }
+
+    /// Ends a turn that was kept: the keeper's purse, which has seen the whole journal.
+    pub fn end(&self, held: HeldTurn<N, T>) -> SeatedPurse<N, T>
+        ensures keeper { keeper_of result ≡ held }
+    {
+        let HeldTurn {
+            purse,
+            mut seat,
+            ticket,
+            book,
+            of,
+        } = held;
+        give(&self.table.shared, &mut seat, ticket, book);
+        SeatedPurse {
+            purse,
+            badge: seat.into_badge(),
+            of,
+        }
+    }
+}
