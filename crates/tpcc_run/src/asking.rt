@@ -5,7 +5,6 @@ ghost use Rattle.tpcc_run.specs.Outcome.{KeepsSome};
 
 use crate::fault::RunFault;
 use crate::operator::Operator;
-use crate::way::Way;
 use std::sync::Wait;
 use tpcc_book::{Naming, SeatedPurse, Seating};
 use tpcc_rows::{Delivery, Reply, Request};
@@ -15,9 +14,9 @@ use tpcc_terminal::laws::receipts_stand;
 
 /// What became of a request.
 #[derive(Drop)]
-pub(crate) struct Asked<N: Naming, T: Seating, K> {
+pub(crate) struct Asked<'s, N: Naming, T: Seating, C> {
     /// The terminal, unless its job was still out when nobody served any more.
-    pub operator: Option<Operator<N, T, K>>,
+    pub operator: Option<Operator<'s, N, T, C>>,
     /// Whether a district was delivered or passed over.
     pub delivered: bool,
     /// Why the terminal can't go on.
@@ -25,12 +24,12 @@ pub(crate) struct Asked<N: Naming, T: Seating, K> {
 }
 
 /// Asks one request, by a call of its own, and keeps its receipt.
-pub(crate) fn ask_once<N: Naming, T: Seating, C: Turning, K: Way<N, T, C>, R: Wait>(
+pub(crate) fn ask_once<'s, N: Naming, T: Seating, C: Turning, R: Wait>(
     rt: &R,
-    operator: Operator<N, T, K>,
+    operator: Operator<'s, N, T, C>,
     request: Request,
     call: C,
-) -> Asked<N, T, K>
+) -> Asked<'s, N, T, C>
     requires receipts { AllStand operator.purse.front operator.terminal.receipts }
     ensures receipts { IfSome result.operator (λ s. AllStand s.purse.front s.terminal.receipts) }
 {
@@ -63,8 +62,9 @@ pub(crate) fn ask_once<N: Naming, T: Seating, C: Turning, K: Way<N, T, C>, R: Wa
 }
 
 /// Nothing was asked, since memory was refused.
-pub(crate) fn stopped<N: Naming, T: Seating, K>(operator: Operator<N, T, K>) -> Asked<N, T, K>
-    ensures operator { result.operator ≡ Some operator }
+pub(crate) fn stopped<'s, N: Naming, T: Seating, C>(operator: Operator<'s, N, T, C>) -> Asked<'s, N, T, C>
+    requires receipts { AllStand operator.purse.front operator.terminal.receipts }
+    ensures receipts { IfSome result.operator (λ s. AllStand s.purse.front s.terminal.receipts) }
 {
     Asked {
         operator: Some(operator),

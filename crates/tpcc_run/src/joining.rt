@@ -9,9 +9,9 @@ use std::thread::Threads;
 use tpcc_book::{Naming, Seating};
 
 /// Joins the threads of all terminals, and keeps their purses and receipts.
-pub(crate) fn join_terminals<N: Naming, T: Seating, K: Drop, R: Threads>(
+pub(crate) fn join_terminals<N: Naming, T: Seating, C, R: Threads>(
     rt: &R,
-    handles: Vec<TerminalHandle<N, T, K>>,
+    handles: Vec<TerminalHandle<'_, N, T, C>>,
     all: &mut Gathered<N, T>,
 )
     requires seen { AllSeen all.old.purses.items all.old.receipts.items }
@@ -24,10 +24,10 @@ pub(crate) fn join_terminals<N: Naming, T: Seating, K: Drop, R: Threads>(
 }
 
 /// Joins the thread of one terminal.
-pub(crate) fn join_terminal<N: Naming, T: Seating, K, R: Threads>(
+pub(crate) fn join_terminal<'s, N: Naming, T: Seating, C, R: Threads>(
     rt: &R,
-    handle: TerminalHandle<N, T, K>,
-) -> Back<N, T, K>
+    handle: TerminalHandle<'s, N, T, C>,
+) -> Back<'s, N, T, C>
     ensures receipts { IfSome result.operator (λ s. AllStand s.purse.front s.terminal.receipts) }
 {
     handle.join(rt)

@@ -9,8 +9,8 @@ use tpcc_book::{Naming, Seating};
 
 /// What a terminal's thread gives back: the terminal, unless its job is still out, and what stopped it.
 #[derive(Drop)]
-pub(crate) struct Back<N: Naming, T: Seating, K> {
-    pub operator: Option<Operator<N, T, K>>,
+pub(crate) struct Back<'s, N: Naming, T: Seating, C> {
+    pub operator: Option<Operator<'s, N, T, C>>,
     pub fault: Option<RunFault>,
 }
 
@@ -18,8 +18,8 @@ pub(crate) struct Back<N: Naming, T: Seating, K> {
 #[derive(Drop)]
 pub(crate) struct ComesBack;
 
-impl<N: Naming, T: Seating, K> Promise<Back<N, T, K>> for ComesBack {
+impl<'s, N: Naming, T: Seating, C> Promise<Back<'s, N, T, C>> for ComesBack {
     ghost kept_by = { λ promise back. IfSome back.operator (λ s. AllStand s.purse.front s.terminal.receipts) };
 }
 
-pub(crate) type TerminalHandle<N, T, K> = PromisedHandle<Back<N, T, K>, ComesBack>;
+pub(crate) type TerminalHandle<'s, N, T, C> = PromisedHandle<Back<'s, N, T, C>, ComesBack>;

@@ -8,7 +8,7 @@ use crate::gathered::Gathered;
 use crate::plan::Plan;
 use crate::servers::{join_servers, start_servers};
 use crate::threads::ask_everything;
-use crate::way::{ByMailbox, ByTurn, by_mailboxes, by_turns};
+use crate::way::{Way, by_mailboxes, by_turns};
 use std::alloc::{AllocError, Global};
 use std::sync::Wait;
 use std::thread;
@@ -32,7 +32,7 @@ fn drive<
     alloc: Global,
     mailboxes: &'s JobMailboxes<N, T, C>,
     turns: &'s Turns<N, T>,
-    ways: Vec<ByMailbox<'s, N, T, C>>,
+    ways: Vec<Way<'s, N, T, C>>,
     serving: JobServing<N, T, C>,
     first: SeatedPurse<N, T>,
     make: &'s F,
@@ -136,7 +136,7 @@ pub(crate) fn serve_directly<
     requires make { F.IsAlwaysCallable make.now }
     ensures seen { AllSeen result.purses.items result.receipts.items }
 {
-    let Ok(ways) = by_turns(alloc, turns, plan.terminals as usize + 1) else {
+    let Ok(ways) = by_turns::<N, T, C>(alloc, turns, plan.terminals as usize + 1) else {
         return Gathered::refused(alloc);
     };
     thread::scope(
@@ -148,7 +148,7 @@ pub(crate) fn serve_directly<
             requires make { F.IsAlwaysCallable make.now }
             ensures seen { AllSeen result.purses.items result.receipts.items }
         {
-            ask_everything::<_, N, T, C, ByTurn<'_, N, T>, F, R>(
+            ask_everything(
                 scope, rt, alloc, turns, ways, first, make, scale, plan,
             )
         },

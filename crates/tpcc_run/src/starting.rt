@@ -19,21 +19,20 @@ use tpcc_terminal::Terminal;
 fn start_thread<
     's,
     E,
-    N: Naming + Send + Sync + 's,
-    T: Seating + Send + Sync + 's,
+    N: Naming + Send + Sync,
+    T: Seating + Send + Sync,
     C: Turning + Send,
-    K: Way<N, T, C> + Send + 's,
     F: Fn(Global) -> Result<C, AllocError> + Sync,
     R: Threads + Wait + Sync,
 >(
     scope: &Scope<'s, E>,
     rt: &'s R,
     alloc: Global,
-    operator: Operator<N, T, K>,
+    operator: Operator<'s, N, T, C>,
     role: Role,
     make: &'s F,
     plan: &'s Plan,
-) -> Option<TerminalHandle<N, T, K>>
+) -> Option<TerminalHandle<'s, N, T, C>>
     requires receipts { AllStand operator.purse.front operator.terminal.receipts }
     requires make { F.IsAlwaysCallable make.now }
 {
@@ -48,23 +47,22 @@ fn start_thread<
 pub(crate) fn start_terminal<
     's,
     E,
-    N: Naming + Send + Sync + 's,
-    T: Seating + Send + Sync + 's,
+    N: Naming + Send + Sync,
+    T: Seating + Send + Sync,
     C: Turning + Send,
-    K: Way<N, T, C> + Send + 's,
     F: Fn(Global) -> Result<C, AllocError> + Sync,
     R: Threads + Wait + Sync,
 >(
     scope: &Scope<'s, E>,
     rt: &'s R,
     alloc: Global,
-    way: K,
+    way: Way<'s, N, T, C>,
     purse: SeatedPurse<N, T>,
     role: Role,
     make: &'s F,
     scale: Scale,
     plan: &'s Plan,
-) -> Option<TerminalHandle<N, T, K>>
+) -> Option<TerminalHandle<'s, N, T, C>>
     requires number { 1 ≤ purse.purse.terminal }
     requires make { F.IsAlwaysCallable make.now }
 {
@@ -87,7 +85,6 @@ pub(crate) fn start_terminals<
     N: Naming + Send + Sync,
     T: Seating + Send + Sync,
     C: Turning + Send,
-    K: Way<N, T, C> + Send + 's,
     F: Fn(Global) -> Result<C, AllocError> + Sync,
     R: Threads + Wait + Sync,
 >(
@@ -95,12 +92,12 @@ pub(crate) fn start_terminals<
     rt: &'s R,
     alloc: Global,
     turns: &'s Turns<N, T>,
-    ways: Vec<K>,
+    ways: Vec<Way<'s, N, T, C>>,
     first: &mut SeatedPurse<N, T>,
     make: &'s F,
     scale: Scale,
     plan: &'s Plan,
-) -> Vec<TerminalHandle<N, T, K>>
+) -> Vec<TerminalHandle<'s, N, T, C>>
     requires room { plan.now.terminals ≤ first.old.purse.room }
     requires terminals { plan.now.terminals ≤ 999 }
     requires make { F.IsAlwaysCallable make.now }

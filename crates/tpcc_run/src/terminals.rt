@@ -5,7 +5,6 @@ ghost use Rattle.tpcc_terminal.specs.Receipts.{AllStand};
 use crate::asking::{Asked, ask_once, stopped};
 use crate::operator::Operator;
 use crate::promises::Back;
-use crate::way::Way;
 use std::alloc::{AllocError, Global};
 use std::sync::Wait;
 use tpcc_book::{Naming, Seating};
@@ -46,20 +45,20 @@ fn next_request(role: Role, terminal: &mut Terminal, moment: Moment) -> Result<R
 
 /// Asks the next request, by a call of its own.
 pub(crate) fn ask_next<
+    's,
     N: Naming,
     T: Seating,
     C: Turning,
-    K: Way<N, T, C>,
     F: Fn(Global) -> Result<C, AllocError>,
     R: Wait,
 >(
     rt: &R,
     alloc: Global,
-    operator: Operator<N, T, K>,
+    operator: Operator<'s, N, T, C>,
     role: Role,
     make: &F,
     moment: Moment,
-) -> Asked<N, T, K>
+) -> Asked<'s, N, T, C>
     requires receipts { AllStand operator.purse.front operator.terminal.receipts }
     requires make { F.IsAlwaysCallable make.now }
     ensures receipts { IfSome result.operator (λ s. AllStand s.purse.front s.terminal.receipts) }
@@ -77,21 +76,21 @@ pub(crate) fn ask_next<
 /// Asks so many requests, each by a call of its own, or up to the role's end. It stops where memory is refused,
 /// and where its job is still out when nobody serves any more.
 pub(crate) fn ask_all<
+    's,
     N: Naming,
     T: Seating,
     C: Turning,
-    K: Way<N, T, C>,
     F: Fn(Global) -> Result<C, AllocError>,
     R: Wait,
 >(
     rt: &R,
     alloc: Global,
-    operator: Operator<N, T, K>,
+    operator: Operator<'s, N, T, C>,
     role: Role,
     make: &F,
     moment: Moment,
     most: u32,
-) -> Back<N, T, K>
+) -> Back<'s, N, T, C>
     requires receipts { AllStand operator.purse.front operator.terminal.receipts }
     requires make { F.IsAlwaysCallable make.now }
     ensures receipts { IfSome result.operator (λ s. AllStand s.purse.front s.terminal.receipts) }

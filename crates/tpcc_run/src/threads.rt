@@ -26,7 +26,6 @@ fn start_runner<
     N: Naming + Send + Sync,
     T: Seating + Send + Sync,
     C: Turning + Send,
-    K: Way<N, T, C> + Send + 's,
     F: Fn(Global) -> Result<C, AllocError> + Sync,
     R: Threads + Wait + Sync,
 >(
@@ -34,12 +33,12 @@ fn start_runner<
     rt: &'s R,
     alloc: Global,
     turns: &'s Turns<N, T>,
-    way: Option<K>,
+    way: Option<Way<'s, N, T, C>>,
     first: &mut SeatedPurse<N, T>,
     make: &'s F,
     scale: Scale,
     plan: &'s Plan,
-) -> Option<TerminalHandle<N, T, K>>
+) -> Option<TerminalHandle<'s, N, T, C>>
     requires room { 0 < first.old.purse.room }
     requires terminals { plan.now.terminals ≤ 999 }
     requires make { F.IsAlwaysCallable make.now }
@@ -65,16 +64,16 @@ fn start_runner<
 
 // Joins the delivery runner, which then asks for what is still queued.
 fn end_runner<
+    's,
     N: Naming,
     T: Seating,
     C: Turning,
-    K: Way<N, T, C>,
     F: Fn(Global) -> Result<C, AllocError>,
     R: Threads + Wait,
 >(
     rt: &R,
     alloc: Global,
-    runner: TerminalHandle<N, T, K>,
+    runner: TerminalHandle<'s, N, T, C>,
     make: &F,
     plan: &Plan,
     all: &mut Gathered<N, T>,
@@ -89,19 +88,19 @@ fn end_runner<
 
 // What a runner that nothing stopped still asks.
 fn drain_back<
+    's,
     N: Naming,
     T: Seating,
     C: Turning,
-    K: Way<N, T, C>,
     F: Fn(Global) -> Result<C, AllocError>,
     R: Wait,
 >(
     rt: &R,
     alloc: Global,
-    back: Back<N, T, K>,
+    back: Back<'s, N, T, C>,
     make: &F,
     moment: Moment,
-) -> Back<N, T, K>
+) -> Back<'s, N, T, C>
     requires receipts { IfSome back.operator (λ s. AllStand s.purse.front s.terminal.receipts) }
     requires make { F.IsAlwaysCallable make.now }
     ensures receipts { IfSome result.operator (λ s. AllStand s.purse.front s.terminal.receipts) }
@@ -132,7 +131,6 @@ pub(crate) fn ask_everything<
     N: Naming + Send + Sync,
     T: Seating + Send + Sync,
     C: Turning + Send,
-    K: Way<N, T, C> + Send + 's,
     F: Fn(Global) -> Result<C, AllocError> + Sync,
     R: Threads + Wait + Sync,
 >(
@@ -140,7 +138,7 @@ pub(crate) fn ask_everything<
     rt: &'s R,
     alloc: Global,
     turns: &'s Turns<N, T>,
-    ways: Vec<K>,
+    ways: Vec<Way<'s, N, T, C>>,
     first: SeatedPurse<N, T>,
     make: &'s F,
     scale: Scale,

@@ -11,60 +11,62 @@ use tpcc_rows::Request;
 use tpcc_server::{Errand, Job, JobAnswer, JobIdle, JobMailboxes, Turning, ask};
 
 /// How one terminal's requests are served, one after another.
-pub(crate) trait Way<N: Naming, T: Seating, C: Turning>: Drop {
-    /// Serves a request for a purse by a call, and gives the way back with the answer. None where the job is
-    /// still out when nobody serves any more.
-    fn ask<R: Wait>(
-        self,
-        rt: &R,
-        request: Request,
-        purse: SeatedPurse<N, T>,
-        call: C,
-    ) -> Option<(Self, JobAnswer<N, T>)>
-        ensures turned { IfSome result (λ r. IsTurned request purse r.1) };
+#[derive(Drop)]
+pub(crate) enum Way<'s, N: Naming, T: Seating, C> {
+    /// By a job in the terminal's mailbox, which a server takes.
+    ByMailbox(Client<'s, N, T, C>),
+    /// By a turn that the terminal's own thread makes.
+    ByTurn(&'s Turns<N, T>),
 }
 
-/// By a job in the terminal's mailbox, which a server takes.
+/// The right to post in one mailbox.
 #[derive(Drop)]
-pub(crate) struct ByMailbox<'s, N: Naming, T: Seating, C> {
+pub(crate) struct Client<'s, N: Naming, T: Seating, C> {
     mailboxes: &'s JobMailboxes<N, T, C>,
     idle: JobIdle<N, T, C>,
     ghost origin: { idle_origin idle ≡ identity mailboxes.now },
 }
 
-impl<'s, N: Naming, T: Seating, C: Turning> Way<N, T, C> for ByMailbox<'s, N, T, C> {
-    fn ask<R: Wait>(
+impl<'s, N: Naming, T: Seating, C: Turning> Way<'s, N, T, C> {
+    /// Serves a request for a purse by a call, and gives the way back with the answer. None where the job is
+    /// still out when nobody serves any more.
+    pub(crate) fn ask<R: Wait>(
         self,
         rt: &R,
         request: Request,
         purse: SeatedPurse<N, T>,
         call: C,
-    ) -> Option<(Self, JobAnswer<N, T>)> {
-        let ByMailbox { mailboxes, idle } = self;
-        match ask(rt, mailboxes, idle, Job::of(request, purse, call)) {
-            Ok((idle, answer)) => Some((ByMailbox { mailboxes, idle }, answer)),
-            Err(_) => None,
+    ) -> Option<(Way<'s, N, T, C>, JobAnswer<N, T>)>
+        ensures turned { IfSome result (λ r. IsTurned request purse r.1) }
+    {
+        let job = Job::of(request, purse, call);
+        match self {
+            Way::ByTurn(turns) => {
+                let answer = job.run(turns, rt);
+                Some((Way::ByTurn(turns), answer))
+            }
+            Way::ByMailbox(client) => {
+                let (client, answer) = client.ask(rt, job)?;
+                Some((Way::ByMailbox(client), answer))
+            }
         }
     }
 }
 
-/// By a turn that the terminal's own thread makes.
-#[derive(Drop)]
-pub(crate) struct ByTurn<'s, N: Naming, T: Seating> {
-    turns: &'s Turns<N, T>,
-}
-
-impl<'s, N: Naming, T: Seating, C: Turning> Way<N, T, C> for ByTurn<'s, N, T> {
+impl<'s, N: Naming, T: Seating, C: Turning> Client<'s, N, T, C> {
+    // Posts the job, and waits for its answer.
     fn ask<R: Wait>(
         self,
         rt: &R,
-        request: Request,
-        purse: SeatedPurse<N, T>,
-        call: C,
-    ) -> Option<(Self, JobAnswer<N, T>)> {
-        let ByTurn { turns } = self;
-        let answer = Job::of(request, purse, call).run(turns, rt);
-        Some((ByTurn { turns }, answer))
+        job: Job<N, T, C>,
+    ) -> Option<(Client<'s, N, T, C>, JobAnswer<N, T>)>
+        ensures turned { IfSome result (λ r. IsTurned job.request job.purse r.1) }
+    {
+        let Client { mailboxes, idle } = self;
+        match ask(rt, mailboxes, idle, job) {
+            Ok((idle, answer)) => Some((Client { mailboxes, idle }, answer)),
+            Err(_) => None,
+        }
     }
 }
 
@@ -73,7 +75,7 @@ pub(crate) fn by_mailboxes<'s, N: Naming, T: Seating, C>(
     alloc: Global,
     mailboxes: &'s JobMailboxes<N, T, C>,
     idles: Vec<JobIdle<N, T, C>>,
-) -> Result<Vec<ByMailbox<'s, N, T, C>>, AllocError>
+) -> Result<Vec<Way<'s, N, T, C>>, AllocError>
     requires idles { All (λ idle. idle_origin idle ≡ identity mailboxes.now) idles.items }
 {
     let mut idles = idles;
@@ -88,13 +90,13 @@ pub(crate) fn by_mailboxes<'s, N: Naming, T: Seating, C>(
 fn next_way<'s, N: Naming, T: Seating, C>(
     idles: &mut Vec<JobIdle<N, T, C>>,
     mailboxes: &'s JobMailboxes<N, T, C>,
-) -> Option<ByMailbox<'s, N, T, C>>
+) -> Option<Way<'s, N, T, C>>
     requires idles { All (λ idle. idle_origin idle ≡ identity mailboxes.now) idles.old.items }
     ensures rest { All (λ idle. idle_origin idle ≡ identity mailboxes.now) idles.new.items }
     ensures less { IsSome result → vec_len idles.new < vec_len idles.old }
 {
     let idle = next_idle(idles, mailboxes)?;
-    Some(ByMailbox { mailboxes, idle })
+    Some(Way::ByMailbox(Client { mailboxes, idle }))
 }
 
 // The right to post in one more mailbox.
@@ -112,14 +114,14 @@ fn next_idle<N: Naming, T: Seating, C>(
 }
 
 /// So many ways by own turns.
-pub(crate) fn by_turns<'s, N: Naming, T: Seating>(
+pub(crate) fn by_turns<'s, N: Naming, T: Seating, C>(
     alloc: Global,
     turns: &'s Turns<N, T>,
     count: usize,
-) -> Result<Vec<ByTurn<'s, N, T>>, AllocError> {
+) -> Result<Vec<Way<'s, N, T, C>>, AllocError> {
     let mut ways = Vec::new(alloc);
     for _ in 0..count {
-        ways.push(ByTurn { turns })?;
+        ways.push(Way::ByTurn(turns))?;
     }
     Ok(ways)
 }

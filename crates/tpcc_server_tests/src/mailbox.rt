@@ -118,7 +118,7 @@ fn leaves<R: Abort>(
     boxes: Mailboxes<u64, Served>,
     clients: Vec<Client<u64, Served>>,
     servings: Vec<Serving<u64, Served>>,
-    expected: [(u64, u64); 3],
+    expected: &[(u64, u64)],
 )
     requires clients { All (λ x. client_origin x ≡ identity boxes) clients.items }
     requires servings { All (λ x. serving_origin x ≡ identity boxes) servings.items }
@@ -129,8 +129,9 @@ fn leaves<R: Abort>(
     let mut lefts = lefts;
     for wanted in expected {
         let left = lefts.pop().expect(rt, "one for each client");
-        assert!(rt; shown(left) == wanted);
+        assert!(rt; shown(left) == *wanted);
     }
+    assert!(rt; lefts.is_empty());
 }
 
 #[test]
@@ -147,7 +148,25 @@ fn letters_and_answers_come_back_with_no_server_handed_in(rt: HostRuntime) {
     serve(&rt, &boxes, &mut serving, 0, 1);
     let clients = in_order(&rt, rt.alloc(), two, Client::Idle(three), one);
     let expected = [(10, 1), NOTHING, (20, 0)];
-    leaves(&rt, boxes, clients, Vec::new(rt.alloc()), expected)
+    leaves(&rt, boxes, clients, Vec::new(rt.alloc()), &expected)
+}
+
+#[test]
+fn a_client_that_is_handed_in_alone_is_given_its_own(rt: HostRuntime) {
+    let Three {
+        boxes,
+        one,
+        two,
+        three,
+        mut serving,
+    } = make_three(&rt, rt.alloc());
+    let withheld = (boxes.post(one, 10), three);
+    let two = boxes.post(two, 20);
+    serve(&rt, &boxes, &mut serving, 0, 1);
+    let mut clients = Vec::with_capacity(rt.alloc(), 1).expect(&rt, "memory for a client");
+    clients.push_reserved(Client::Waiting(two));
+    leaves(&rt, boxes, clients, Vec::new(rt.alloc()), &[(20, 0)]);
+    drop(withheld)
 }
 
 #[test]
@@ -167,7 +186,7 @@ fn a_server_withheld_with_an_empty_hand_holds_no_letter(rt: HostRuntime) {
     serve(&rt, &boxes, &mut serving, 2, 2);
     let clients = in_order(&rt, rt.alloc(), one, two, three);
     let expected = [(30, 2), (20, 1), (10, 0)];
-    leaves(&rt, boxes, clients, Vec::new(rt.alloc()), expected)
+    leaves(&rt, boxes, clients, Vec::new(rt.alloc()), &expected)
 }
 
 /// Keeps a letter until the tests end: a `Taken` can't be let go.
@@ -202,7 +221,7 @@ fn one_is_held<R: Wait + Clock + Abort>(rt: &R, alloc: Global, is_over: &AtomicB
         boxes,
         clients,
         Vec::new(alloc),
-        [(30, 2), HELD, (10, 0)],
+        &[(30, 2), HELD, (10, 0)],
     );
     is_over.store(true, Ordering::SeqCst);
     keep(rt, taken)
