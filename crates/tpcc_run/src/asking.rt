@@ -62,7 +62,9 @@ pub(crate) fn ask_once<'s, N: Naming, T: Seating, C: Turning, R: Wait>(
 }
 
 /// Nothing was asked, since memory was refused.
-pub(crate) fn stopped<'s, N: Naming, T: Seating, C>(operator: Operator<'s, N, T, C>) -> Asked<'s, N, T, C>
+pub(crate) fn stopped<'s, N: Naming, T: Seating, C>(
+    operator: Operator<'s, N, T, C>,
+) -> Asked<'s, N, T, C>
     requires receipts { AllStand operator.purse.front operator.terminal.receipts }
     ensures receipts { IfSome result.operator (λ s. AllStand s.purse.front s.terminal.receipts) }
 {

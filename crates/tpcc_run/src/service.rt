@@ -51,7 +51,15 @@ fn drive<
     let mut first = first;
     let wanted = count as usize;
     let servers = start_servers(
-        scope, rt, alloc, mailboxes, turns, &mut serving, &mut first, count, retire,
+        scope,
+        rt,
+        alloc,
+        mailboxes,
+        turns,
+        &mut serving,
+        &mut first,
+        count,
+        retire,
     );
     let missing = servers.len() < wanted;
     if servers.is_empty() {
@@ -147,10 +155,6 @@ pub(crate) fn serve_directly<
             requires terminals { plan.now.terminals ≤ 999 }
             requires make { F.IsAlwaysCallable make.now }
             ensures seen { AllSeen result.purses.items result.receipts.items }
-        {
-            ask_everything(
-                scope, rt, alloc, turns, ways, first, make, scale, plan,
-            )
-        },
+        { ask_everything(scope, rt, alloc, turns, ways, first, make, scale, plan) },
     )
 }

@@ -94,13 +94,7 @@ fn drain_back<
     C: Turning,
     F: Fn(Global) -> Result<C, AllocError>,
     R: Wait,
->(
-    rt: &R,
-    alloc: Global,
-    back: Back<'s, N, T, C>,
-    make: &F,
-    moment: Moment,
-) -> Back<'s, N, T, C>
+>(rt: &R, alloc: Global, back: Back<'s, N, T, C>, make: &F, moment: Moment) -> Back<'s, N, T, C>
     requires receipts { IfSome back.operator (λ s. AllStand s.purse.front s.terminal.receipts) }
     requires make { F.IsAlwaysCallable make.now }
     ensures receipts { IfSome result.operator (λ s. AllStand s.purse.front s.terminal.receipts) }
@@ -154,12 +148,8 @@ pub(crate) fn ask_everything<
     let mut all = Gathered::new(alloc);
     let wanted = plan.terminals as usize;
     let way = ways.pop();
-    let runner = start_runner(
-        scope, rt, alloc, turns, way, &mut first, make, scale, plan,
-    );
-    let terminals = start_terminals(
-        scope, rt, alloc, turns, ways, &mut first, make, scale, plan,
-    );
+    let runner = start_runner(scope, rt, alloc, turns, way, &mut first, make, scale, plan);
+    let terminals = start_terminals(scope, rt, alloc, turns, ways, &mut first, make, scale, plan);
     if terminals.len() < wanted {
         all.note(RunFault::NoMemory);
     }

@@ -10,8 +10,8 @@ ghost use Rattle.tpcc_book.specs.Past.{Past};
 
 use crate::book::Book;
 use crate::naming::Naming;
-use crate::turns::knows::Knows;
 use crate::turns::gather::Joining;
+use crate::turns::knows::Knows;
 use crate::turns::rule::{Draw, End, Grow, Look, TurnRule};
 use crate::turns::split::LastJoined;
 use atomic_table::{Seat, Shared, TableRule};

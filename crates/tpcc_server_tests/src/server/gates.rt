@@ -137,8 +137,15 @@ fn serve_all<N: Naming, T: Seating, R: Wait + Clock>(
         passed,
         limit_met: false,
     };
-    let (serving, gate, served, keeper) =
-        serve_until_closed(rt, mailboxes, serving, turns, gate, u64::MAX, keeper);
+    let (serving, gate, served, keeper) = serve_until_closed(
+        rt,
+        mailboxes,
+        serving,
+        turns,
+        gate,
+        u64::MAX,
+        keeper,
+    );
     let_go(keeper);
     let_go(serving);
     (gate.limit_met, served)

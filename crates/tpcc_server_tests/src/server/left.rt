@@ -118,8 +118,7 @@ fn answer_left<N: Naming, T: Seating, C: Turning, R: Wait + Abort>(
         mut serving,
     } = make_one(rt, alloc);
     let waiting = posted(&mailboxes, idle, purse, call);
-    let (served, keeper) =
-        serve_round(rt, &mailboxes, &mut serving, turns, &mut OpenGate, keeper);
+    let (served, keeper) = serve_round(rt, &mailboxes, &mut serving, turns, &mut OpenGate, keeper);
     let_go(keeper);
     assert!(rt; served == 1);
     let Left::Reply(answer) = reclaimed(rt, alloc, mailboxes, waiting, serving) else {

@@ -87,8 +87,9 @@ pub(super) fn closed_meanwhile<N: Naming, T: Seating, R: Wait + Abort>(
             waiting,
         }),
     };
-    let (serving, gate, served, keeper) =
-        serve_until_closed(rt, &mailboxes, serving, turns, gate, 9, keeper);
+    let (serving, gate, served, keeper) = serve_until_closed(
+        rt, &mailboxes, serving, turns, gate, 9, keeper,
+    );
     let_go(keeper);
     let_go(serving);
     let_go(gate);

@@ -95,11 +95,13 @@ fn one_by_one<'a, N: Naming, T: Seating, R: Wait + Abort>(
         jobs: 0,
         right: true,
     };
-    let (serving, watch, none, keeper) =
-        serve_until_closed(rt, mailboxes, serving, turns, watch, 0, keeper);
+    let (serving, watch, none, keeper) = serve_until_closed(
+        rt, mailboxes, serving, turns, watch, 0, keeper,
+    );
     assert!(rt; none == 0);
-    let (serving, watch, one, keeper) =
-        serve_until_closed(rt, mailboxes, serving, turns, watch, 1, keeper);
+    let (serving, watch, one, keeper) = serve_until_closed(
+        rt, mailboxes, serving, turns, watch, 1, keeper,
+    );
     assert!(rt; one == 1 && watch.has_seen(1, 0));
     rounds(rt, mailboxes, turns, serving, keeper, watch)
 }
