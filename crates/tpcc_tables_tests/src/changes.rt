@@ -2,14 +2,15 @@
 use tpcc_money::Cents;
 use tpcc_rows::{CustomerRow, DistrictRow, NewOrderRow, OrderLineRow, OrderRow, Row, WarehouseRow};
 
-/// What is changed in district 1 of warehouse 1, or in the warehouse.
+/// What is changed in district 1 of warehouse 1, or in the warehouse; of a NEW-ORDER row that is left out, its district
+/// and its order.
 #[derive(Clone, Copy, PartialEq, Eq)]
 pub enum Change {
     Nothing,
     WarehouseTotal,
     BothTotals,
     CentInAnotherDistrict,
-    NewOrderLeftOut(u32),
+    NewOrderLeftOut(u32, u32),
     LineAdded,
     LineCounts,
     LineUndelivered,
@@ -94,7 +95,7 @@ fn order_line(change: Change, row: OrderLineRow) -> OrderLineRow {
 }
 
 fn new_order(change: Change, row: NewOrderRow) -> Option<Row> {
-    if row.district == 1 && change == Change::NewOrderLeftOut(row.order) {
+    if change == Change::NewOrderLeftOut(row.district, row.order) {
         None
     } else {
         Some(Row::NewOrder(row))

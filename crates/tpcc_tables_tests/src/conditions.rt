@@ -19,10 +19,10 @@ fn the_first_broken_condition_is_named(rt: HostRuntime) {
     let changes = [
         (Change::Nothing, Ok(())),
         (Change::WarehouseTotal, at(1, 0, 0)),
-        (Change::NewOrderLeftOut(10), at(2, 1, 0)),
-        (Change::NewOrderLeftOut(9), at(3, 1, 0)),
+        (Change::NewOrderLeftOut(1, 10), at(2, 1, 0)),
+        (Change::NewOrderLeftOut(1, 9), at(3, 1, 0)),
         (Change::LineAdded, at(4, 1, 0)),
-        (Change::NewOrderLeftOut(8), at(5, 1, 8)),
+        (Change::NewOrderLeftOut(1, 8), at(5, 1, 8)),
         (Change::LineCounts, at(6, 1, 4)),
         (Change::LineUndelivered, at(7, 1, 2)),
         (Change::BothTotals, at(8, 0, 0)),

@@ -1,10 +1,11 @@
 //! One call of each transaction that prepares and finishes at once, with ample memory.
+use crate::changes::Change;
 use crate::conditions::at;
-use crate::opening::{filled, scale};
+use crate::opening::{filled, loaded, scale};
 use std::alloc::AllocGlobal;
 use std::process::Abort;
 use tpcc_conditions::{check, check_opening};
-use tpcc_delivery::{Queue, Ticket, deliver_next, queue};
+use tpcc_delivery::{Delivery, Queue, Ticket, deliver_next, queue};
 use tpcc_money::{Cents, Moment};
 use tpcc_new_order::enter;
 use tpcc_payment::{Payment, pay};
@@ -58,26 +59,50 @@ fn a_payment_is_made(rt: HostRuntime) {
     assert_eq!(rt; paid.balance, Cents::new(-1100));
 }
 
-/// Queues a ticket and makes its ten runs.
-fn deliver(rt: &(impl Abort + AllocGlobal), tables: &mut Tables) {
-    let mut waiting = Queue::new(rt.alloc());
+fn order_in(run: Delivery, district: u32) -> Option<u32> {
+    match run {
+        Delivery::District(run) if run.district == district => run.order,
+        _ => None,
+    }
+}
+
+/// Queues a ticket and makes its ten runs; gives the order that was delivered in that district.
+fn delivered_in(
+    rt: &impl Abort,
+    tables: &mut Tables,
+    waiting: &mut Queue,
+    district: u32,
+) -> Option<u32> {
     let ticket = Ticket {
         warehouse: 1,
         carrier: 3,
         queued: Moment::new(60),
     };
-    assert!(rt; queue(tables, &mut waiting, ticket).is_ok());
+    assert!(rt; queue(tables, waiting, ticket).is_ok());
+    let mut delivered = None;
     for _ in 0..10u32 {
-        assert!(rt; deliver_next(tables, &mut waiting, Moment::new(120)).is_ok());
+        let run = deliver_next(tables, waiting, Moment::new(120)).expect(rt, "a run");
+        delivered = delivered.or(order_in(run, district));
     }
     assert_eq!(rt; waiting.len(), 0);
+    delivered
 }
 
 #[test]
 fn ten_runs_leave_condition_11_behind(rt: HostRuntime) {
     let mut tables = filled(&rt);
-    deliver(&rt, &mut tables);
+    let mut waiting = Queue::new(rt.alloc());
+    assert_eq!(rt; delivered_in(&rt, &mut tables, &mut waiting, 10), Some(8));
     assert_eq!(rt; tables.oldest_new(1, 10), Some(9));
     assert_eq!(rt; check(&tables), Ok(()));
     assert_eq!(rt; check_opening(&tables, scale(&rt, 10)), at(11, 1, 0));
+}
+
+#[test]
+fn runs_pass_over_a_gap_of_new_orders(rt: HostRuntime) {
+    let mut tables = loaded(&rt, &filled(&rt), Change::NewOrderLeftOut(2, 9));
+    let mut waiting = Queue::new(rt.alloc());
+    for order in [Some(8), Some(10), None] {
+        assert_eq!(rt; delivered_in(&rt, &mut tables, &mut waiting, 2), order);
+    }
 }
