@@ -16,7 +16,9 @@ use std::time::Clock;
 use tpcc_audit::{DumpFault, Totals, dump};
 use tpcc_book::{Register, Turned};
 use tpcc_population::{Opening, fill};
-use tpcc_program::{Asked, Asking, Counting, ProgramFault, Progress, Task, read_words};
+use tpcc_program::{
+    Asked, Asking, Counting, ProgramFault, Progress, Task, Timing, read_words, tell_usage,
+};
 use tpcc_rows::{Request, Table};
 use tpcc_run::{Plan, run_shown};
 use tpcc_script::{run_script, show_script};
@@ -26,22 +28,32 @@ use tpcc_terminal::Report;
 
 /// Serves a script's requests, from standard input to standard output; writes their screens, or the
 /// parts that are asked for.
-fn script<R: Print + Input>(
+fn script<R: Print + Input + Eprint + Clock>(
     rt: &R,
     alloc: Global,
     opening: &Opening,
     parts: &[Part],
+    timed: bool,
 ) -> Result<(), ProgramFault> {
-    let mut input = rt.reader();
+    let timing = Timing::begin(rt);
+    let mut input = timing.opened_by(rt, rt.reader());
     let ended = match parts {
         [] | [Part::Screens] => run_script(alloc, &mut input, &mut io::writer(rt), opening),
-        _ => match show_script(alloc, &mut input, opening, parts, io::writer(rt)) {
-            Ok((_, ended)) => ended,
-            Err(fault) => Err(fault),
-        },
+        _ => {
+            let out = timing.served_by(rt, io::writer(rt));
+            match show_script(alloc, &mut input, opening, parts, out) {
+                Ok((_, ended)) => ended,
+                Err(fault) => Err(fault),
+            }
+        }
     };
     match ended {
-        Ok(()) => Ok(()),
+        Ok(entries) => {
+            if timed {
+                let _ = rt.eprint(timing.times(rt, entries as u64));
+            }
+            Ok(())
+        }
         Err(fault) => Err(ProgramFault::Script(fault)),
     }
 }
@@ -62,17 +74,30 @@ fn dump_table<R: Print>(
     }
 }
 
-fn asked<R: Env + AllocGlobal>(rt: &R, alloc: Global) -> Result<Asked, ProgramFault>
-    ensures plan { IfOk result (λ asked. HasPlan asked.task) }
-{
+fn words<R: Env + AllocGlobal>(rt: &R, alloc: Global) -> Result<Vec<String>, ProgramFault> {
     let Ok(words) = std::env::args(rt) else {
         return Err(ProgramFault::NoMemory);
     };
-    let words: Vec<String> = match words.collect(alloc) {
-        Ok(words) => words,
-        Err(_) => return Err(ProgramFault::NoMemory),
-    };
-    read_words(alloc, words.as_slice())
+    match words.collect(alloc) {
+        Ok(words) => Ok(words),
+        Err(_) => Err(ProgramFault::NoMemory),
+    }
+}
+
+fn asked<R: Env + AllocGlobal>(rt: &R, alloc: Global) -> Result<Asked, ProgramFault>
+    ensures plan { IfOk result (λ asked. HasPlan asked.task) }
+{
+    read_words(alloc, words(rt, alloc)?.as_slice())
+}
+
+// What a person at a terminal sees behind the line of a fault.
+fn explain<R: Env + AllocGlobal + Eprint>(rt: &R, alloc: Global, fault: ProgramFault) {
+    if let Some(range) = fault.range() {
+        let _ = rt.eprintln(range);
+    }
+    if let (ProgramFault::Arguments, Ok(words)) = (fault, words(rt, alloc)) {
+        tell_usage(rt, alloc, words.as_slice());
+    }
 }
 
 /// Runs terminals and servers, and writes the report to standard output.
@@ -167,7 +192,7 @@ fn run_watched<
 {
     let begun = Progress::begin(rt, plan);
     let progress = &begun;
-    run_plan(
+    let ended = run_plan(
         rt,
         alloc,
         opening,
@@ -177,7 +202,55 @@ fn run_watched<
             progress.tell(rt);
             Ok(progress.counting(make(alloc)?))
         },
-    )
+    );
+    progress.end(rt);
+    ended
+}
+
+/// Runs terminals and servers as [`run_plan`] does, and tells how long the opening and the requests took.
+fn run_timed<
+    C: Turning + Send,
+    F: Fn(Global) -> Result<C, AllocError> + Sync,
+    R: Print + Eprint + Clock + Threads + Wait + Sync,
+>(
+    rt: &R,
+    alloc: Global,
+    opening: &Opening,
+    plan: &Plan,
+    parts: &[Part],
+    make: F,
+) -> Result<(), ProgramFault>
+    requires plan { IsPlan plan.now }
+    requires make { F.IsAlwaysCallable make }
+{
+    let begun = Timing::begin(rt);
+    let timing = &begun;
+    let parts = if parts.is_empty() {
+        &[Part::Report]
+    } else {
+        parts
+    };
+    let out = timing.served_by(rt, io::writer(rt));
+    let ended = run_shown(
+        rt,
+        alloc,
+        opening,
+        plan,
+        parts,
+        out,
+        |alloc: Global| -> Result<C, AllocError> {
+            timing.mark_opened(rt);
+            make(alloc)
+        },
+    );
+    match ended {
+        Ok((_, totals)) => {
+            tell_report(rt, parts, &totals);
+            let _ = rt.eprint(timing.times(rt, totals.entries));
+            Ok(())
+        }
+        Err(fault) => Err(ProgramFault::Run(fault)),
+    }
 }
 
 /// Writes the requests of a terminal to standard output.
@@ -217,19 +290,21 @@ fn run<
     let opening = asked.opening()?;
     let parts = asked.shows.as_slice();
     match asked.task {
-        Task::Script => script(rt, alloc, &opening, parts),
+        Task::Script => script(rt, alloc, &opening, parts, asked.timed),
         Task::Dump(table) => dump_table(rt, alloc, &opening, table),
         Task::Requests(asking) => put_asked(rt, alloc, &asked, asking),
+        Task::Run(plan) if asked.timed => run_timed(rt, alloc, &opening, &plan, parts, make),
         Task::Run(plan) if watched => run_watched(rt, alloc, &opening, &plan, parts, make),
         Task::Run(plan) => run_plan(rt, alloc, &opening, &plan, parts, make),
     }
 }
 
 fn main(rt: HostRuntime) -> ExitCode {
+    let watched = rt.stderr().is_terminal();
     let ended = run(
         &rt,
         rt.alloc(),
-        rt.stderr().is_terminal(),
+        watched,
         |alloc: Global| -> Result<Turner, AllocError> {
             let call: Call = Box::new(
                 alloc,
@@ -244,6 +319,9 @@ fn main(rt: HostRuntime) -> ExitCode {
         Ok(()) => ExitCode::SUCCESS,
         Err(fault) => {
             let _ = eprintln!(rt; "{fault}");
+            if watched {
+                explain(&rt, rt.alloc(), fault);
+            }
             ExitCode::from(fault.status())
         }
     }

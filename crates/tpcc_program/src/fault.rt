@@ -32,6 +32,18 @@ pub enum ProgramFault {
 }
 
 impl ProgramFault {
+    /// What a person at a terminal is told of a scale that there is not: the range that it left.
+    pub fn range(&self) -> Option<&'static str> {
+        match self {
+            ProgramFault::Scale(ScaleFault::Warehouses) => Some("warehouses are 1 to 100"),
+            ProgramFault::Scale(ScaleFault::Customers) => {
+                Some("customers of a district are 10 to 3000, a multiple of 10")
+            }
+            ProgramFault::Scale(ScaleFault::Items) => Some("items are 100 to 100000"),
+            _ => None,
+        }
+    }
+
     /// The exit status: 1 for arguments and scale, 2 for a script's lines, 3 for reading and
     /// writing, 4 for memory, 5 for a purse that is missing.
     pub fn status(&self) -> u8

@@ -1,11 +1,15 @@
 //! The parts of the program: what the words of the command line ask, why the program ends early and with which
-//! status, and how far a run has come.
+//! status, how far a run has come, how long it took, and how the program is used.
 #![tactic(auto)]
 
 mod fault;
 mod options;
 mod progress;
+mod timing;
+mod usage;
 
 pub use fault::ProgramFault;
 pub use options::{Asked, Asking, Task, read_words};
 pub use progress::{Counting, Line, Progress};
+pub use timing::{Opened, Served, Times, Timing};
+pub use usage::tell_usage;

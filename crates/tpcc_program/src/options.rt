@@ -5,6 +5,7 @@ ghost use Rattle.tpcc_program.specs.Tasks.{HasPlan};
 ghost use Rattle.tpcc_run.specs.Outcome.{IsPlan, IsService};
 
 use crate::fault::ProgramFault;
+use clap::builder::ValueParser;
 use clap::error::ErrorKind;
 use clap::{Arg, ArgAction, ArgMatches, Command, Error, value_parser};
 use std::alloc::{AllocError, Global};
@@ -18,6 +19,37 @@ use tpcc_show::{Parts, part_named};
 
 /// How many times `--show` is taken.
 const MOST_SHOWS: usize = 16;
+
+/// What `dump` may write.
+const TABLES: &[&str] = &[
+    "WAREHOUSE",
+    "DISTRICT",
+    "CUSTOMER",
+    "HISTORY",
+    "ORDER",
+    "ORDER-LINE",
+    "NEW-ORDER",
+    "ITEM",
+    "STOCK",
+];
+
+/// What `--show` may ask for.
+const PARTS: &[&str] = &[
+    "screens",
+    "report",
+    "journal",
+    "results",
+    "check",
+    "WAREHOUSE",
+    "DISTRICT",
+    "CUSTOMER",
+    "HISTORY",
+    "ORDER",
+    "ORDER-LINE",
+    "NEW-ORDER",
+    "ITEM",
+    "STOCK",
+];
 
 const FIRST_SECOND_OF_2100: u32 = 4_102_444_800;
 
@@ -62,6 +94,8 @@ pub struct Asked {
     pub seeded: bool,
     /// What each `--show` of a script or a run asks for, in their order; none where there is none.
     pub shows: Parts,
+    /// Whether a script or a run tells how long it took.
+    pub timed: bool,
 }
 
 impl Asked {
@@ -92,12 +126,47 @@ impl Asked {
     }
 }
 
+// The least and the greatest value of a number, and what help says of it. Scales are judged by `Scale::new`, the
+// rest is judged again when it is read.
+fn described(name: &str) -> (i64, i64, &'static str) {
+    match name {
+        "warehouses" => (0, 4_294_967_295, "Warehouses: 1 to 100, else 1"),
+        "customers" => (
+            0,
+            4_294_967_295,
+            "Customers of each district: 10 to 3000 by tens, else 10",
+        ),
+        "items" => (0, 4_294_967_295, "Items: 100 to 100000, else 100"),
+        "moment" => (
+            0,
+            4_102_444_799,
+            "Seconds since 1970: 0 to 4102444799, else 0",
+        ),
+        "terminals" => (1, 999, "Terminals that ask: 1 to 999, else 2"),
+        "servers" => (1, 16, "Threads that serve: 1 to 16, else 1"),
+        "cards" => (
+            0,
+            100_000,
+            "Requests of each terminal: 0 to 100000, else 23",
+        ),
+        "retire" => (
+            0,
+            4_294_967_295,
+            "Jobs of each server but the first: 0 to 100000, else 0, without end",
+        ),
+        _ => (1, 1_000, "The terminal that asks: 1 to 1000, else 1"),
+    }
+}
+
 // An option whose value is a number.
 fn number<'a>(alloc: Global, name: &'static str) -> Arg<'a> {
+    let (least, greatest, help) = described(name);
     Arg::new(alloc, name)
         .long(name)
         .action(ArgAction::Set)
-        .value_parser(value_parser!(u32))
+        .value_parser(ValueParser::signed(least, greatest))
+        .value_name("N")
+        .help(help)
 }
 
 fn seed<'a>(alloc: Global) -> Arg<'a> {
@@ -105,12 +174,15 @@ fn seed<'a>(alloc: Global) -> Arg<'a> {
         .long("seed")
         .action(ArgAction::Set)
         .value_parser(value_parser!(u64))
+        .value_name("N")
+        .help("From which all is drawn: 0 to 18446744073709551615, else 1")
 }
 
 fn seeded<'a>(alloc: Global) -> Arg<'a> {
     Arg::new(alloc, "seeded")
         .long("seeded")
         .action(ArgAction::SetTrue)
+        .help("Draws the opening from the seed; else it is plain")
 }
 
 fn direct<'a>(alloc: Global) -> Arg<'a> {
@@ -123,12 +195,24 @@ fn shows<'a>(alloc: Global) -> Arg<'a> {
     Arg::new(alloc, "show")
         .long("show")
         .action(ArgAction::Append)
+        .value_parser(PARTS)
+        .value_name("PART")
+        .help("What goes to standard output, up to 16 times")
+}
+
+fn time<'a>(alloc: Global) -> Arg<'a> {
+    Arg::new(alloc, "time")
+        .long("time")
+        .action(ArgAction::SetTrue)
+        .help("Tells on standard error how long the opening and the requests took")
 }
 
 fn table<'a>(alloc: Global) -> Arg<'a> {
     Arg::new(alloc, "table")
         .required(true)
         .action(ArgAction::Set)
+        .value_parser(TABLES)
+        .help("The table whose rows are written")
 }
 
 // The command with an option more, where it was made.
@@ -158,7 +242,8 @@ fn with_opening<'a>(alloc: Global, name: &'static str) -> Result<Command<'a>, Al
 }
 
 fn script<'a>(alloc: Global) -> Result<Command<'a>, AllocError> {
-    with_option(with_opening(alloc, "script"), shows(alloc))
+    let command = with_option(with_opening(alloc, "script"), time(alloc));
+    with_option(command, shows(alloc))
 }
 
 fn dump<'a>(alloc: Global) -> Result<Command<'a>, AllocError> {
@@ -166,7 +251,8 @@ fn dump<'a>(alloc: Global) -> Result<Command<'a>, AllocError> {
 }
 
 fn run<'a>(alloc: Global) -> Result<Command<'a>, AllocError> {
-    let command = with_number(alloc, with_opening(alloc, "run"), "terminals");
+    let command = with_option(with_opening(alloc, "run"), time(alloc));
+    let command = with_number(alloc, command, "terminals");
     let command = with_number(alloc, command, "servers");
     let command = with_number(alloc, command, "cards");
     let command = with_number(alloc, command, "retire");
@@ -187,8 +273,11 @@ fn with_command<'a>(
     program.subcommand(command?)
 }
 
-fn program<'a>(alloc: Global) -> Result<Command<'a>, AllocError> {
-    let program = Command::new(alloc, "tpcc").subcommand_required(true);
+/// The program's words, as `clap` reads them.
+pub(crate) fn program<'a>(alloc: Global) -> Result<Command<'a>, AllocError> {
+    let program = Command::new(alloc, "tpcc")
+        .version("0.1.0")
+        .subcommand_required(true);
     let program = with_command(program, script(alloc))?;
     let program = with_command(program, dump(alloc))?;
     let program = with_command(program, requests(alloc))?;
@@ -316,6 +405,7 @@ fn read_options(task: Task, matches: &ArgMatches<'_>) -> Result<Asked, ProgramFa
         moment,
         seeded: matches.get_flag("seeded"),
         shows,
+        timed: matches.get_flag("time"),
     })
 }
 

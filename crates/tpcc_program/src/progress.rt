@@ -10,6 +10,9 @@ use tpcc_rows::Request;
 use tpcc_run::Plan;
 use tpcc_server::Turning;
 
+/// Goes to the line above at a terminal, and clears it.
+const LINE_BEFORE: &str = "\x1b[1A\x1b[2K";
+
 /// How many requests of a run are done, told on standard error once a second at most.
 #[derive(Drop)]
 pub struct Progress {
@@ -18,6 +21,8 @@ pub struct Progress {
     done: AtomicU64,
     /// When the last line was written, in milliseconds of the monotonic clock.
     told: AtomicU64,
+    /// How many lines were written.
+    lines: AtomicU64,
 }
 
 impl Progress {
@@ -28,11 +33,12 @@ impl Progress {
             asked: threads.saturating_mul(u64::from(plan.cards)),
             done: AtomicU64::new(0),
             told: AtomicU64::new(milliseconds(rt).unwrap_or(u64::MAX)),
+            lines: AtomicU64::new(0),
         }
     }
 
-    /// Writes a line where the last one is a second old. Of threads that come at once one writes it.
-    /// A clock that can't be read and a line that can't be written are passed over.
+    /// Writes a line in place of the last one, where that is a second old. Of threads that come at once one writes
+    /// it. A clock that can't be read and a line that can't be written are passed over.
     pub fn tell<R: Clock + Eprint>(&self, rt: &R) {
         let Some(now) = milliseconds(rt) else {
             return;
@@ -44,7 +50,16 @@ impl Progress {
                 .compare_exchange(told, now, Ordering::SeqCst, Ordering::SeqCst)
                 .is_ok();
         if first {
-            let _ = rt.eprintln(self.line());
+            let again = self.lines.fetch_add(1, Ordering::SeqCst) > 0;
+            let line = self.line();
+            let _ = rt.eprintln(Told { again, line });
+        }
+    }
+
+    /// Takes the last line away, where there is one.
+    pub fn end<R: Eprint>(&self, rt: &R) {
+        if self.lines.load(Ordering::SeqCst) > 0 {
+            let _ = rt.eprint(LINE_BEFORE);
         }
     }
 
@@ -78,6 +93,22 @@ pub struct Line {
 impl Display for Line {
     fn fmt<W: fmt::Write>(&self, f: &mut Formatter<W>) -> fmt::Result {
         write!(f, "{} of {} requests", self.done, self.asked)
+    }
+}
+
+// A line in place of the one before, if there is one.
+#[derive(Clone, Copy, Drop)]
+struct Told {
+    again: bool,
+    line: Line,
+}
+
+impl Display for Told {
+    fn fmt<W: fmt::Write>(&self, f: &mut Formatter<W>) -> fmt::Result {
+        if self.again {
+            f.write_str(LINE_BEFORE)?;
+        }
+        write!(f, "{}", self.line)
     }
 }
 

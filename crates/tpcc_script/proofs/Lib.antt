@@ -12,3 +12,4 @@ mod NumeralLaws
 mod PartLaws
 mod WordLaws
 pub mod RequestLaws
+pub mod Again

@@ -1,12 +1,8 @@
 -- With memory for each turn, a script prints the screens that are computed.
 use Rattle.std.proofs.Common.{refl, List, [], ◌∷◌, inl}
 use Rattle.tpcc_script.specs.declared.call.Call.{Call}
-use Rattle.tpcc_script.specs.Book.{Book, screen_of, book_after, screens_of}
+use Rattle.tpcc_script.specs.Book.{Book, screen_of, book_after, books_after, screens_of}
 use Rattle.tpcc_script.specs.Run.{Prints}
-
-abbrev pub books_after : Book → List Call → Book
-books_after b [] = b
-books_after b (call ∷ calls) = books_after (book_after b call) calls
 
 pub prints_screens : (b : Book) (calls : List Call) → Prints b calls (screens_of b calls) (books_after b calls)
 prints_screens b [] = (refl, refl)

@@ -20,7 +20,7 @@ use Rattle.tpcc_terminal.specs.Screens.{line}
 use Rattle.tpcc_terminal.specs.RequestLines.{customer_word, order_line_word, order_line, payment_line, status_line, stock_line, delivery_line, deliver_line, request_line, journal_lines}
 use Rattle.tpcc_script.specs.declared.call.Call.TheVariants.{Ask}
 use Rattle.tpcc_script.specs.Script.{call_of, call_of_words, call_named, later_named, order_of, order_lines_of, payment_of, status_of, stock_of, delivery_of, deliver_of, parts_of, Script, script_of, lines_say, then_says, with_call, onto}
-use Rattle.tpcc_script.specs.Sayable.{is_number, is_moment, is_amount, is_customer_word, is_order_line, is_sayable}
+use Rattle.tpcc_script.specs.Sayable.{is_number, is_moment, is_amount, is_customer_word, is_order_line, has_words, fits_line, is_sayable}
 use Rattle.tpcc_script.proofs.PartLaws.{is_free_of, is_word, is_brief, words, words_length, line_is, words_apart, words_free, word_free, line_free, part_before}
 use Rattle.tpcc_script.proofs.WordLaws.{bound, number_word, number_read, number_brief, moment_word, moment_read, moment_brief, who_word, who_read, who_brief, amount_word, amount_read, amount_brief, line_word, line_read, line_brief}
 
@@ -48,48 +48,46 @@ lines_brief : (ls : List Line) → list_all is_order_line ls ≡ true → list_a
 lines_brief [] h = refl
 lines_brief (l ∷ ls) h = let s = split _ _ h in both_true (is_brief (order_line_word l)) _ (line_brief l s.0) (lines_brief ls s.1)
 
-order_says : (o : Order) → is_sayable (ask.NewOrder o) ≡ true → Says (ask.NewOrder o)
+order_says : (o : Order) → has_words (ask.NewOrder o) ≡ true → nat_le (length o.lines) 100 ≡ true → Says (ask.NewOrder o)
 unfolding order_line call_named order_of
-order_says o h =
+order_says o h few =
     let w = split _ _ h in
     let d = split _ _ w.1 in
     let c = split _ _ d.1 in
     let m = split _ _ c.1 in
-    let ls = split _ _ m.1 in
     record {
       name = codes "new-order";
       more = decimal o.warehouse ∷ decimal o.district ∷ decimal o.customer ∷ decimal o.moment ∷ map order_line_word o.lines;
       text = refl;
       of_words = refl;
-      all_words = both_true _ _ (number_word o.warehouse w.0) (both_true _ _ (number_word o.district d.0) (both_true _ _ (number_word o.customer c.0) (both_true _ _ (moment_word o.moment m.0) (line_words o.lines ls.0))));
-      read = rw (number_read o.warehouse w.0) (rw (number_read o.district d.0) (rw (number_read o.customer c.0) (rw (moment_read o.moment m.0) (rw (lines_read o.lines ls.0) refl))));
+      all_words = both_true _ _ (number_word o.warehouse w.0) (both_true _ _ (number_word o.district d.0) (both_true _ _ (number_word o.customer c.0) (both_true _ _ (moment_word o.moment m.0) (line_words o.lines m.1))));
+      read = rw (number_read o.warehouse w.0) (rw (number_read o.district d.0) (rw (number_read o.customer c.0) (rw (moment_read o.moment m.0) (rw (lines_read o.lines m.1) refl))));
       brief_name = refl;
-      brief_words = both_true _ _ (number_brief o.warehouse w.0) (both_true _ _ (number_brief o.district d.0) (both_true _ _ (number_brief o.customer c.0) (both_true _ _ (moment_brief o.moment m.0) (lines_brief o.lines ls.0))));
-      few = omega (arith, length-map o.lines order_line_word, bound 100 (length o.lines) ls.1);
+      brief_words = both_true _ _ (number_brief o.warehouse w.0) (both_true _ _ (number_brief o.district d.0) (both_true _ _ (number_brief o.customer c.0) (both_true _ _ (moment_brief o.moment m.0) (lines_brief o.lines m.1))));
+      few = omega (arith, length-map o.lines order_line_word, bound 100 (length o.lines) few);
     }
 
-payment_says : (p : Payment) → is_sayable (ask.Payment p) ≡ true → Says (ask.Payment p)
+payment_says : (p : Payment) → has_words (ask.Payment p) ≡ true → is_amount p.amount ≡ true → Says (ask.Payment p)
 unfolding payment_line call_named payment_of
-payment_says p h =
+payment_says p h amount =
     let w = split _ _ h in
     let d = split _ _ w.1 in
     let cw = split _ _ d.1 in
     let cd = split _ _ cw.1 in
     let c = split _ _ cd.1 in
-    let a = split _ _ c.1 in
     record {
       name = codes "payment";
       more = decimal p.warehouse ∷ decimal p.district ∷ decimal p.customer_warehouse ∷ decimal p.customer_district ∷ customer_word p.who ∷ amount_text p.amount ∷ decimal p.moment ∷ [];
       text = refl;
       of_words = refl;
-      all_words = both_true _ _ (number_word p.warehouse w.0) (both_true _ _ (number_word p.district d.0) (both_true _ _ (number_word p.customer_warehouse cw.0) (both_true _ _ (number_word p.customer_district cd.0) (both_true _ _ (who_word p.who c.0) (both_true _ _ (amount_word p.amount a.0) (both_true _ _ (moment_word p.moment a.1) refl))))));
-      read = rw (number_read p.warehouse w.0) (rw (number_read p.district d.0) (rw (number_read p.customer_warehouse cw.0) (rw (number_read p.customer_district cd.0) (rw (who_read p.who c.0) (rw (amount_read p.amount a.0) (rw (moment_read p.moment a.1) refl))))));
+      all_words = both_true _ _ (number_word p.warehouse w.0) (both_true _ _ (number_word p.district d.0) (both_true _ _ (number_word p.customer_warehouse cw.0) (both_true _ _ (number_word p.customer_district cd.0) (both_true _ _ (who_word p.who c.0) (both_true _ _ (amount_word p.amount amount) (both_true _ _ (moment_word p.moment c.1) refl))))));
+      read = rw (number_read p.warehouse w.0) (rw (number_read p.district d.0) (rw (number_read p.customer_warehouse cw.0) (rw (number_read p.customer_district cd.0) (rw (who_read p.who c.0) (rw (amount_read p.amount amount) (rw (moment_read p.moment c.1) refl))))));
       brief_name = refl;
-      brief_words = both_true _ _ (number_brief p.warehouse w.0) (both_true _ _ (number_brief p.district d.0) (both_true _ _ (number_brief p.customer_warehouse cw.0) (both_true _ _ (number_brief p.customer_district cd.0) (both_true _ _ (who_brief p.who c.0) (both_true _ _ (amount_brief p.amount a.0) (both_true _ _ (moment_brief p.moment a.1) refl))))));
+      brief_words = both_true _ _ (number_brief p.warehouse w.0) (both_true _ _ (number_brief p.district d.0) (both_true _ _ (number_brief p.customer_warehouse cw.0) (both_true _ _ (number_brief p.customer_district cd.0) (both_true _ _ (who_brief p.who c.0) (both_true _ _ (amount_brief p.amount amount) (both_true _ _ (moment_brief p.moment c.1) refl))))));
       few = omega arith;
     }
 
-status_says : (q : StatusQuery) → is_sayable (ask.Status q) ≡ true → Says (ask.Status q)
+status_says : (q : StatusQuery) → has_words (ask.Status q) ≡ true → Says (ask.Status q)
 unfolding status_line call_named status_of
 status_says q h =
     let w = split _ _ h in
@@ -106,7 +104,7 @@ status_says q h =
       few = omega arith;
     }
 
-stock_says : (q : StockQuery) → is_sayable (ask.Stock q) ≡ true → Says (ask.Stock q)
+stock_says : (q : StockQuery) → has_words (ask.Stock q) ≡ true → Says (ask.Stock q)
 unfolding stock_line call_named stock_of
 stock_says q h =
     let w = split _ _ h in
@@ -123,7 +121,7 @@ stock_says q h =
       few = omega arith;
     }
 
-delivery_says : (t : Ticket) → is_sayable (ask.Delivery t) ≡ true → Says (ask.Delivery t)
+delivery_says : (t : Ticket) → has_words (ask.Delivery t) ≡ true → Says (ask.Delivery t)
 unfolding delivery_line call_named later_named delivery_of
 delivery_says t h =
     let w = split _ _ h in
@@ -140,7 +138,7 @@ delivery_says t h =
       few = omega arith;
     }
 
-deliver_says : (at : ℕ) → is_sayable (ask.Deliver at) ≡ true → Says (ask.Deliver at)
+deliver_says : (at : ℕ) → has_words (ask.Deliver at) ≡ true → Says (ask.Deliver at)
 unfolding deliver_line call_named later_named deliver_of
 deliver_says at h =
     record {
@@ -155,13 +153,16 @@ deliver_says at h =
       few = omega arith;
     }
 
+says_both : (request : Request) → has_words request ≡ true → fits_line request ≡ true → Says request
+says_both (ask.NewOrder order) h brief = order_says order h brief
+says_both (ask.Payment payment) h brief = payment_says payment h brief
+says_both (ask.Status query) h brief = status_says query h
+says_both (ask.Stock query) h brief = stock_says query h
+says_both (ask.Delivery ticket) h brief = delivery_says ticket h
+says_both (ask.Deliver at) h brief = deliver_says at h
+
 says : (request : Request) → is_sayable request ≡ true → Says request
-says (ask.NewOrder order) h = order_says order h
-says (ask.Payment payment) h = payment_says payment h
-says (ask.Status query) h = status_says query h
-says (ask.Stock query) h = stock_says query h
-says (ask.Delivery ticket) h = delivery_says ticket h
-says (ask.Deliver at) h = deliver_says at h
+says request h = let both = split (has_words request) (fits_line request) h in says_both request both.0 both.1
 
 -- the parts of any bytes: there is a first one
 record HasFirst (parts : List (List ℕ)) : Type 0 where

@@ -17,7 +17,7 @@ use Rattle.tpcc_book.specs.Serve.{IsServed}
 use Rattle.tpcc_script.specs.Book.{terminal}
 use Rattle.tpcc_script.specs.declared.fault.ScriptFault.{ScriptFault}
 use Rattle.tpcc_script.specs.Script.{Script}
-use Rattle.tpcc_script.specs.Run.{HasRun, IsRun}
+use Rattle.tpcc_script.specs.Run.{HasRun, IsCounted}
 use Rattle.tpcc_script.specs.Session.{IsAtHand, opened_book, seen}
 
 -- one more entry of the terminal
@@ -68,6 +68,6 @@ back_at_hand old new held taken purse back request answer at out is put served =
     rw put (at_hand old new purse request answer (ap (λ (p : Held). p.terminal) same ∙ at.terminal_is) (ap (λ (p : Held). p.entries) same ∙ at.entries) served)
 
 -- a run from the session of an opening
-pub has_run : (opening : Opening) (start left : Past) (script : Script) (old new : Option (List ℕ)) (result : Result (Unit {0}) ScriptFault)
-    → start ≡ opened opening → IsRun (seen start) script old new (seen left) result → HasRun (opened_book opening) script old new result
-has_run opening start left script old new result is run = (seen left, subst (λ (p : Past). IsRun (seen p) script old new (seen left) result) is run)
+pub has_run : (opening : Opening) (start left : Past) (script : Script) (old new : Option (List ℕ)) (result : Result ℕ ScriptFault)
+    → start ≡ opened opening → IsCounted (seen start) script old new (seen left) result → HasRun (opened_book opening) script old new result
+has_run opening start left script old new result is run = (seen left, subst (λ (p : Past). IsCounted (seen p) script old new (seen left) result) is run)

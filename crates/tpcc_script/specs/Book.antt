@@ -66,3 +66,8 @@ book_after b Results = b
 abbrev pub screens_of : Book → List Call → List ℕ
 screens_of b [] = []
 screens_of b (call ∷ calls) = screen_of b call ++ screens_of (book_after b call) calls
+
+-- and the book that they leave
+abbrev pub books_after : Book → List Call → Book
+books_after b [] = b
+books_after b (call ∷ calls) = books_after (book_after b call) calls

@@ -8,3 +8,4 @@ pub mod Attempts
 pub mod Reading
 pub mod Session
 pub mod Shown
+pub mod Again

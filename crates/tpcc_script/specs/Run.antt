@@ -90,6 +90,11 @@ IsRun start script old new left (Err Read) = WroteFirst start script.calls old n
 IsRun start script old new left (Err NoMemory) = WroteFirst start script.calls old new left ⊎ WroteButLast start script.calls old new left
 IsRun start script old new left (Err Write) = WrotePartOfFirst start script.calls old new left
 
+-- the same of a run that tells how many entries the book has, where it comes to its end
+abbrev pub IsCounted : Book → Script → Option (List ℕ) → Option (List ℕ) → Book → Result ℕ ScriptFault → Type 0
+IsCounted start script old new left (Ok entries) = (entries ≡ length left.journal) × IsRun start script old new left (Ok tt)
+IsCounted start script old new left (Err fault) = IsRun start script old new left (Err fault)
+
 -- the same of a run whose book is let go
-abbrev pub HasRun : Book → Script → Option (List ℕ) → Option (List ℕ) → Result (Unit {0}) ScriptFault → Type 0
-HasRun start script old new result = (left : Book) × IsRun start script old new left result
+abbrev pub HasRun : Book → Script → Option (List ℕ) → Option (List ℕ) → Result ℕ ScriptFault → Type 0
+HasRun start script old new result = (left : Book) × IsCounted start script old new left result

@@ -1,5 +1,5 @@
 -- Requests that a line of a script can say: numbers of 32 bits, moments and amounts in their ranges, names of letters.
-use Rattle.std.specs.Prelude.{ℕ, Bool, ◌&&◌, nat_le, List, length, ℤ, pos, negsuc, false}
+use Rattle.std.specs.Prelude.{ℕ, Bool, ◌&&◌, nat_le, length, ℤ, pos, negsuc, true, false}
 use Rattle.std.specs.List.{list_all}
 use Rattle.tpcc_rows.specs.declared.requests.Who.{Who}
 use Rattle.tpcc_rows.specs.declared.requests.Who.TheVariants.{Number, Name}
@@ -26,13 +26,25 @@ is_customer_word (Name last) = is_last_name last
 abbrev pub is_order_line : Line → Bool
 is_order_line l = is_number l.item && (is_number l.supply && is_number l.quantity)
 
--- at most 100 lines, so that the line of the script has at most 4,096 bytes
+-- what types keep of every request, numbers of 32 bits and moments in their range, and a name that is letters
+abbrev pub has_words : Request → Bool
+has_words (ask.NewOrder o) =
+    is_number o.warehouse && (is_number o.district && (is_number o.customer && (is_moment o.moment && list_all is_order_line o.lines)))
+has_words (ask.Payment p) =
+    is_number p.warehouse && (is_number p.district && (is_number p.customer_warehouse && (is_number p.customer_district && (is_customer_word p.who && is_moment p.moment))))
+has_words (ask.Status s) = is_number s.warehouse && (is_number s.district && is_customer_word s.who)
+has_words (ask.Stock s) = is_number s.warehouse && (is_number s.district && is_number s.threshold)
+has_words (ask.Delivery t) = is_number t.warehouse && (is_number t.carrier && is_moment t.queued)
+has_words (ask.Deliver at) = is_moment at
+
+-- an amount that has a word, and at most 100 lines, so that the line of the script has at most 4,096 bytes
+abbrev pub fits_line : Request → Bool
+fits_line (ask.NewOrder o) = nat_le (length o.lines) 100
+fits_line (ask.Payment p) = is_amount p.amount
+fits_line (ask.Status s) = true
+fits_line (ask.Stock s) = true
+fits_line (ask.Delivery t) = true
+fits_line (ask.Deliver at) = true
+
 abbrev pub is_sayable : Request → Bool
-is_sayable (ask.NewOrder o) =
-    is_number o.warehouse && (is_number o.district && (is_number o.customer && (is_moment o.moment && (list_all is_order_line o.lines && nat_le (length o.lines) 100))))
-is_sayable (ask.Payment p) =
-    is_number p.warehouse && (is_number p.district && (is_number p.customer_warehouse && (is_number p.customer_district && (is_customer_word p.who && (is_amount p.amount && is_moment p.moment)))))
-is_sayable (ask.Status s) = is_number s.warehouse && (is_number s.district && is_customer_word s.who)
-is_sayable (ask.Stock s) = is_number s.warehouse && (is_number s.district && is_number s.threshold)
-is_sayable (ask.Delivery t) = is_number t.warehouse && (is_number t.carrier && is_moment t.queued)
-is_sayable (ask.Deliver at) = is_moment at
+is_sayable request = has_words request && fits_line request

@@ -6,14 +6,14 @@ use Rattle.tpcc_show.specs.declared.parts.Part.{Part}
 use Rattle.tpcc_show.specs.Shown.{served_text}
 use Rattle.tpcc_script.specs.declared.fault.ScriptFault.{ScriptFault}
 use Rattle.tpcc_script.specs.Script.{Script}
-use Rattle.tpcc_script.specs.Run.{IsRun}
+use Rattle.tpcc_script.specs.Run.{IsCounted}
 use Rattle.tpcc_script.specs.Book.{Book}
 use Rattle.tpcc_script.specs.Session.{seen}
 
 -- a script ran on a book to its end or its fault, and parts of the book that it left were written; its screens
 -- are one of them where it is asked for
-pub record HasShown (start : Book) (script : Script) (asked : List Part) (old new : Option (List ℕ)) (ended : Result (Unit {0}) ScriptFault) : Type 0 where
+pub record HasShown (start : Book) (script : Script) (asked : List Part) (old new : Option (List ℕ)) (ended : Result ℕ ScriptFault) : Type 0 where
   pub book : Past
   pub screens : List ℕ
-  pub ran : IsRun start script (Some []) (Some screens) (seen book) ended
+  pub ran : IsCounted start script (Some []) (Some screens) (seen book) ended
   pub written : Appends old new (served_text screens book asked)

@@ -1,12 +1,18 @@
 //! The laws of lines that are written from requests, each as the contract of a function with nothing to do.
-ghost use Rattle.std.specs.Prelude.{◌≡◌, ◌∷◌, ◌≤◌, List, [], None, length, map, true};
+ghost use Rattle.std.specs.Prelude.{◌≡◌, ◌∷◌, ◌≤◌, ℕ, List, [], Option, None, Result, length, map, true};
 ghost use Rattle.std.specs.List.{list_all};
 ghost use Rattle.tpcc_rows.specs.declared.entry.Entry.{Entry};
 ghost use Rattle.tpcc_rows.specs.declared.requests.Request.{Request};
+ghost use Rattle.tpcc_book.specs.Past.{Past};
 ghost use Rattle.tpcc_terminal.specs.RequestLines.{journal_lines, request_line};
 ghost use Rattle.tpcc_script.specs.declared.call.Call.TheVariants.{Ask};
+ghost use Rattle.tpcc_script.specs.declared.fault.ScriptFault.{ScriptFault};
+ghost use Rattle.tpcc_script.specs.Again.{IsDoneAgain, IsSameAgain, IsWritable, left_again, screens_again, script_again};
+ghost use Rattle.tpcc_script.specs.Book.{Book};
+ghost use Rattle.tpcc_script.specs.Run.{IsRun};
 ghost use Rattle.tpcc_script.specs.Sayable.{is_sayable};
 ghost use Rattle.tpcc_script.specs.Script.{script_of};
+ghost use Rattle.tpcc_script.specs.Session.{opened_book};
 
 /// The line of a request is a script that asks just this request; so it has at most 4,096 bytes. The request's numbers, moment and
 /// amount are in the ranges of a script's words, a name is 1 to 16 letters A to Z, and a New-Order has at most 100 lines.
@@ -19,4 +25,21 @@ pub fn request_is_read()
 pub fn journal_is_read()
     ensures { (entries : List Entry) → list_all (λ e. is_sayable e.request) entries ≡ true → length entries ≤ 1000000
         → script_of (journal_lines entries) ≡ record { calls = map (λ e. Ask e.request) entries; fault = None } }
+{}
+
+/// A kept book's journal, read again as a script at the book's opening, names no fault, and its screens and the book behind
+/// them are those of the stored replies: the same rows and queue, and each entry's request and reply. A book is writable that
+/// has at most 1,000,000 entries, whose requests have names of letters.
+pub fn journal_is_done_again()
+    ensures whole { (book : Past) → IsWritable book → (script_again book).fault ≡ None }
+    ensures same { (book : Past) → IsWritable book
+        → IsSameAgain book (screens_again book) (left_again book) }
+{}
+
+/// Whatever [`run_script`](crate::run_script) does with that script: where it ends it has written just these screens and left
+/// that book, or some request was refused for want of memory; no fault of the text stops it.
+pub fn journal_runs_again()
+    ensures { (book : Past) (old new : Option (List ℕ)) (left : Book) (result : Result (Unit {0}) ScriptFault)
+        → IsWritable book → IsRun (opened_book book.opening) (script_again book) old new left result
+        → IsDoneAgain book old new left result }
 {}

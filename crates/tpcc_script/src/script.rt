@@ -2,9 +2,9 @@
 ghost use Rattle.std.specs.Prelude.{◌≡◌, ◌≤◌, ℕ, true, List, Some, IfErr, IfOk};
 ghost use Rattle.tpcc_script.specs.Attempts.{HasGivenUp};
 ghost use Rattle.tpcc_script.specs.Script.{script_of};
-ghost use Rattle.tpcc_script.specs.Run.{HasRun, IsRun};
+ghost use Rattle.tpcc_script.specs.Run.{HasRun, IsCounted, IsRun};
 ghost use Rattle.tpcc_script.specs.Steps.{IsStep};
-ghost use Rattle.tpcc_script.specs.Session.{opened_book};
+ghost use Rattle.tpcc_script.specs.Session.{opened_book, seen};
 
 use crate::engine::Engine;
 use crate::fault::ScriptFault;
@@ -21,7 +21,8 @@ use tpcc_book::{Blanks, Naming};
 use tpcc_population::Opening;
 
 /// Runs a script on a fresh book: each request by a purse of terminal 1, through the book. The
-/// screens of all lines that were read are written before more is read.
+/// screens of all lines that were read are written before more is read. Answers how many entries
+/// the book then has: a refused request makes none.
 ///
 /// Faults: Bad (a line that says no request or call), Cut (the last line has no line feed), LongLine
 /// (over 4,096 bytes), TooManyLines (a byte after 1,000,000 lines), Read, Write, NoMemory. An
@@ -31,7 +32,7 @@ pub fn run_script<R: Read, W: Write>(
     input: &mut R,
     out: &mut W,
     opening: &Opening,
-) -> Result<(), ScriptFault>
+) -> Result<usize, ScriptFault>
     ensures { (bytes : List ℕ) → R.remaining input.old ≡ Some bytes
         → HasRun (opened_book opening.now) (script_of bytes) (W.contents out.old) (W.contents out.new) result }
 {
@@ -47,7 +48,7 @@ fn run_named<N: Naming, R: Read, W: Write>(
     watch: &mut Watch,
     opening: &Opening,
     blanks: Blanks,
-) -> Result<(), ScriptFault>
+) -> Result<usize, ScriptFault>
     requires entries { blanks.entries.name ≡ N.entries }
     requires cents { blanks.cents.name ≡ N.cents }
     ensures gave_up { IfErr result (HasGivenUp watch.new) }
@@ -55,13 +56,31 @@ fn run_named<N: Naming, R: Read, W: Write>(
         → HasRun (opened_book opening.now) (script_of bytes) (W.contents out.old) (W.contents out.new) result }
 {
     match Session::<N>::start(alloc, opening, blanks) {
-        Ok(mut session) => serve_script(alloc, &mut session, input, out, watch),
+        Ok(mut session) => serve_session(alloc, &mut session, input, out, watch),
         Err(_) => Err(ScriptFault::NoMemory),
     }
 }
 
-/// Reads a script, serves its lines and writes their screens.
-pub(crate) fn serve_script<E: Engine, R: Read, W: Write>(
+/// Reads a script and serves its lines on a session; answers how many entries it then has.
+pub(crate) fn serve_session<N: Naming, R: Read, W: Write>(
+    alloc: Global,
+    session: &mut Session<N>,
+    input: &mut R,
+    out: &mut W,
+    watch: &mut Watch,
+) -> Result<usize, ScriptFault>
+    ensures gave_up { IfErr result (HasGivenUp watch.new) }
+    ensures counted { (bytes : List ℕ) → R.remaining input.old ≡ Some bytes
+        → IsCounted (seen session.old) (script_of bytes) (W.contents out.old) (W.contents out.new) (seen session.new) result }
+{
+    match serve_script(alloc, session, input, out, watch) {
+        Ok(()) => Ok(session.entries()),
+        Err(fault) => Err(fault),
+    }
+}
+
+// Reads a script, serves its lines and writes their screens.
+fn serve_script<E: Engine, R: Read, W: Write>(
     alloc: Global,
     engine: &mut E,
     input: &mut R,

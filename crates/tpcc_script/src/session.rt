@@ -1,5 +1,5 @@
 //! A book that serves the requests of one script.
-ghost use Rattle.std.specs.Prelude.{◌≡◌, IfOk};
+ghost use Rattle.std.specs.Prelude.{◌≡◌, IfOk, length};
 ghost use Rattle.tpcc_book.specs.Past.{opened};
 
 use crate::engine::Engine;
@@ -55,6 +55,13 @@ impl<N: Naming> Session<N> {
         ensures book { result.now ≡ self.now }
     {
         &self.book
+    }
+
+    /// How many entries the requests made.
+    pub(crate) fn entries(&self) -> usize
+        ensures entries { result ≡ length self.now.entries }
+    {
+        self.book.journal().len()
     }
 }
 

@@ -5,7 +5,7 @@ ghost use Rattle.tpcc_script.specs.Session.{opened_book, seen};
 ghost use Rattle.tpcc_script.specs.Shown.{HasShown};
 
 use crate::fault::ScriptFault;
-use crate::script::serve_script;
+use crate::script::serve_session;
 use crate::session::Session;
 use crate::watch::Watch;
 use std::alloc::Global;
@@ -18,7 +18,7 @@ use tpcc_show::{Part, show_served};
 
 /// Runs a script as [`run_script`](crate::run_script) does, keeps its screens, and then writes parts of the book
 /// that it leaves: one part alone as it is, several each under a line `== PART`. Answers the writer and how the
-/// script ended: after a fault the parts are those of the requests before it.
+/// script ended, with how many entries: after a fault the parts are those of the requests before it.
 ///
 /// Write where the writer fails or takes nothing, NoMemory where a growth was refused for the opening, a screen
 /// that is kept or a part; the writer is then let go, and how much of the text it took is unknown.
@@ -28,7 +28,7 @@ pub fn show_script<R: Read, W: Write + Drop>(
     opening: &Opening,
     parts: &[Part],
     out: W,
-) -> Result<(W, Result<(), ScriptFault>), ScriptFault>
+) -> Result<(W, Result<usize, ScriptFault>), ScriptFault>
     ensures shown { (bytes : List ℕ) → R.remaining input.old ≡ Some bytes
         → IfOk result (λ r. HasShown (opened_book opening.now) (script_of bytes) parts.now (W.contents out) (W.contents r.0) r.1) }
 {
@@ -43,7 +43,7 @@ fn show_named<N: Naming, R: Read, W: Write + Drop>(
     parts: &[Part],
     out: W,
     blanks: Blanks,
-) -> Result<(W, Result<(), ScriptFault>), ScriptFault>
+) -> Result<(W, Result<usize, ScriptFault>), ScriptFault>
     requires entries { blanks.entries.name ≡ N.entries }
     requires cents { blanks.cents.name ≡ N.cents }
     ensures shown { (bytes : List ℕ) → R.remaining input.old ≡ Some bytes
@@ -62,12 +62,12 @@ fn show_session<N: Naming, R: Read, W: Write + Drop>(
     input: &mut R,
     parts: &[Part],
     out: W,
-) -> Result<(W, Result<(), ScriptFault>), ScriptFault>
+) -> Result<(W, Result<usize, ScriptFault>), ScriptFault>
     ensures shown { (bytes : List ℕ) → R.remaining input.old ≡ Some bytes
         → IfOk result (λ r. HasShown (seen session.old) (script_of bytes) parts.now (W.contents out) (W.contents r.0) r.1) }
 {
     let mut screens = Vec::new(alloc);
-    let ended = serve_script(alloc, session, input, &mut screens, &mut Watch::new());
+    let ended = serve_session(alloc, session, input, &mut screens, &mut Watch::new());
     if let Err(ScriptFault::Write) = ended {
         return Err(ScriptFault::NoMemory);
     }

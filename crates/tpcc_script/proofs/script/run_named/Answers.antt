@@ -6,8 +6,8 @@ use Rattle.tpcc_script.proofs.script.run_named.Goals as goal
 
 pub returns-in-Ok-clause-run : goal.returns-in-Ok-clause-run
 returns-in-Ok-clause-run g c = λ bytes known.
-    has_run c.args.opening.now c.in-Ok.session c.serve_script.new.engine (script_of bytes) (g.W.Write.contents c.args.out.now) (g.W.Write.contents c.serve_script.new.out) c.serve_script.result
-    c.in-Ok.ensures.started (c.serve_script.ensures.run bytes known)
+    has_run c.args.opening.now c.in-Ok.session c.serve_session.new.session (script_of bytes) (g.W.Write.contents c.args.out.now) (g.W.Write.contents c.serve_session.new.out) c.serve_session.result
+    c.in-Ok.ensures.started (c.serve_session.ensures.counted bytes known)
 
 pub returns-in-Err-clause-run : goal.returns-in-Err-clause-run
 returns-in-Err-clause-run g c = λ bytes known.
