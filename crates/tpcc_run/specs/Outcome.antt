@@ -1,5 +1,5 @@
 -- What a run is made of, and what it comes to.
-use Rattle.std.specs.Prelude.{ℕ, ◌≡◌, ◌⊎◌, ◌≤◌, List, ◌++◌, Option, length}
+use Rattle.std.specs.Prelude.{ℕ, ⊤, ◌≡◌, ◌⊎◌, ◌≤◌, List, ◌++◌, Option, length}
 use Rattle.std.specs.Io.KnownBytes.{Appends}
 use Rattle.tpcc_population.specs.declared.opening.Opening.{Opening}
 use Rattle.tpcc_book.specs.Past.{Past, IsKept, rise_of}
@@ -9,15 +9,20 @@ use Rattle.tpcc_audit.specs.declared.settlement.Totals.{Totals}
 use Rattle.tpcc_show.specs.declared.parts.Part.{Part}
 use Rattle.tpcc_show.specs.Shown.{shown_text}
 use Rattle.tpcc_run.specs.declared.plan.Plan.{Plan}
+use Rattle.tpcc_run.specs.declared.plan.Service.{Service}
+use Rattle.tpcc_run.specs.declared.plan.Service.TheVariants.{Servers, Direct}
+
+-- the ranges of what serves
+abbrev pub IsService : Service → Type 0
+IsService (Servers count retire) = (1 ≤ count) × (count ≤ 16) × (retire ≤ 100000)
+IsService Direct = ⊤
 
 -- the ranges of a plan
 pub record IsPlan (plan : Plan) : Type 0 where
   pub terminals_least : 1 ≤ plan.terminals
   pub terminals_most : plan.terminals ≤ 999
-  pub servers_least : 1 ≤ plan.servers
-  pub servers_most : plan.servers ≤ 16
+  pub service : IsService plan.service
   pub cards_most : plan.cards ≤ 100000
-  pub retire_most : plan.retire ≤ 100000
 
 -- a kept book of the opening with its totals: its entries, what its purses paid, and the rise of W_YTD
 pub record HasTotals (opening : Opening) (book : Past) (totals : Totals) : Type 0 where

@@ -1,6 +1,5 @@
-//! One request of a terminal, from its mailbox to its receipt.
+//! One request of a terminal, up to its receipt.
 ghost use Rattle.std.specs.Prelude.{◌≡◌, IfSome};
-ghost use Rattle.tpcc_mailbox.specs.Tokens.{identity, idle_origin};
 ghost use Rattle.tpcc_terminal.specs.Receipts.{AllStand, receipts_of};
 ghost use Rattle.tpcc_run.specs.Outcome.{KeepsSome};
 
@@ -9,15 +8,15 @@ use crate::operator::Operator;
 use std::sync::Wait;
 use tpcc_book::{Naming, SeatedPurse, Seating};
 use tpcc_rows::{Delivery, Reply, Request};
-use tpcc_server::{Job, JobAnswer, JobMailboxes, Turning, ask};
+use tpcc_server::{JobAnswer, Turning};
 use tpcc_terminal::Terminal;
 use tpcc_terminal::laws::receipts_stand;
 
 /// What became of a request.
 #[derive(Drop)]
-pub(crate) struct Asked<N: Naming, T: Seating, C> {
-    /// The terminal, unless its job was still out when the mailboxes were seen closed.
-    pub operator: Option<Operator<N, T, C>>,
+pub(crate) struct Asked<'s, N: Naming, T: Seating, C> {
+    /// The terminal, unless its job was still out when nobody served any more.
+    pub operator: Option<Operator<'s, N, T, C>>,
     /// Whether a district was delivered or passed over.
     pub delivered: bool,
     /// Why the terminal can't go on.
@@ -25,51 +24,49 @@ pub(crate) struct Asked<N: Naming, T: Seating, C> {
 }
 
 /// Asks one request, by a call of its own, and keeps its receipt.
-pub(crate) fn ask_once<N: Naming, T: Seating, C: Turning, R: Wait>(
+pub(crate) fn ask_once<'s, N: Naming, T: Seating, C: Turning, R: Wait>(
     rt: &R,
-    mailboxes: &JobMailboxes<N, T, C>,
-    operator: Operator<N, T, C>,
+    operator: Operator<'s, N, T, C>,
     request: Request,
     call: C,
-) -> Asked<N, T, C>
-    requires origin { idle_origin operator.idle ≡ identity mailboxes.now }
+) -> Asked<'s, N, T, C>
     requires receipts { AllStand operator.purse.front operator.terminal.receipts }
-    ensures origin { IfSome result.operator (λ s. idle_origin s.idle ≡ identity mailboxes.now) }
     ensures receipts { IfSome result.operator (λ s. AllStand s.purse.front s.terminal.receipts) }
 {
     let Operator {
-        idle,
+        way,
         purse,
         terminal,
     } = operator;
     let mut terminal = terminal;
-    match ask(rt, mailboxes, idle, Job::of(request, purse, call)) {
-        Ok((idle, answer)) => {
-            receipts_stand();
-            let fault = note(&mut terminal, &answer);
-            let delivered = is_delivered(&answer);
-            let purse = purse_of(answer);
-            Asked {
-                operator: Some(Operator {
-                    idle,
-                    purse,
-                    terminal,
-                }),
-                delivered,
-                fault,
-            }
-        }
-        Err(_) => Asked {
+    let Some((way, answer)) = way.ask(rt, request, purse, call) else {
+        return Asked {
             operator: None,
             delivered: false,
             fault: Some(RunFault::Missing),
-        },
+        };
+    };
+    receipts_stand();
+    let fault = note(&mut terminal, &answer);
+    let delivered = is_delivered(&answer);
+    let purse = purse_of(answer);
+    Asked {
+        operator: Some(Operator {
+            way,
+            purse,
+            terminal,
+        }),
+        delivered,
+        fault,
     }
 }
 
 /// Nothing was asked, since memory was refused.
-pub(crate) fn stopped<N: Naming, T: Seating, C>(operator: Operator<N, T, C>) -> Asked<N, T, C>
-    ensures operator { result.operator ≡ Some operator }
+pub(crate) fn stopped<'s, N: Naming, T: Seating, C>(
+    operator: Operator<'s, N, T, C>,
+) -> Asked<'s, N, T, C>
+    requires receipts { AllStand operator.purse.front operator.terminal.receipts }
+    ensures receipts { IfSome result.operator (λ s. AllStand s.purse.front s.terminal.receipts) }
 {
     Asked {
         operator: Some(operator),

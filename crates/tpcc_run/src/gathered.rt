@@ -51,7 +51,7 @@ impl<N: Naming, T: Seating> Gathered<N, T> {
     }
 
     // What a terminal's thread gave back.
-    pub(crate) fn take_in<C>(&mut self, back: Back<N, T, C>)
+    pub(crate) fn take_in<C>(&mut self, back: Back<'_, N, T, C>)
         requires receipts { IfSome back.operator (λ s. AllStand s.purse.front s.terminal.receipts) }
         requires seen { AllSeen self.old.purses.items self.old.receipts.items }
         ensures seen { AllSeen self.new.purses.items self.new.receipts.items }
@@ -70,7 +70,7 @@ impl<N: Naming, T: Seating> Gathered<N, T> {
         }
     }
 
-    fn keep_any<C>(&mut self, operator: Option<Operator<N, T, C>>)
+    fn keep_any<C>(&mut self, operator: Option<Operator<'_, N, T, C>>)
         requires receipts { IfSome operator (λ s. AllStand s.purse.front s.terminal.receipts) }
         requires seen { AllSeen self.old.purses.items self.old.receipts.items }
         ensures seen { AllSeen self.new.purses.items self.new.receipts.items }
@@ -80,13 +80,13 @@ impl<N: Naming, T: Seating> Gathered<N, T> {
         }
     }
 
-    fn keep_operator<C>(&mut self, operator: Operator<N, T, C>)
+    fn keep_operator<C>(&mut self, operator: Operator<'_, N, T, C>)
         requires receipts { AllStand operator.purse.front operator.terminal.receipts }
         requires seen { AllSeen self.old.purses.items self.old.receipts.items }
         ensures seen { AllSeen self.new.purses.items self.new.receipts.items }
     {
         let Operator {
-            idle: _,
+            way: _,
             purse,
             terminal,
         } = operator;

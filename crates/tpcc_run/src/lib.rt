@@ -1,4 +1,4 @@
-//! Runs: terminals, servers and a delivery runner, each in a thread of its own, up to the settlement.
+//! Runs: terminals, a delivery runner and servers, if any, each in a thread of its own, up to the settlement.
 #![tactic(auto)]
 
 mod asking;
@@ -10,10 +10,12 @@ mod plan;
 mod promises;
 mod running;
 mod servers;
+mod service;
 mod starting;
 mod terminals;
 mod threads;
+mod way;
 
 pub use fault::RunFault;
-pub use plan::Plan;
+pub use plan::{Plan, Service};
 pub use running::{run, run_shown};

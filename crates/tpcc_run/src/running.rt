@@ -6,8 +6,8 @@ ghost use Rattle.tpcc_run.specs.Outcome.{HasReported, HasShown, HasTotals, IsPla
 
 use crate::fault::RunFault;
 use crate::gathered::Gathered;
-use crate::plan::Plan;
-use crate::threads::work;
+use crate::plan::{Plan, Service};
+use crate::service::{serve_by_servers, serve_directly};
 use std::alloc::{AllocError, Global};
 use std::io::Write;
 use std::marker::Brand;
@@ -21,9 +21,10 @@ use tpcc_server::{Job, JobAnswer, Turning};
 use tpcc_show::{Part, show};
 use tpcc_terminal::Receipt;
 
-/// Runs terminals, servers and a delivery runner on the book of an opening, each in a thread of its own;
-/// `make` gives the call of each job. Once all are joined it settles the book with the purses and writes
-/// the report: the entries, and what was paid and the rise of W_YTD, which are equal. It waits.
+/// Runs terminals, a delivery runner and the plan's servers on the book of an opening, each in a thread of its own;
+/// `make` gives the call of each request. Where the plan has no servers each thread makes its own turns. Once all
+/// are joined it settles the book with the purses and writes the report: the entries, and what was paid and the
+/// rise of W_YTD, which are equal. It waits.
 ///
 /// NoMemory where a growth or a thread was refused, Missing where a purse did not come back, Write where
 /// the writer fails.
@@ -41,7 +42,7 @@ pub fn run<
     Ok(out)
 }
 
-/// Runs the same terminals, servers and delivery runner, and writes parts of the settled book in place of the
+/// Runs the same threads, and writes parts of the settled book in place of the
 /// report: one part alone as it is, several each under a line `== PART`. Answers the writer, and the totals that
 /// the report would have told.
 ///
@@ -178,12 +179,18 @@ fn gathered<
     requires room { first.purse.room ≡ 10000 }
     ensures seen { AllSeen result.purses.items result.receipts.items }
 {
-    let count = plan.terminals as usize + 1;
-    match Mailboxes::<Job<N, T, C>, JobAnswer<N, T>>::new(alloc, count) {
-        Ok((mailboxes, idles, serving)) => work(
-            rt, alloc, &mailboxes, turns, idles, serving, first, make, scale, plan,
-        ),
-        Err(_) => Gathered::refused(alloc),
+    let boxes = plan.terminals as usize + 1;
+    match plan.service {
+        Service::Direct => serve_directly(rt, alloc, turns, first, make, scale, plan),
+        Service::Servers { count, retire } => {
+            match Mailboxes::<Job<N, T, C>, JobAnswer<N, T>>::new(alloc, boxes) {
+                Ok((mailboxes, idles, serving)) => serve_by_servers(
+                    rt, alloc, &mailboxes, turns, idles, serving, first, make, scale, plan, count,
+                    retire,
+                ),
+                Err(_) => Gathered::refused(alloc),
+            }
+        }
     }
 }
 

@@ -2,14 +2,13 @@
 ghost use Rattle.std.specs.Prelude.{◌≡◌, None};
 ghost use Rattle.tpcc_mailbox.specs.Tokens.{identity, serving_origin, serving_hand};
 
-use crate::plan::Plan;
 use std::sync::Wait;
 use std::thread::{Scope, Threads};
 use tpcc_book::{Naming, Seating, Turns};
 use tpcc_server::{JobMailboxes, JobServing, OpenGate, Turning, serve_until_closed};
 
-/// Starts the plan's servers, and gives the number of those that could be made. The first has no limit,
-/// so jobs are served until the mailboxes are closed, whatever the limit of the others.
+/// Starts so many servers, and gives the number of those that could be made. The first has no limit, so jobs
+/// are served until the mailboxes are closed; each other ends once it has served `retire` jobs, unless that is 0.
 pub(crate) fn start_servers<
     's,
     E,
@@ -23,13 +22,17 @@ pub(crate) fn start_servers<
     mailboxes: &'s JobMailboxes<N, T, C>,
     turns: &'s Turns<N, T>,
     serving: &mut JobServing<N, T, C>,
-    plan: &Plan,
+    count: u32,
+    retire: u32,
 ) -> u32
     requires origin { serving_origin serving.old ≡ identity mailboxes.now }
     ensures origin { serving_origin serving.new ≡ identity mailboxes.now }
 {
-    let count = plan.servers;
-    let later = plan.limit();
+    let later = if retire == 0 {
+        u64::MAX
+    } else {
+        u64::from(retire)
+    };
     let mut made = 0u32;
     for _ in 0..count {
         let limit = if made == 0 { u64::MAX } else { later };

@@ -1,19 +1,18 @@
 //! Starting the threads of terminals.
-ghost use Rattle.std.specs.Prelude.{◌≡◌, ◌≤◌, All, IfSome};
-ghost use Rattle.tpcc_mailbox.specs.Tokens.{identity, idle_origin};
+ghost use Rattle.std.specs.Prelude.{◌≡◌, ◌≤◌};
 ghost use Rattle.tpcc_terminal.specs.Receipts.{AllStand};
 
 use crate::operator::Operator;
 use crate::plan::Plan;
 use crate::promises::{ComesBack, TerminalHandle};
 use crate::terminals::{Role, ask_all};
+use crate::way::Way;
 use std::alloc::{AllocError, Global};
-use std::snapshot::Snapshot;
 use std::sync::Wait;
 use std::thread::{Scope, Threads};
 use tpcc_book::{Naming, SeatedPurse, Seating, Turns};
 use tpcc_population::Scale;
-use tpcc_server::{JobIdle, JobMailboxes, Turning};
+use tpcc_server::Turning;
 use tpcc_terminal::Terminal;
 
 // Starts the thread of one terminal; None where it can't be made.
@@ -29,30 +28,17 @@ fn start_thread<
     scope: &Scope<'s, E>,
     rt: &'s R,
     alloc: Global,
-    mailboxes: &'s JobMailboxes<N, T, C>,
-    operator: Operator<N, T, C>,
+    operator: Operator<'s, N, T, C>,
     role: Role,
     make: &'s F,
     plan: &'s Plan,
-) -> Option<TerminalHandle<N, T, C>>
-    requires origin { idle_origin operator.idle ≡ identity mailboxes.now }
+) -> Option<TerminalHandle<'s, N, T, C>>
     requires receipts { AllStand operator.purse.front operator.terminal.receipts }
     requires make { F.IsAlwaysCallable make.now }
-    ensures origin { IfSome result (λ h. idle_origin h.promise.0.value ≡ identity mailboxes.now) }
 {
-    let promise = ComesBack(Snapshot::of(&operator.idle));
     scope
-        .spawn_with(promise, move || {
-            ask_all(
-                rt,
-                alloc,
-                mailboxes,
-                operator,
-                role,
-                make,
-                plan.moment,
-                plan.cards,
-            )
+        .spawn_with(ComesBack, move || {
+            ask_all(rt, alloc, operator, role, make, plan.moment, plan.cards)
         })
         .ok()
 }
@@ -70,29 +56,26 @@ pub(crate) fn start_terminal<
     scope: &Scope<'s, E>,
     rt: &'s R,
     alloc: Global,
-    mailboxes: &'s JobMailboxes<N, T, C>,
-    idle: JobIdle<N, T, C>,
+    way: Way<'s, N, T, C>,
     purse: SeatedPurse<N, T>,
     role: Role,
     make: &'s F,
     scale: Scale,
     plan: &'s Plan,
-) -> Option<TerminalHandle<N, T, C>>
-    requires origin { idle_origin idle ≡ identity mailboxes.now }
+) -> Option<TerminalHandle<'s, N, T, C>>
     requires number { 1 ≤ purse.purse.terminal }
     requires make { F.IsAlwaysCallable make.now }
-    ensures origin { IfSome result (λ h. idle_origin h.promise.0.value ≡ identity mailboxes.now) }
 {
     let seed = plan.seed;
     let Ok(terminal) = Terminal::new(alloc, purse.terminal(), scale, seed) else {
         return None;
     };
     let operator = Operator {
-        idle,
+        way,
         purse,
         terminal,
     };
-    start_thread(scope, rt, alloc, mailboxes, operator, role, make, plan)
+    start_thread(scope, rt, alloc, operator, role, make, plan)
 }
 
 /// Starts the plan's terminals, as many as can be made.
@@ -108,25 +91,22 @@ pub(crate) fn start_terminals<
     scope: &Scope<'s, E>,
     rt: &'s R,
     alloc: Global,
-    mailboxes: &'s JobMailboxes<N, T, C>,
     turns: &'s Turns<N, T>,
-    idles: Vec<JobIdle<N, T, C>>,
+    ways: Vec<Way<'s, N, T, C>>,
     first: &mut SeatedPurse<N, T>,
     make: &'s F,
     scale: Scale,
     plan: &'s Plan,
-) -> Vec<TerminalHandle<N, T, C>>
-    requires idles { All (λ idle. idle_origin idle ≡ identity mailboxes.now) idles.items }
+) -> Vec<TerminalHandle<'s, N, T, C>>
     requires room { plan.now.terminals ≤ first.old.purse.room }
     requires terminals { plan.now.terminals ≤ 999 }
     requires make { F.IsAlwaysCallable make.now }
-    ensures handles { All (λ h. idle_origin h.promise.0.value ≡ identity mailboxes.now) result.items }
 {
     let count = plan.terminals;
-    let mut idles = idles;
+    let mut ways = ways;
     let mut handles = Vec::new(alloc);
     for number in 0..count {
-        let Some(idle) = next_idle(&mut idles, mailboxes) else {
+        let Some(way) = ways.pop() else {
             break;
         };
         let purse = first.split(turns, number + 1);
@@ -134,8 +114,7 @@ pub(crate) fn start_terminals<
             scope,
             rt,
             alloc,
-            mailboxes,
-            idle,
+            way,
             purse,
             Role::Cards,
             make,
@@ -144,34 +123,8 @@ pub(crate) fn start_terminals<
         ) else {
             break;
         };
-        keep_handle(&mut handles, handle, mailboxes);
+        // A handle that finds no room is let go: the scope joins its thread, and the caller sees that one is missing.
+        let _ = handles.push(handle);
     }
     handles
-}
-
-/// The right to post in one more mailbox.
-pub(crate) fn next_idle<N: Naming, T: Seating, C>(
-    idles: &mut Vec<JobIdle<N, T, C>>,
-    mailboxes: &JobMailboxes<N, T, C>,
-) -> Option<JobIdle<N, T, C>>
-    requires idles { All (λ idle. idle_origin idle ≡ identity mailboxes.now) idles.old.items }
-    ensures rest { All (λ idle. idle_origin idle ≡ identity mailboxes.now) idles.new.items }
-    ensures one { IfSome result (λ idle. idle_origin idle ≡ identity mailboxes.now) }
-{
-    let _ = mailboxes;
-    idles.pop()
-}
-
-// A handle that finds no room is let go: the scope joins its thread, and the caller sees that one is missing.
-fn keep_handle<N: Naming, T: Seating, C>(
-    handles: &mut Vec<TerminalHandle<N, T, C>>,
-    handle: TerminalHandle<N, T, C>,
-    mailboxes: &JobMailboxes<N, T, C>,
-)
-    requires handles { All (λ h. idle_origin h.promise.0.value ≡ identity mailboxes.now) handles.old.items }
-    requires handle { idle_origin handle.promise.0.value ≡ identity mailboxes.now }
-    ensures handles { All (λ h. idle_origin h.promise.0.value ≡ identity mailboxes.now) handles.new.items }
-{
-    let _ = mailboxes;
-    let _ = handles.push(handle);
 }

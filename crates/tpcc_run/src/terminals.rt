@@ -1,6 +1,5 @@
 //! What a terminal's thread does.
 ghost use Rattle.std.specs.Prelude.{◌≡◌, IfSome};
-ghost use Rattle.tpcc_mailbox.specs.Tokens.{identity, idle_origin};
 ghost use Rattle.tpcc_terminal.specs.Receipts.{AllStand};
 
 use crate::asking::{Asked, ask_once, stopped};
@@ -11,7 +10,7 @@ use std::sync::Wait;
 use tpcc_book::{Naming, Seating};
 use tpcc_money::{Moment, NoMemory};
 use tpcc_rows::Request;
-use tpcc_server::{JobMailboxes, Turning};
+use tpcc_server::Turning;
 use tpcc_terminal::Terminal;
 
 /// What a terminal asks.
@@ -46,6 +45,7 @@ fn next_request(role: Role, terminal: &mut Terminal, moment: Moment) -> Result<R
 
 /// Asks the next request, by a call of its own.
 pub(crate) fn ask_next<
+    's,
     N: Naming,
     T: Seating,
     C: Turning,
@@ -54,16 +54,13 @@ pub(crate) fn ask_next<
 >(
     rt: &R,
     alloc: Global,
-    mailboxes: &JobMailboxes<N, T, C>,
-    operator: Operator<N, T, C>,
+    operator: Operator<'s, N, T, C>,
     role: Role,
     make: &F,
     moment: Moment,
-) -> Asked<N, T, C>
-    requires origin { idle_origin operator.idle ≡ identity mailboxes.now }
+) -> Asked<'s, N, T, C>
     requires receipts { AllStand operator.purse.front operator.terminal.receipts }
     requires make { F.IsAlwaysCallable make.now }
-    ensures origin { IfSome result.operator (λ s. idle_origin s.idle ≡ identity mailboxes.now) }
     ensures receipts { IfSome result.operator (λ s. AllStand s.purse.front s.terminal.receipts) }
 {
     let mut operator = operator;
@@ -73,12 +70,13 @@ pub(crate) fn ask_next<
     let Ok(request) = next_request(role, &mut operator.terminal, moment) else {
         return stopped(operator);
     };
-    ask_once(rt, mailboxes, operator, request, call)
+    ask_once(rt, operator, request, call)
 }
 
 /// Asks so many requests, each by a call of its own, or up to the role's end. It stops where memory is refused,
-/// and where its job is still out when the mailboxes are seen closed.
+/// and where its job is still out when nobody serves any more.
 pub(crate) fn ask_all<
+    's,
     N: Naming,
     T: Seating,
     C: Turning,
@@ -87,17 +85,14 @@ pub(crate) fn ask_all<
 >(
     rt: &R,
     alloc: Global,
-    mailboxes: &JobMailboxes<N, T, C>,
-    operator: Operator<N, T, C>,
+    operator: Operator<'s, N, T, C>,
     role: Role,
     make: &F,
     moment: Moment,
     most: u32,
-) -> Back<N, T, C>
-    requires origin { idle_origin operator.idle ≡ identity mailboxes.now }
+) -> Back<'s, N, T, C>
     requires receipts { AllStand operator.purse.front operator.terminal.receipts }
     requires make { F.IsAlwaysCallable make.now }
-    ensures origin { IfSome result.operator (λ s. idle_origin s.idle ≡ identity mailboxes.now) }
     ensures receipts { IfSome result.operator (λ s. AllStand s.purse.front s.terminal.receipts) }
 {
     let mut operator = operator;
@@ -106,7 +101,7 @@ pub(crate) fn ask_all<
             operator: back,
             delivered,
             fault,
-        } = ask_next(rt, alloc, mailboxes, operator, role, make, moment);
+        } = ask_next(rt, alloc, operator, role, make, moment);
         let goes_on = fault.is_none() && role.goes_on(delivered);
         match back {
             Some(home) if goes_on => operator = home,

@@ -9,7 +9,7 @@ use std::sync::atomic::{AtomicU64, Ordering};
 use std::thread::Threads;
 use tpcc_money::Moment;
 use tpcc_population::{Opening, Scale};
-use tpcc_run::{Plan, RunFault, run};
+use tpcc_run::{Plan, RunFault, Service, run};
 
 /// Whether a run of 23 cards wants memory, where the calls behind the first ones are refused it.
 fn is_refused_after<R: Threads + Wait + Abort + Sync>(rt: &R, alloc: Global, granted: u64) -> bool {
@@ -24,9 +24,11 @@ fn is_refused_after<R: Threads + Wait + Abort + Sync>(rt: &R, alloc: Global, gra
     };
     let plan = Plan {
         terminals: 2,
-        servers: 2,
+        service: Service::Servers {
+            count: 2,
+            retire: 0,
+        },
         cards: 23,
-        retire: 0,
         seed: 1,
         moment: Moment::new(0),
     };

@@ -11,7 +11,7 @@ use tpcc_money::Moment;
 use tpcc_population::{Opening, Scale};
 use tpcc_program::{Line, Progress};
 use tpcc_rows::{Request, StockQuery};
-use tpcc_run::Plan;
+use tpcc_run::{Plan, Service};
 use tpcc_server::Turning;
 
 /// A clock that stands at a millisecond, and a count of the lines that were written.
@@ -53,9 +53,8 @@ impl Eprint for Watch {
 fn plan() -> Plan {
     Plan {
         terminals: 45,
-        servers: 1,
+        service: Service::Direct,
         cards: 100,
-        retire: 0,
         seed: 1,
         moment: Moment::new(0),
     }

@@ -1,0 +1,127 @@
+//! The ways by which a terminal's requests come to the book.
+ghost use Rattle.std.specs.Prelude.{◌≡◌, ◌<◌, All, IfSome, IsSome, vec_len};
+ghost use Rattle.tpcc_rows.specs.declared.requests.Request.{Request};
+ghost use Rattle.tpcc_book.specs.Seats.{IsTurned};
+ghost use Rattle.tpcc_mailbox.specs.Tokens.{identity, idle_origin};
+
+use std::alloc::{AllocError, Global};
+use std::sync::Wait;
+use tpcc_book::{Naming, SeatedPurse, Seating, Turns};
+use tpcc_rows::Request;
+use tpcc_server::{Errand, Job, JobAnswer, JobIdle, JobMailboxes, Turning, ask};
+
+/// How one terminal's requests are served, one after another.
+#[derive(Drop)]
+pub(crate) enum Way<'s, N: Naming, T: Seating, C> {
+    /// By a job in the terminal's mailbox, which a server takes.
+    ByMailbox(Client<'s, N, T, C>),
+    /// By a turn that the terminal's own thread makes.
+    ByTurn(&'s Turns<N, T>),
+}
+
+/// The right to post in one mailbox.
+#[derive(Drop)]
+pub(crate) struct Client<'s, N: Naming, T: Seating, C> {
+    mailboxes: &'s JobMailboxes<N, T, C>,
+    idle: JobIdle<N, T, C>,
+    ghost origin: { idle_origin idle ≡ identity mailboxes.now },
+}
+
+impl<'s, N: Naming, T: Seating, C: Turning> Way<'s, N, T, C> {
+    /// Serves a request for a purse by a call, and gives the way back with the answer. None where the job is
+    /// still out when nobody serves any more.
+    pub(crate) fn ask<R: Wait>(
+        self,
+        rt: &R,
+        request: Request,
+        purse: SeatedPurse<N, T>,
+        call: C,
+    ) -> Option<(Way<'s, N, T, C>, JobAnswer<N, T>)>
+        ensures turned { IfSome result (λ r. IsTurned request purse r.1) }
+    {
+        let job = Job::of(request, purse, call);
+        match self {
+            Way::ByTurn(turns) => {
+                let answer = job.run(turns, rt);
+                Some((Way::ByTurn(turns), answer))
+            }
+            Way::ByMailbox(client) => {
+                let (client, answer) = client.ask(rt, job)?;
+                Some((Way::ByMailbox(client), answer))
+            }
+        }
+    }
+}
+
+impl<'s, N: Naming, T: Seating, C: Turning> Client<'s, N, T, C> {
+    // Posts the job, and waits for its answer.
+    fn ask<R: Wait>(
+        self,
+        rt: &R,
+        job: Job<N, T, C>,
+    ) -> Option<(Client<'s, N, T, C>, JobAnswer<N, T>)>
+        ensures turned { IfSome result (λ r. IsTurned job.request job.purse r.1) }
+    {
+        let Client { mailboxes, idle } = self;
+        match ask(rt, mailboxes, idle, job) {
+            Ok((idle, answer)) => Some((Client { mailboxes, idle }, answer)),
+            Err(_) => None,
+        }
+    }
+}
+
+/// The ways by all mailboxes.
+pub(crate) fn by_mailboxes<'s, N: Naming, T: Seating, C>(
+    alloc: Global,
+    mailboxes: &'s JobMailboxes<N, T, C>,
+    idles: Vec<JobIdle<N, T, C>>,
+) -> Result<Vec<Way<'s, N, T, C>>, AllocError>
+    requires idles { All (λ idle. idle_origin idle ≡ identity mailboxes.now) idles.items }
+{
+    let mut idles = idles;
+    let mut ways = Vec::new(alloc);
+    while let Some(way) = next_way(&mut idles, mailboxes) {
+        ways.push(way)?;
+    }
+    Ok(ways)
+}
+
+// The way by one more mailbox.
+fn next_way<'s, N: Naming, T: Seating, C>(
+    idles: &mut Vec<JobIdle<N, T, C>>,
+    mailboxes: &'s JobMailboxes<N, T, C>,
+) -> Option<Way<'s, N, T, C>>
+    requires idles { All (λ idle. idle_origin idle ≡ identity mailboxes.now) idles.old.items }
+    ensures rest { All (λ idle. idle_origin idle ≡ identity mailboxes.now) idles.new.items }
+    ensures less { IsSome result → vec_len idles.new < vec_len idles.old }
+{
+    let idle = next_idle(idles, mailboxes)?;
+    Some(Way::ByMailbox(Client { mailboxes, idle }))
+}
+
+// The right to post in one more mailbox.
+fn next_idle<N: Naming, T: Seating, C>(
+    idles: &mut Vec<JobIdle<N, T, C>>,
+    mailboxes: &JobMailboxes<N, T, C>,
+) -> Option<JobIdle<N, T, C>>
+    requires idles { All (λ idle. idle_origin idle ≡ identity mailboxes.now) idles.old.items }
+    ensures rest { All (λ idle. idle_origin idle ≡ identity mailboxes.now) idles.new.items }
+    ensures one { IfSome result (λ idle. idle_origin idle ≡ identity mailboxes.now) }
+    ensures less { IsSome result → vec_len idles.new < vec_len idles.old }
+{
+    let _ = mailboxes;
+    idles.pop()
+}
+
+/// So many ways by own turns.
+pub(crate) fn by_turns<'s, N: Naming, T: Seating, C>(
+    alloc: Global,
+    turns: &'s Turns<N, T>,
+    count: usize,
+) -> Result<Vec<Way<'s, N, T, C>>, AllocError> {
+    let mut ways = Vec::new(alloc);
+    for _ in 0..count {
+        ways.push(Way::ByTurn(turns))?;
+    }
+    Ok(ways)
+}
