@@ -2,7 +2,7 @@
 ghost use Rattle.std.specs.Prelude.{◌≡◌, ◌≤◌, IfOk};
 ghost use Rattle.tpcc_program.specs.Openings.{named_opening, named_scale};
 ghost use Rattle.tpcc_program.specs.Tasks.{HasPlan};
-ghost use Rattle.tpcc_run.specs.Outcome.{IsPlan};
+ghost use Rattle.tpcc_run.specs.Outcome.{IsPlan, IsService};
 
 use crate::fault::ProgramFault;
 use clap::error::ErrorKind;
@@ -13,7 +13,7 @@ use tpcc_audit::table_named;
 use tpcc_money::Moment;
 use tpcc_population::{Opening, Scale};
 use tpcc_rows::Table;
-use tpcc_run::Plan;
+use tpcc_run::{Plan, Service};
 use tpcc_show::{Parts, part_named};
 
 /// How many times `--show` is taken.
@@ -113,6 +113,12 @@ fn seeded<'a>(alloc: Global) -> Arg<'a> {
         .action(ArgAction::SetTrue)
 }
 
+fn direct<'a>(alloc: Global) -> Arg<'a> {
+    Arg::new(alloc, "direct")
+        .long("direct")
+        .action(ArgAction::SetTrue)
+}
+
 fn shows<'a>(alloc: Global) -> Arg<'a> {
     Arg::new(alloc, "show")
         .long("show")
@@ -164,6 +170,7 @@ fn run<'a>(alloc: Global) -> Result<Command<'a>, AllocError> {
     let command = with_number(alloc, command, "servers");
     let command = with_number(alloc, command, "cards");
     let command = with_number(alloc, command, "retire");
+    let command = with_option(command, direct(alloc));
     with_option(command, shows(alloc))
 }
 
@@ -200,18 +207,33 @@ fn in_range(value: Option<u32>, default: u32, low: u32, high: u32) -> Result<u32
     Ok(value)
 }
 
+// Neither the number of servers nor when they retire stands beside `--direct`.
+fn read_service(matches: &ArgMatches<'_>) -> Result<Service, ProgramFault>
+    ensures service { IfOk result IsService }
+{
+    let servers = matches.get_one::<u32>("servers");
+    let retire = matches.get_one::<u32>("retire");
+    if !matches.get_flag("direct") {
+        let count = in_range(servers, 1, 1, 16)?;
+        let retire = in_range(retire, 0, 0, 100_000)?;
+        return Ok(Service::Servers { count, retire });
+    }
+    if servers.is_some() || retire.is_some() {
+        return Err(ProgramFault::Arguments);
+    }
+    Ok(Service::Direct)
+}
+
 fn read_plan(matches: &ArgMatches<'_>) -> Result<Plan, ProgramFault>
     ensures plan { IfOk result IsPlan }
 {
     let terminals = in_range(matches.get_one::<u32>("terminals"), 2, 1, 999)?;
-    let servers = in_range(matches.get_one::<u32>("servers"), 1, 1, 16)?;
+    let service = read_service(matches)?;
     let cards = in_range(matches.get_one::<u32>("cards"), 23, 0, 100_000)?;
-    let retire = in_range(matches.get_one::<u32>("retire"), 0, 0, 100_000)?;
     Ok(Plan {
         terminals,
-        servers,
+        service,
         cards,
-        retire,
         seed: read_seed(matches),
         moment: read_moment(matches)?,
     })
@@ -300,8 +322,9 @@ fn read_options(task: Task, matches: &ArgMatches<'_>) -> Result<Asked, ProgramFa
 /// Reads the words, of which the first is the program's name.
 ///
 /// Refused as Arguments where `clap` refuses them, a wish for help or version among it, where no
-/// table or part has that name, where the moment is past the year 2099, and where an option of `run` or
-/// `requests` is out of its range or `--show` comes more than 16 times; as NoMemory for want of memory.
+/// table or part has that name, where the moment is past the year 2099, where an option of `run` or
+/// `requests` is out of its range or `--show` comes more than 16 times, and where `--servers` or `--retire`
+/// stands beside `--direct`; as NoMemory for want of memory.
 pub fn read_words<'a, S: AsStr>(alloc: Global, words: &'a [S]) -> Result<Asked, ProgramFault>
     ensures plan { IfOk result (λ asked. HasPlan asked.task) }
 {
