@@ -90,6 +90,7 @@ it '1,000 payments'              script '@times 1000 "payment 1 1 1 1 1 5000.00 
 for words in '' serve help --help --version 'script --help' 'run --version' 'script extra' dump 'dump FOO' 'dump warehouse' 'dump ORDERS' \
     'dump FOO --warehouses 0' 'dump ORDER_LINE' 'dump WAREHOUSE ITEM' 'script --cards 1' 'dump ITEM --terminals 1' 'script --speed 1' \
     'run --terminals 0' 'run --terminals 1000' 'run --servers 0' 'run --servers 17' 'run --cards 100001' 'run --retire 100001' \
+    'run --direct --servers 1' 'run --retire 0 --direct' 'run --direct --direct' 'run --direct 1' 'script --direct' \
     'run --terminals x' 'run --terminals 0 --warehouses 0' 'script --moment 4102444800' 'script --seed -1' \
     'script --seed 18446744073709551616' 'script --items -1' 'script --items 4294967296' 'script --items' \
     'script --items 100 --items 200' 'script --seeded 1' 'script --seeded --seeded' 'run --show' 'run --show rows' 'run --show item' \
@@ -101,7 +102,7 @@ by 'a table and a space'         '"$tpcc" dump "ITEM " > stdout 2> stderr; echo 
 for number in 0 101 4294967295; do it "$number warehouses" "script --warehouses $number" '' 1 'fault 1 Warehouses' ''; done
 for number in 0 5 15 3010 4294967295; do it "$number customers" "script --customers $number" '' 1 'fault 2 Customers' ''; done
 for number in 0 99 100001 4294967295; do it "$number items" "script --items $number" '' 1 'fault 3 Items' ''; done
-for words in '--terminals 999' '--servers 16' '--cards 100000' '--retire 100000' '--moment 4102444799'; do
+for words in '--terminals 999' '--terminals 999 --direct' '--servers 16' '--cards 100000' '--retire 100000' '--moment 4102444799'; do
     it "the limit is taken: $words" "run $words --warehouses 0" '' 1 'fault 1 Warehouses' ''
 done
 it 'the first fault of a scale'  'run --warehouses 0 --customers 0 --items 0' '' 1 'fault 1 Warehouses' ''
@@ -175,8 +176,45 @@ reported 'the seed of a plain opening' '--seed 7' \
     60 80 34264.37
 reported 'five terminals of a plain opening' '--seed 9 --customers 20 --moment 30 --terminals 5 --cards 40 --servers 4 --retire 3' \
     237 277 96057.42
+reported 'no card, by no server' '--direct --cards 0' \
+    1 1 0.00
+reported 'an own value for each option, by no server' '--direct --seeded --warehouses 2 --customers 30 --items 120 --seed 5 --moment 60 --terminals 3 --cards 7' \
+    29 29 27824.28
+reported '2,000 cards, by no server' '--direct --seeded --warehouses 4 --customers 60 --items 200 --seed 3 --terminals 4 --cards 500' \
+    2871 3371 2214693.70
 reported '2,000 cards' '--seeded --warehouses 4 --customers 60 --items 200 --seed 3 --terminals 4 --servers 2 --cards 500' \
     2871 3371 2214693.70
+
+# ---- the threads of a run, counted while it runs: the program's own, one of each terminal, that of the delivery runner and
+# those of the servers. The number has to come, and to stay.
+
+tasks() {
+    find "/proc/$1/task" -mindepth 1 -maxdepth 1 2> told | wc -l
+}
+
+threads() {
+    left_out "$1" && return
+    "$tpcc" run $2 --cards 100000 > stdout 2> stderr &
+    local pid=$! count=0
+    for _ in $(seq 200); do
+        count=$(tasks "$pid")
+        [ "$count" -eq "$3" ] && sleep 0.3 && count=$(tasks "$pid") && [ "$count" -eq "$3" ] && break
+        sleep 0.05
+    done
+    kill "$pid"
+    wait "$pid" 2> told
+    echo "$count" > stdout
+    echo "$3" > stdout.wanted
+    : > stderr
+    : > stderr.wanted
+    echo 0 > status
+    compare "$1" 0
+}
+
+threads 'a server for three terminals'           '--terminals 3 --servers 1' 6
+threads 'five servers for three terminals'       '--terminals 3 --servers 5' 10
+threads 'four of five servers retire'            '--terminals 3 --servers 5 --retire 2' 6
+threads 'three terminals that ask no server'     '--terminals 3 --direct' 5
 
 # ---- what a terminal asks, by the second program
 

@@ -25,6 +25,9 @@ for seed in 1 7 42; do
     same_parts "every part again, seed $seed, 1 terminal"  "--seeded --seed $seed" '--terminals 1 --servers 1 --cards 60'
     same_parts "every part again, seed $seed, 4 terminals" "--seeded --seed $seed" '--terminals 4 --servers 2 --cards 40'
     same_parts "every part again, seed $seed, 9 terminals" "--seeded --seed $seed --warehouses 2" '--terminals 9 --servers 4 --cards 30'
+    for terminals in 1 4 9; do
+        same_parts "every part again, seed $seed, $terminals direct" "--seeded --seed $seed --warehouses 2" "--direct --terminals $terminals --cards 30"
+    done
 done
 same_parts 'every part of a plain opening again' '--customers 20 --items 150' '--terminals 3 --servers 3 --retire 2 --cards 25'
 
