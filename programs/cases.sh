@@ -185,6 +185,37 @@ reported '2,000 cards, by no server' '--direct --seeded --warehouses 4 --custome
 reported '2,000 cards' '--seeded --warehouses 4 --customers 60 --items 200 --seed 3 --terminals 4 --servers 2 --cards 500' \
     2871 3371 2214693.70
 
+# ---- the threads of a run, counted while it runs: the program's own, one of each terminal, that of the delivery runner and
+# those of the servers. The number has to come, and to stay.
+
+tasks() {
+    find "/proc/$1/task" -mindepth 1 -maxdepth 1 2> told | wc -l
+}
+
+threads() {
+    left_out "$1" && return
+    "$tpcc" run $2 --cards 100000 > stdout 2> stderr &
+    local pid=$! count=0
+    for _ in $(seq 200); do
+        count=$(tasks "$pid")
+        [ "$count" -eq "$3" ] && sleep 0.3 && count=$(tasks "$pid") && [ "$count" -eq "$3" ] && break
+        sleep 0.05
+    done
+    kill "$pid"
+    wait "$pid" 2> told
+    echo "$count" > stdout
+    echo "$3" > stdout.wanted
+    : > stderr
+    : > stderr.wanted
+    echo 0 > status
+    compare "$1" 0
+}
+
+threads 'a server for three terminals'           '--terminals 3 --servers 1' 6
+threads 'five servers for three terminals'       '--terminals 3 --servers 5' 10
+threads 'four of five servers retire'            '--terminals 3 --servers 5 --retire 2' 6
+threads 'three terminals that ask no server'     '--terminals 3 --direct' 5
+
 # ---- what a terminal asks, by the second program
 
 # The cards of a terminal that stand in these lines.

@@ -191,6 +191,12 @@ fn direct<'a>(alloc: Global) -> Arg<'a> {
         .action(ArgAction::SetTrue)
 }
 
+fn direct<'a>(alloc: Global) -> Arg<'a> {
+    Arg::new(alloc, "direct")
+        .long("direct")
+        .action(ArgAction::SetTrue)
+}
+
 fn shows<'a>(alloc: Global) -> Arg<'a> {
     Arg::new(alloc, "show")
         .long("show")
