@@ -189,12 +189,7 @@ fn direct<'a>(alloc: Global) -> Arg<'a> {
     Arg::new(alloc, "direct")
         .long("direct")
         .action(ArgAction::SetTrue)
-}
-
-fn direct<'a>(alloc: Global) -> Arg<'a> {
-    Arg::new(alloc, "direct")
-        .long("direct")
-        .action(ArgAction::SetTrue)
+        .help("Lets each terminal make its own turns, with no server")
 }
 
 fn shows<'a>(alloc: Global) -> Arg<'a> {
