@@ -237,6 +237,59 @@ cards 'payers of other warehouses' '--terminal 8 --warehouses 3 --seed 194' '3p;
 by 'a deck'                      '"$tpcc" requests --terminal 5 --warehouses 3 --seed 7 2> stderr | cut -d " " -f 1,2 | sort | uniq -c | tr -s " " > stdout
     echo ${PIPESTATUS[0]} > status' 0 '' ' 1 delivery 2\n 10 new-order 2\n 10 payment 2\n 1 status 2\n 1 stock 2\n'
 
+# ---- a value of its own for each option of a run, none of them a default: what its terminals ask, by bench/plain, and the
+# runner's questions, at that moment too
+
+own_journal() {
+    left_out "$1" && return
+    timeout "$seconds" "$tpcc" run --seeded --warehouses 2 --customers 30 --items 120 --seed 5 --moment 61 --terminals 3 --servers 2 --cards 7 --retire 4 \
+        --show journal > shown 2> told
+    echo $? > status
+    { grep -v '^deliver ' shown | sort; grep '^deliver ' shown | sort -u; } > stdout
+    cat > stdout.wanted << 'END'
+new-order 1 1 23 61 110:1:1 107:1:7 97:1:10 103:1:9 86:1:3 5:1:7 71:1:3 69:1:3
+new-order 1 10 15 61 29:1:1 18:1:2 44:1:7 119:1:8 14:1:10 43:1:4
+new-order 1 3 18 61 111:1:10 54:1:4 7:1:5 5:1:7 27:1:1 87:1:3 5:1:10 95:1:2
+new-order 1 7 22 61 115:1:8 14:1:8 117:1:1 78:1:1 120:1:7 86:1:2 55:1:10 76:1:6 47:1:7 79:1:7 39:1:8 89:1:8 21:1:7 48:1:10
+new-order 2 7 5 61 39:2:8 85:2:8 79:2:9 107:2:2 87:2:10 101:2:5 38:2:10 55:2:6 97:2:7 111:2:6
+new-order 2 9 29 61 87:2:6 11:2:3 101:2:5 30:2:7 103:2:5 14:2:7 39:2:2 36:2:4 102:2:10 39:2:6 95:2:8 29:2:6 6:2:4
+payment 1 3 1 3 BARBARBAR 4745.46 61
+payment 1 3 1 3 BARBAREING 3868.41 61
+payment 1 4 1 4 BARABLEESE 3724.21 61
+payment 1 4 1 4 BAROUGHTABLE 3552.45 61
+payment 1 5 1 5 BARABLEBAR 1129.62 61
+payment 1 5 1 5 BAROUGHTABLE 1198.44 61
+payment 1 7 1 7 BAROUGHTOUGHT 1278.74 61
+payment 2 1 2 1 BARBARATION 782.15 61
+payment 2 2 2 2 17 301.47 61
+payment 2 4 2 4 9 1974.13 61
+payment 2 6 1 6 BAROUGHTABLE 3549.56 61
+payment 2 8 2 8 16 1719.64 61
+status 1 4 BARABLEABLE
+stock 1 1 14
+stock 1 2 13
+deliver 61
+END
+    printf 'entries %s\n' "$(wc -l < shown)" > stderr.wanted
+    head -n 1 told > stderr
+    compare "$1" 0
+}
+
+own_journal 'a journal of own values'
+
+# All tickets that were queued are delivered in full at the end: the delivery runner asks until none is left.
+drained() {
+    left_out "$1" && return
+    timeout "$seconds" "$tpcc" run $2 --show journal --show results > shown 2> told
+    echo $? > status
+    part journal | grep -c '^delivery ' > stdout.wanted
+    [ "$(cat stdout.wanted)" -gt "$3" ] || echo "more than $3" > stdout.wanted
+    part results | grep -c '^delivered ' > stdout
+    : > stderr.wanted
+    : > stderr
+    compare "$1" 0
+}
+
 # ---- what a run shows
 
 # The part of the file shown that stands under a heading.
@@ -288,6 +341,7 @@ in_order() {
     compare "$1" 0
 }
 
+drained 'all tickets are delivered' '--seeded --seed 7 --terminals 3 --cards 46' 5
 for seed in 1 7 42; do
     again "a journal again, seed $seed, 1 terminal"   "--seeded --seed $seed" '--terminals 1 --servers 1 --cards 60'
     again "a journal again, seed $seed, 4 terminals"  "--seeded --seed $seed" '--terminals 4 --servers 2 --cards 40'
@@ -308,6 +362,136 @@ by 'two parts'                   '"$tpcc" run --cards 0 --show check --show repo
     0 '' '@printf "== check\nconsistent\n== report\nentries 1\npaid 0.00\nrise 0.00\n"'
 by 'parts to a full disk'        '"$tpcc" run --show journal > /dev/full 2> stderr; echo $? > status' 3 'fault 4 Write' ''
 by 'requests to a full disk'     '"$tpcc" requests > /dev/full 2> stderr; echo $? > status'           3 'fault 1 Write' ''
+
+# ---- how long it took
+
+# --time tells two lines on standard error, and leaves standard output as it is. Figures are N here.
+timed() {
+    left_out "$1" && return
+    told "$3" > stdin
+    timeout "$seconds" "$tpcc" $2 < stdin > stdout.wanted 2> /dev/null
+    timeout "$seconds" "$tpcc" $2 --time < stdin > stdout 2> told
+    echo $? > status
+    sed -E 's/^opening [0-9]+\.[0-9]{3} s$/opening N s/; s/^(requests [0-9]+) in [0-9]+\.[0-9]{3} s, [0-9]+ a second$/\1 in N s, N a second/' told > stderr
+    printf "$4opening N s\nrequests $5 in N s, N a second\n" > stderr.wanted
+    compare "$1" 0
+}
+
+timed 'the time of no script'         script '' '' 0
+timed 'the time of a tour'            script "@cat '$top/examples/tour.txt'" '' 17
+timed 'the time of a refused request' script "${first}payment 9 1 1 1 1 1.00 0\n" '' 1
+timed 'the time of parts'             'script --show journal --show check' "@cat '$top/examples/tour.txt'" '' 17
+timed 'the time of a run'             'run --cards 0' '' '' 1
+timed 'the time of parts of a run'    'run --cards 0 --show check' '' 'entries 1\npaid 0.00\nrise 0.00\n' 1
+it 'no time after a fault'            'script --time' 'check\nx\n' 2 'fault 1 Bad 2' 'consistent\n'
+for words in 'dump ITEM --time' 'requests --time' 'script --time 1' 'run --time --time'; do it "words: $words" "$words" '' 1 'fault 1 Arguments' ''; done
+
+# The requests of a run are the entries of its report.
+entries_timed() {
+    left_out "$1" && return
+    timeout "$seconds" "$tpcc" run $2 --time > shown 2> stderr
+    echo $? > status
+    sed -n 's/^entries //p' shown > stdout.wanted
+    sed -n 's/^requests \([0-9]*\) in .*/\1/p' stderr > stdout
+    cp stderr stderr.wanted
+    compare "$1" 0
+}
+
+entries_timed 'the requests of a timed run' '--seeded --terminals 3 --servers 2 --cards 40'
+
+# ---- screens are out before more is read
+
+# A reader that is given lines, waits for their screens, and only then the next: first whole lines, then 8,192 bytes, as many as are
+# read ahead, that end within a line.
+conversation() {
+    coproc served { exec timeout "$seconds" "$tpcc" script 2> stderr; }
+    local pid=$served_PID line
+    for part in 'check\ncheck\n' "$(times 1365 'check\n'; printf ch)" 'eck\n'; do
+        printf "$part" >&"${served[1]}"
+        for line in $(seq "$(printf "$part" | wc -l)"); do
+            read -r -t 20 line <&"${served[0]}" || break 2
+            echo "$line"
+        done
+    done > stdout
+    eval "exec ${served[1]}>&-"
+    wait "$pid"
+    echo $? > status
+}
+
+by 'screens before the next read' conversation 0 '' '@times 1368 "consistent\n"'
+
+# ---- what a person sees, where standard error is a terminal
+
+# Runs the program with standard error at a terminal; what that showed is left in the file seen.
+at_terminal() {
+    local words="'$tpcc' $1 > stdout < stdin"
+    if script -qec true /dev/null < /dev/null > /dev/null 2>&1; then
+        script -qec "$words; echo \$? > status" /dev/null < /dev/null | tr -d '\r' > seen
+    else
+        python3 -c 'import pty, sys; pty.spawn(["sh", "-c", sys.argv[1]])' "$words; echo \$? > status" < /dev/null | tr -d '\r' > seen
+    fi
+}
+
+# The lines that a terminal shows are just these.
+seen_at_terminal() {
+    left_out "$1" && return
+    told "$3" > stdin
+    : > stdout.wanted
+    printf "$5" > stderr.wanted
+    at_terminal "$2"
+    cp seen stderr
+    compare "$1" "$4"
+}
+
+# The first line that a terminal shows, and lines that are among those behind it, each given whole or up to spaces.
+told_at_terminal() {
+    left_out "$1" && return
+    : > stdin
+    : > stdout.wanted
+    at_terminal "$2"
+    printf "$3\n" > stderr.wanted
+    printf "$4" >> stderr.wanted
+    {
+        head -n 1 seen
+        printf "$4" | while read -r line; do tail -n +2 seen | tr -s ' ' | grep -m 1 -o -F -e "$line"; done
+    } > stderr
+    compare "$1" 1
+}
+
+# What a terminal shows at the end, where a line above may be cleared and written again.
+left_at_terminal() {
+    left_out "$1" && return
+    : > stdin
+    at_terminal "$2"
+    cp stdout stdout.wanted
+    : > stderr.wanted
+    awk '{ while (sub(/^\033\[1A\033\[2K/, "")) count--; if ($0 != "") line[++count] = $0 }
+        END { for (i = 1; i <= count; i++) print line[i] }' seen > stderr
+    grep -q ' of 500000 requests$' seen || echo 'no progress was told' >> stderr
+    compare "$1" 0
+}
+
+if script -qec true /dev/null < /dev/null > /dev/null 2>&1 || python3 -c 'import pty' 2> /dev/null; then
+    usage='Usage: tpcc script [OPTIONS]\nUsage: tpcc dump [OPTIONS]\nUsage: tpcc requests [OPTIONS]\nUsage: tpcc run [OPTIONS]\n'
+    usage+='--warehouses <N>\nWarehouses: 1 to 100, else 1\n--customers <N>\n10 to 3000 by tens, else 10\n--items <N>\n100 to 100000, else 100\n'
+    usage+='--seed <N>\n0 to 18446744073709551615, else 1\n--moment <N>\n0 to 4102444799, else 0\n--seeded\n--show <PART>\n--time\n'
+    usage+='--terminals <N>\n1 to 999, else 2\n--servers <N>\n1 to 16, else 1\n--cards <N>\n0 to 100000, else 23\n--retire <N>\n0 to 100000, else 0\n'
+    usage+='--terminal <N>\n1 to 1000, else 1\n'
+    told_at_terminal 'a number out of its range at a terminal' 'run --terminals 0' 'fault 1 Arguments' "error:\n--terminals\n1..=999\n$usage"
+    told_at_terminal 'no command at a terminal'      ''               'fault 1 Arguments' "$usage"
+    told_at_terminal 'an unknown word at a terminal' 'script --speed' 'fault 1 Arguments' "error:\n--speed\n$usage"
+    told_at_terminal 'a wrong table at a terminal'   'dump FOO'       'fault 1 Arguments' "error:\nFOO\n$usage"
+    told_at_terminal 'help at a terminal'            --help           'fault 1 Arguments' "$usage"
+    told_at_terminal 'help of a run at a terminal'   'run --help'     'fault 1 Arguments' "$usage"
+    seen_at_terminal 'the version at a terminal'     --version '' 1 'fault 1 Arguments\ntpcc 0.1.0\n'
+    seen_at_terminal 'warehouses at a terminal'      'script --warehouses 0' '' 1 'fault 1 Warehouses\nwarehouses are 1 to 100\n'
+    seen_at_terminal 'customers at a terminal'       'run --customers 15' '' 1 'fault 2 Customers\ncustomers of a district are 10 to 3000, a multiple of 10\n'
+    seen_at_terminal 'items at a terminal'           'dump ITEM --items 99' '' 1 'fault 3 Items\nitems are 100 to 100000\n'
+    seen_at_terminal 'a bad line at a terminal'      script 'x\n' 2 'fault 1 Bad 1\n'
+    left_at_terminal 'progress at a terminal'        'run --seeded --terminals 4 --cards 100000 --servers 2'
+else
+    echo 'programs: skipped: what a person sees at a terminal, since there is no script of util-linux and no python3'
+fi
 
 # ---- readers and writers that fail
 
