@@ -1,8 +1,8 @@
 //! A run.
-ghost use Rattle.std.specs.Prelude.{◌≡◌, IfOk};
+ghost use Rattle.std.specs.Prelude.{◌≡◌, ◌≤◌, IfOk, IfSome};
 ghost use Rattle.tpcc_population.specs.declared.opening.Opening.{Opening};
 ghost use Rattle.tpcc_audit.specs.Settlement.{AllSeen};
-ghost use Rattle.tpcc_run.specs.Outcome.{HasReported, HasShown, HasTotals, IsPlan};
+ghost use Rattle.tpcc_run.specs.Outcome.{HasReported, HasShown, HasTotals, IsPlan, IsService};
 
 use crate::fault::RunFault;
 use crate::gathered::Gathered;
@@ -179,18 +179,26 @@ fn gathered<
     requires room { first.purse.room ≡ 10000 }
     ensures seen { AllSeen result.purses.items result.receipts.items }
 {
+    let Some((count, retire)) = servers_of(plan.service) else {
+        return serve_directly(rt, alloc, turns, first, make, scale, plan);
+    };
     let boxes = plan.terminals as usize + 1;
-    match plan.service {
-        Service::Direct => serve_directly(rt, alloc, turns, first, make, scale, plan),
-        Service::Servers { count, retire } => {
-            match Mailboxes::<Job<N, T, C>, JobAnswer<N, T>>::new(alloc, boxes) {
-                Ok((mailboxes, idles, serving)) => serve_by_servers(
-                    rt, alloc, &mailboxes, turns, idles, serving, first, make, scale, plan, count,
-                    retire,
-                ),
-                Err(_) => Gathered::refused(alloc),
-            }
-        }
+    match Mailboxes::<Job<N, T, C>, JobAnswer<N, T>>::new(alloc, boxes) {
+        Ok((mailboxes, idles, serving)) => serve_by_servers(
+            rt, alloc, &mailboxes, turns, idles, serving, first, make, scale, plan, count, retire,
+        ),
+        Err(_) => Gathered::refused(alloc),
+    }
+}
+
+// How many servers there are, and after how many jobs all but the first end; None where terminals make their own turns.
+fn servers_of(service: Service) -> Option<(u32, u32)>
+    requires service { IsService service }
+    ensures most { IfSome result (λ servers. servers.0 ≤ 16) }
+{
+    match service {
+        Service::Servers { count, retire } => Some((count, retire)),
+        Service::Direct => None,
     }
 }
 
