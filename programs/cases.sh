@@ -475,7 +475,7 @@ if script -qec true /dev/null < /dev/null > /dev/null 2>&1 || python3 -c 'import
     usage='Usage: tpcc script [OPTIONS]\nUsage: tpcc dump [OPTIONS]\nUsage: tpcc requests [OPTIONS]\nUsage: tpcc run [OPTIONS]\n'
     usage+='--warehouses <N>\nWarehouses: 1 to 100, else 1\n--customers <N>\n10 to 3000 by tens, else 10\n--items <N>\n100 to 100000, else 100\n'
     usage+='--seed <N>\n0 to 18446744073709551615, else 1\n--moment <N>\n0 to 4102444799, else 0\n--seeded\n--show <PART>\n--time\n'
-    usage+='--terminals <N>\n1 to 999, else 2\n--servers <N>\n1 to 16, else 1\n--cards <N>\n0 to 100000, else 23\n--retire <N>\n0 to 100000, else 0\n'
+    usage+='--terminals <N>\n1 to 999, else 2\n--servers <N>\n1 to 16, else 1\n--cards <N>\n0 to 100000, else 23\n--retire <N>\n0 to 100000, else 0\n--direct\nmake its own turns\n'
     usage+='--terminal <N>\n1 to 1000, else 1\n'
     told_at_terminal 'a number out of its range at a terminal' 'run --terminals 0' 'fault 1 Arguments' "error:\n--terminals\n1..=999\n$usage"
     told_at_terminal 'no command at a terminal'      ''               'fault 1 Arguments' "$usage"
