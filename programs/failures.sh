@@ -12,7 +12,7 @@ done
 failing() {
     local call=$1
     shift
-    FAILING="$call" LD_PRELOAD="$scratch/failing.so" timeout "$seconds" "$tpcc" "$@" < stdin > stdout 2> stderr 9> hit
+    timeout "$seconds" env FAILING="$call" LD_PRELOAD="$scratch/failing.so" "$tpcc" "$@" < stdin > stdout 2> stderr 9> hit
     echo $? > status
 }
 

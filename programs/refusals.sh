@@ -23,7 +23,7 @@ done
 # One test with one allocation refused: 0 where it passed, 1 where it was refused before its call, 2 where it differs, 3 where there is
 # no such allocation.
 tried() {
-    FAILING="alloc $2" LD_PRELOAD="$scratch/failing.so" timeout 60 "$tests" "$1" > said 2>&1 9> hit
+    timeout 60 env FAILING="alloc $2" LD_PRELOAD="$scratch/failing.so" "$tests" "$1" > said 2>&1 9> hit
     local status=$?
     [ -s hit ] || return 3
     [ $status -eq 0 ] && return 0
