@@ -144,6 +144,27 @@ dumped "ITEM $plain --seeded" 0d0f54bb277ee1938aebbc5822dd8a1434018b910b3c9f987a
 dumped "STOCK $plain --seeded" 5df7ddf62556c8ca991570140d22478ab609acde1595e94bcff90605355d3e37
 dumped "CUSTOMER --customers 1200 --items 300 --seeded --seed 18446744073709551615 --moment 4102444799" 72eec8ed9ae87d912865b747d2604b518c8ebe44591a948d43186dfbf0884c8c
 
+# Each S_DIST_xx of the plain opening is 22 times the letter d, then the district's two digits.
+by 'the plain S_DIST_xx' "\"$tpcc\" dump STOCK --warehouses 2 2> stderr | awk -F, '
+    NR > 1 { for (d = 1; d <= 10; d++) if (\$(d + 3) != sprintf(\"dddddddddddddddddddddd%02d\", d)) wrong++ }
+    END { print NR - 1, wrong + 0 }' > stdout; echo \${PIPESTATUS[0]} > status" 0 '' '200 0\n'
+
+# ---- what a transaction leaves for the next, worked out by hand from the plain opening
+
+# What one word of the screens of that kind shows, behind each line of the script.
+seen() {
+    by "$1" "printf '$2' | \"$tpcc\" script 2> stderr | sed -n 's/$3/\\1/p' > stdout; echo \${PIPESTATUS[1]} > status" 0 '' "$4"
+}
+
+order='new-order 1 1 1 0 20:1:10 26:1:8 12:1:10 21:1:5 11:1:10\n'
+seen 'the balance after a payment' "status 1 1 1\n${first}status 1 1 1\n" '^order-status.* C_BALANCE=\(.*\)' '-10.00\n-11.00\n'
+seen 'the last order after an order' "status 1 1 1\n${order}status 1 1 1\n" '^order O_ID=\([0-9]*\) .*' '1\n11\n'
+seen 'low stock after an order' "stock 1 1 20\n${order}stock 1 1 20\n" '^stock-level.* low_stock=\(.*\)' '9\n11\n'
+seen 'the number of the next order' "$order$order" '^new-order.* O_ID=\([0-9]*\) .*' '11\n12\n'
+by 'a check after each of ten runs' "{ echo delivery 1 3 60; for _ in 1 2 3 4 5 6 7 8 9 10; do echo deliver 120; echo check; done; } \
+    | \"$tpcc\" script 2> stderr | grep -v '^district' | sed 's/^\(deliver[a-z]*\) .*/\1/' | sort | uniq -c | sed 's/^ *//' > stdout; echo \${PIPESTATUS[1]} > status" 0 '' \
+    '10 consistent\n10 delivered\n1 delivery\n'
+
 # ---- runs
 
 # A run, its least and most entries, and what its terminals pay, by the second program. How many entries say that no
@@ -163,6 +184,8 @@ reported() {
 reported 'no card' '--terminals 2 --servers 2 --cards 0' \
     1 1 0.00
 reported 'two terminals' '--seeded --terminals 2 --servers 1 --cards 23' \
+    70 90 50664.66
+reported 'two terminals on two servers' '--seeded --terminals 2 --servers 2 --cards 23' \
     70 90 50664.66
 reported 'three servers that retire' '--seeded --terminals 2 --servers 3 --retire 1 --cards 23' \
     70 90 50664.66

@@ -6,6 +6,14 @@ for part in screens report journal results check $tables; do every_part+=" --sho
 
 # ---- a run's journal, given to a script of the same opening, shows the same of every part
 
+# The payments of the journal are what the report says was paid, and the rise.
+adds_up() {
+    part report | tail -n 2 > stdout
+    awk '$1 == "payment" { sub(/\./, "", $7); cents += $7 }
+        END { for (i = 1; i <= 2; i++) printf "%s %d.%02d\n", i == 1 ? "paid" : "rise", cents / 100, cents % 100 }' journal > stdout.wanted
+    compare "$1: what was paid" 0
+}
+
 same_parts() {
     left_out "$1" && return
     timeout "$seconds" "$tpcc" run $2 $3 $every_part > shown 2> stderr
@@ -16,6 +24,7 @@ same_parts() {
     compare "$1: how it ends" 0
     part journal > journal
     [ -s journal ] || differs "$1" journal
+    adds_up "$1"
     timeout "$seconds" "$tpcc" script $2 $every_part < journal > stdout 2> stderr
     echo $? > status
     compare "$1" 0

@@ -8,6 +8,7 @@ pub mod Parting
 pub mod Ordering
 pub mod Sessions
 pub mod Names
+pub mod Letters
 mod NumeralLaws
 mod PartLaws
 mod WordLaws

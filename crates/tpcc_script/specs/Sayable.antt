@@ -26,6 +26,20 @@ is_customer_word (Name last) = is_last_name last
 abbrev pub is_order_line : Line → Bool
 is_order_line l = is_number l.item && (is_number l.supply && is_number l.quantity)
 
+-- a customer by number, or by a name of letters
+abbrev pub is_customer_by_letters : Who → Bool
+is_customer_by_letters (Number number) = true
+is_customer_by_letters (Name last) = is_last_name last
+
+-- whether a customer that the request names has a name of letters
+abbrev pub has_letters : Request → Bool
+has_letters (ask.NewOrder o) = true
+has_letters (ask.Payment p) = is_customer_by_letters p.who
+has_letters (ask.Status s) = is_customer_by_letters s.who
+has_letters (ask.Stock s) = true
+has_letters (ask.Delivery t) = true
+has_letters (ask.Deliver at) = true
+
 -- what types keep of every request, numbers of 32 bits and moments in their range, and a name that is letters
 abbrev pub has_words : Request → Bool
 has_words (ask.NewOrder o) =

@@ -1,17 +1,23 @@
 //! The laws of lines that are written from requests, each as the contract of a function with nothing to do.
 ghost use Rattle.std.specs.Prelude.{◌≡◌, ◌∷◌, ◌≤◌, ℕ, List, [], Option, None, Result, length, map, true};
 ghost use Rattle.std.specs.List.{list_all};
+ghost use Rattle.rand_core.specs.Stream.{Stream};
+ghost use Rattle.tpcc_draws.specs.declared.cards.Card.{Card};
 ghost use Rattle.tpcc_rows.specs.declared.entry.Entry.{Entry};
 ghost use Rattle.tpcc_rows.specs.declared.requests.Request.{Request};
 ghost use Rattle.tpcc_book.specs.Past.{Past};
+ghost use Rattle.tpcc_population.specs.declared.opening.Opening.{Opening};
+ghost use Rattle.tpcc_population.specs.Opening.{opening_rows};
+ghost use Rattle.tpcc_terminal.specs.declared.home.Home.{Home};
+ghost use Rattle.tpcc_terminal.specs.Cards.{drawn, request_of};
 ghost use Rattle.tpcc_terminal.specs.RequestLines.{journal_lines, request_line};
 ghost use Rattle.tpcc_script.specs.declared.call.Call.TheVariants.{Ask};
 ghost use Rattle.tpcc_script.specs.declared.fault.ScriptFault.{ScriptFault};
 ghost use Rattle.tpcc_script.specs.Again.{IsDoneAgain, IsSameAgain, IsWritable, left_again, screens_again, script_again};
 ghost use Rattle.tpcc_script.specs.Book.{Book};
 ghost use Rattle.tpcc_script.specs.Run.{IsRun};
-ghost use Rattle.tpcc_script.specs.Sayable.{is_sayable};
-ghost use Rattle.tpcc_script.specs.Script.{script_of};
+ghost use Rattle.tpcc_script.specs.Sayable.{has_letters, is_sayable};
+ghost use Rattle.tpcc_script.specs.Script.{is_last_name, script_of};
 ghost use Rattle.tpcc_script.specs.Session.{opened_book};
 
 /// The line of a request is a script that asks just this request; so it has at most 4,096 bytes. The request's numbers, moment and
@@ -42,4 +48,13 @@ pub fn journal_runs_again()
     ensures { (book : Past) (old new : Option (List ℕ)) (left : Book) (result : Result (Unit {0}) ScriptFault)
         → IsWritable book → IsRun (opened_book book.opening) (script_again book) old new left result
         → IsDoneAgain book old new left result }
+{}
+
+/// Every opening's customers, and those that a terminal's cards name, have last names of 1 to 16 letters A to Z (4.3.2.3), whatever
+/// is drawn: so a line of a script can say each of their requests.
+pub fn names_are_letters()
+    ensures openings { (opening : Opening)
+        → list_all (λ c. is_last_name c.last) (opening_rows opening).customers ≡ true }
+    ensures terminals { (home : Home) (moment : ℕ) (card : Card) (s : Stream)
+        → has_letters (request_of home moment (drawn home card s).0) ≡ true }
 {}

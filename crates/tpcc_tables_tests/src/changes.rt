@@ -1,9 +1,15 @@
-//! One change of the opening, so that one condition is broken.
+//! One change of the opening, so that one condition is broken or one column is near its limit.
 use tpcc_money::Cents;
-use tpcc_rows::{CustomerRow, DistrictRow, NewOrderRow, OrderLineRow, OrderRow, Row, WarehouseRow};
+use tpcc_rows::{
+    CustomerRow, DistrictRow, Field, NewOrderRow, OrderLineRow, OrderRow, Row, WarehouseRow,
+};
+
+/// The greatest amount of a column, 9,999,999,999.99, and the greatest payment, 5,000.00 (1.3, 2.5.1.3).
+const GREATEST_TOTAL: i64 = 999_999_999_999;
+const GREATEST_PAYMENT: i64 = 500_000;
 
 /// What is changed in district 1 of warehouse 1, or in the warehouse; of a NEW-ORDER row that is left out, its district
-/// and its order.
+/// and its order. A column near its limit has room for one payment of 5,000.00.
 #[derive(Clone, Copy, PartialEq, Eq)]
 pub enum Change {
     Nothing,
@@ -16,6 +22,7 @@ pub enum Change {
     LineUndelivered,
     Balance,
     YtdPayment,
+    NearLimit(Field),
 }
 
 /// The row with the change, if it isn't left out.
@@ -34,6 +41,7 @@ pub fn changed(change: Change, row: Row) -> Option<Row> {
 fn warehouse(change: Change, row: WarehouseRow) -> WarehouseRow {
     let cents = match change {
         Change::WarehouseTotal | Change::BothTotals => 100_001,
+        Change::NearLimit(Field::WarehouseYtd) => GREATEST_TOTAL - GREATEST_PAYMENT,
         _ => 100_000,
     };
     WarehouseRow {
@@ -46,6 +54,7 @@ fn district(change: Change, row: DistrictRow) -> DistrictRow {
     let cents = match (change, row.id) {
         (Change::BothTotals, 1) | (Change::CentInAnotherDistrict, 2) => 10_001,
         (Change::CentInAnotherDistrict, 1) => 9_999,
+        (Change::NearLimit(Field::DistrictYtd), 1) => GREATEST_TOTAL - GREATEST_PAYMENT,
         _ => 10_000,
     };
     DistrictRow {
@@ -56,22 +65,23 @@ fn district(change: Change, row: DistrictRow) -> DistrictRow {
 
 /// The columns of customer 3.
 fn customer(change: Change, row: CustomerRow) -> CustomerRow {
-    let is_third = row.district == 1 && row.id == 3;
-    let balance = if is_third && change == Change::Balance {
-        -999
-    } else {
-        -1000
-    };
-    let paid = if is_third && change == Change::YtdPayment {
-        1001
-    } else {
-        1000
-    };
-    CustomerRow {
-        balance: Cents::new(balance),
-        ytd_payment: Cents::new(paid),
-        ..row
+    if row.district != 1 || row.id != 3 {
+        return row;
     }
+    let mut row = row;
+    match change {
+        Change::Balance => row.balance = Cents::new(-999),
+        Change::YtdPayment => row.ytd_payment = Cents::new(1001),
+        Change::NearLimit(Field::Balance) => {
+            row.balance = Cents::new(GREATEST_PAYMENT - GREATEST_TOTAL)
+        }
+        Change::NearLimit(Field::YtdPayment) => {
+            row.ytd_payment = Cents::new(GREATEST_TOTAL - GREATEST_PAYMENT)
+        }
+        Change::NearLimit(Field::PaymentCount) => row.payment_count = 999_999_998,
+        _ => {}
+    }
+    row
 }
 
 /// O_OL_CNT of order 4.

@@ -9,7 +9,7 @@ use tpcc_delivery::{Delivery, Queue, Ticket, deliver_next, queue};
 use tpcc_money::{Cents, Moment};
 use tpcc_new_order::enter;
 use tpcc_payment::{Payment, pay};
-use tpcc_rows::{Entered, Line, Lines, Order, Refusal, Who};
+use tpcc_rows::{Entered, Field, Line, Lines, Order, Paid, Refusal, Who};
 use tpcc_tables::Tables;
 
 /// Customer 1 of district 1 orders five items.
@@ -43,20 +43,56 @@ fn an_order_is_entered(rt: HostRuntime) {
     assert_eq!(rt; total(entered), Some(Cents::new(5495)));
 }
 
-#[test]
-fn a_payment_is_made(rt: HostRuntime) {
-    let mut tables = filled(&rt);
-    let payment = Payment {
+/// A customer of district 1 pays so many cents there.
+fn payment(customer: u32, cents: i64) -> Payment {
+    Payment {
         warehouse: 1,
         district: 1,
         customer_warehouse: 1,
         customer_district: 1,
-        who: Who::Number(1),
-        amount: Cents::new(100),
+        who: Who::Number(customer),
+        amount: Cents::new(cents),
         moment: Moment::new(0),
-    };
-    let paid = pay(&mut tables, &payment).expect(&rt, "a payment");
-    assert_eq!(rt; paid.balance, Cents::new(-1100));
+    }
+}
+
+fn balance(paid: Result<Paid, Refusal>) -> Result<Cents, Refusal> {
+    match paid {
+        Ok(reply) => Ok(reply.balance),
+        Err(refusal) => Err(refusal),
+    }
+}
+
+#[test]
+fn payments_are_made_from_the_least_to_the_greatest_amount(rt: HostRuntime) {
+    let mut tables = filled(&rt);
+    let amounts = [
+        (99, Err(Refusal::Amount)),
+        (100, Ok(Cents::new(-1_100))),
+        (500_000, Ok(Cents::new(-501_100))),
+        (500_001, Err(Refusal::Amount)),
+    ];
+    for (cents, answer) in amounts {
+        assert_eq!(rt; balance(pay(&mut tables, &payment(1, cents))), answer);
+    }
+    assert_eq!(rt; check(&tables), Ok(()));
+}
+
+#[test]
+fn a_payment_reaches_the_limit_of_a_column_and_none_goes_past_it(rt: HostRuntime) {
+    let opening = filled(&rt);
+    let limits = [
+        (Field::WarehouseYtd, Refusal::Total(Field::WarehouseYtd)),
+        (Field::DistrictYtd, Refusal::Total(Field::DistrictYtd)),
+        (Field::Balance, Refusal::Total(Field::Balance)),
+        (Field::YtdPayment, Refusal::Total(Field::YtdPayment)),
+        (Field::PaymentCount, Refusal::Count(Field::PaymentCount)),
+    ];
+    for (field, refusal) in limits {
+        let mut tables = loaded(&rt, &opening, Change::NearLimit(field));
+        assert!(rt; pay(&mut tables, &payment(3, 500_000)).is_ok());
+        assert_eq!(rt; balance(pay(&mut tables, &payment(3, 100))), Err(refusal));
+    }
 }
 
 fn order_in(run: Delivery, district: u32) -> Option<u32> {
