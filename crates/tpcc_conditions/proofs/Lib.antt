@@ -4,3 +4,4 @@ mod NumberLemmas
 mod DeliveredLemmas
 mod FirstLemmas
 mod StockedLemmas
+mod OpeningLemmas

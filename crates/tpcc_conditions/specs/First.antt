@@ -1,9 +1,10 @@
 -- The first row of a table at which a condition fails.
-use Rattle.std.specs.Prelude.{ℕ, Bool, take, if◌then◌else◌, Option, Some, None, slice_get}
+use Rattle.std.specs.Prelude.{ℕ, Bool, IsTrue, take, if◌then◌else◌, Option, Some, None, slice_get}
+use Rattle.std.specs.List.{list_all}
 use Rattle.tpcc_rows.specs.declared.row.Table.{Table}
 use Rattle.tpcc_rows.specs.declared.row.Table.TheVariants as table
 use Rattle.std.specs.Option.{option_or}
-use Rattle.tpcc_rows.specs.Conditions.{Broken, first_broken, first_failing, at_warehouse, at_district, at_order, at_order_line, at_customer, keeps_1, keeps_2, keeps_3, keeps_4, keeps_5, keeps_6, keeps_7, keeps_8, keeps_9, keeps_10, keeps_11, keeps_12}
+use Rattle.tpcc_rows.specs.Conditions.{Broken, IsConsistent, first_broken, first_failing, at_warehouse, at_district, at_order, at_order_line, at_customer, keeps_1, keeps_2, keeps_3, keeps_4, keeps_5, keeps_6, keeps_7, keeps_8, keeps_9, keeps_10, keeps_11, keeps_12}
 use Rattle.tpcc_rows.specs.Tables.{Rows}
 use Rattle.tpcc_conditions.specs.declared.condition.Condition.{Condition}
 use Rattle.tpcc_conditions.specs.declared.condition.Condition.TheVariants.{One, Two, Three, Four, Five, Six, Seven, Eight, Nine, Ten, Eleven, Twelve}
@@ -60,6 +61,11 @@ first_of Twelve rows = first_failing (keeps_12 rows) (at_customer 12) rows.custo
 -- 3.3.2.11 comes last, and is asked of an opening with so many customers in a district
 abbrev pub first_broken_opening : ℕ → Rows → Option Broken
 first_broken_opening customers rows = option_or (first_broken rows) (first_of (Eleven customers) rows)
+
+-- 3.3.2: an opening at which conditions 1 to 12 hold
+pub record IsConsistentOpening (customers : ℕ) (rows : Rows) : Type 0 where
+  pub consistent : IsConsistent rows
+  pub condition_11 : IsTrue (list_all (keeps_11 customers rows) rows.districts)
 
 -- the table whose rows a condition tests
 abbrev pub tested_table : Condition → Table

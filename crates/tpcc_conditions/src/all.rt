@@ -1,8 +1,9 @@
 //! All conditions.
-ghost use Rattle.std.specs.Prelude.{◌≡◌, IfErr, OnOk, Some, None};
+ghost use Rattle.std.specs.Prelude.{◌≡◌, ◌↔◌, ℕ, IfErr, OnOk, Some, None};
 ghost use Rattle.tpcc_rows.specs.Conditions.{first_broken};
+ghost use Rattle.tpcc_rows.specs.Tables.{Rows};
 ghost use Rattle.tpcc_conditions.specs.Broken.{as_model};
-ghost use Rattle.tpcc_conditions.specs.First.{first_broken_opening};
+ghost use Rattle.tpcc_conditions.specs.First.{IsConsistentOpening, first_broken_opening};
 ghost use Rattle.tpcc_conditions.specs.Known.{AreTotals};
 
 use crate::broken::Broken;
@@ -61,3 +62,10 @@ pub fn check_opening(tables: &Tables, scale: Scale) -> Result<(), Broken>
     test_all(tables, &totals)?;
     test(tables, &totals, Condition::Eleven(scale.customers()))
 }
+
+/// No condition of an opening is named as broken exactly where conditions 1 to 12 (3.3.2) hold of it: what
+/// [`nothing_broken`](tpcc_laws::laws::nothing_broken) says of `check`, said of `check_opening`.
+pub fn nothing_broken_at_opening()
+    ensures { (customers : ℕ) (rows : Rows)
+        → (first_broken_opening customers rows ≡ None) ↔ IsConsistentOpening customers rows }
+{}

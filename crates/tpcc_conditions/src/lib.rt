@@ -15,6 +15,6 @@ mod stocked;
 mod sums;
 mod totals;
 
-pub use all::{check, check_at_once, check_opening};
+pub use all::{check, check_at_once, check_opening, nothing_broken_at_opening};
 pub use broken::Broken;
 pub use stocked::{is_stocked, stock_stays};

@@ -1,8 +1,9 @@
--- The largest number that an iterator gives, and the extremes of a district.
-use Rattle.std.proofs.Common.{◌≡◌, ℕ, Bool, true, List, [], ◌∷◌, refl, ap, sym, ◌∙◌, arith, Option, Some, None, map, slice_get}
-use Rattle.std.specs.Prelude.{max, min, fold, filter, ◌==◌, ◌&&◌, nat_lt}
-use Rattle.std.specs.List.{reduce}
-use Rattle.std.specs.Ordering.{nat_cmp, max_by_ordering}
+-- The extremes of a district.
+use Rattle.std.proofs.Common.{◌≡◌, ℕ, Bool, true, false, List, [], ◌∷◌, refl, ap, sym, ◌∙◌, arith, Option, Some, None, map, slice_get}
+use Rattle.std.specs.Prelude.{max, min, filter, find, reverse, ◌==◌, ◌&&◌, nat_lt}
+use Rattle.std.specs.Option.{option_map, option_or}
+use Rattle.std.proofs.lemmas.List.{reverse-append}
+use Rattle.std.proofs.lemmas.List.Folds.{find-append}
 use Rattle.std.proofs.lemmas.Bool.Decides.{nat_tests}
 use Rattle.tpcc_rows.specs.Lists.{largest, smallest, larger, smaller, is_ascending, key_before}
 use Rattle.tpcc_rows.specs.declared.rows.OrderRow.{OrderRow}
@@ -12,24 +13,6 @@ use Rattle.tpcc_keyed.specs.Parts.{is_of}
 use Rattle.tpcc_keyed.proofs.ChangeLemmas.{filter_within, same_filter, ascending-filter}
 use Rattle.std.specs.List.{list_all}
 
-abbrev pub greater_of : ℕ → ℕ → ℕ
-greater_of p z = max_by_ordering (nat_cmp p z) p z
-
-greater_is : (p z : ℕ) → greater_of p z ≡ max p z
-greater_is p z = grind (arith, nat_tests)
-
-larger_first : (p z : ℕ) (o : Option ℕ) → larger (max p z) o ≡ larger p (Some (larger z o))
-larger_first p z None = omega arith
-larger_first p z (Some n) = omega arith
-
-folds_larger : (p : ℕ) (ns : List ℕ) → fold greater_of p ns ≡ larger p (largest ns)
-folds_larger p [] = refl
-folds_larger p (z ∷ ns) = folds_larger (greater_of p z) ns ∙ ap (λ n. larger n (largest ns)) (greater_is p z) ∙ larger_first p z (largest ns)
-
-pub reduce_is_largest : (ns : List ℕ) → reduce greater_of ns ≡ largest ns
-reduce_is_largest [] = refl
-reduce_is_largest (n ∷ ns) = ap Some (folds_larger n ns)
-
 -- ---- in a district's part
 
 of_district : (w d c : ℕ) (x : OrderRow) → is_order_of w d c x ≡ true → is_of (record { warehouse = w; district = d }) (order_key x) ≡ true
@@ -38,6 +21,65 @@ of_district w d c x h = grind (arith, h)
 -- a customer's orders are in the district's part
 pub orders_in_part : (w d c : ℕ) (xs : List OrderRow) → filter (is_order_of w d c) (filter (λ x. is_of (record { warehouse = w; district = d }) (order_key x)) xs) ≡ filter (is_order_of w d c) xs
 orders_in_part w d c xs = filter_within (λ x. is_of (record { warehouse = w; district = d }) (order_key x)) (is_order_of w d c) (of_district w d c) xs
+
+-- ---- the newest order of a customer
+
+beyond : (n : ℕ) (ns : List ℕ) → list_all (λ m. nat_lt n m) ns ≡ true → largest (n ∷ ns) ≡ option_or (largest ns) (Some n)
+beyond n [] h = refl
+beyond n (m ∷ ns) h = highest n m (largest ns) (grind arith)
+  where
+    highest : (n m : ℕ) (o : Option ℕ) → nat_lt n m ≡ true → Some (max n (larger m o)) ≡ Some (larger m o)
+    highest n m None lt = grind (arith, nat_tests)
+    highest n m (Some k) lt = grind (arith, nat_tests)
+
+-- later orders of the same district have greater numbers
+numbers_above : (w d c : ℕ) (o : OrderRow) (os : List OrderRow) → is_order_of w d c o ≡ true → list_all (λ later. key_before (order_key o) (order_key later)) os ≡ true
+    → list_all (λ m. nat_lt o.id m) (map (λ x. x.id) (filter (is_order_of w d c) os)) ≡ true
+numbers_above w d c o [] is up = refl
+numbers_above w d c o (p ∷ os) is up =
+    let ups : list_all (λ later. key_before (order_key o) (order_key later)) os ≡ true = grind arith in
+    let above : key_before (order_key o) (order_key p) ≡ true = grind arith in
+    one_more (is_order_of w d c p) refl above (numbers_above w d c o os is ups)
+  where
+    one_more : (b : Bool) → is_order_of w d c p ≡ b → key_before (order_key o) (order_key p) ≡ true
+        → list_all (λ m. nat_lt o.id m) (map (λ x. x.id) (filter (is_order_of w d c) os)) ≡ true
+        → list_all (λ m. nat_lt o.id m) (map (λ x. x.id) (filter (is_order_of w d c) (p ∷ os))) ≡ true
+    one_more true mine above rest =
+        let here : nat_lt o.id p.id ≡ true = grind (arith, nat_tests, is, mine, above) in
+        grind (arith, here, rest, mine)
+    one_more false other above rest = grind (arith, rest, other)
+
+-- found from the end, it is the largest
+newest : (w d c : ℕ) (os : List OrderRow) → is_ascending order_key os ≡ true
+    → option_map (λ o. o.id) (find (is_order_of w d c) (reverse os)) ≡ largest (map (λ o. o.id) (filter (is_order_of w d c) os))
+newest w d c [] up = refl
+newest w d c (o ∷ os) up =
+    let ups : list_all (λ later. key_before (order_key o) (order_key later)) os ≡ true = grind arith in
+    let rest = newest w d c os (grind arith) in
+    ap (λ ys. option_map (λ (x : OrderRow). x.id) (find (is_order_of w d c) ys)) (reverse-append (o ∷ []) os)
+    ∙ ap (option_map (λ (x : OrderRow). x.id)) (find-append (is_order_of w d c) (reverse os) (o ∷ []))
+    ∙ this (is_order_of w d c o) (find (is_order_of w d c) (reverse os)) refl ups rest
+  where
+    this : (b : Bool) (before : Option OrderRow) → is_order_of w d c o ≡ b
+        → list_all (λ later. key_before (order_key o) (order_key later)) os ≡ true
+        → option_map (λ x. x.id) before ≡ largest (map (λ x. x.id) (filter (is_order_of w d c) os))
+        → option_map (λ x. x.id) (option_or before (find (is_order_of w d c) (o ∷ []))) ≡ largest (map (λ x. x.id) (filter (is_order_of w d c) (o ∷ os)))
+    this true None mine ups rest = grind (arith, mine, rest, beyond o.id (map (λ x. x.id) (filter (is_order_of w d c) os)) (numbers_above w d c o os mine ups))
+    this true (Some p) mine ups rest = grind (arith, mine, rest, beyond o.id (map (λ x. x.id) (filter (is_order_of w d c) os)) (numbers_above w d c o os mine ups))
+    this false None other ups rest = grind (arith, other, rest)
+    this false (Some p) other ups rest = grind (arith, other, rest)
+
+-- in the district's part, of all orders
+pub newest_in_part : (w d c : ℕ) (xs part : List OrderRow) (found : Option OrderRow) → is_ascending order_key xs ≡ true
+    → part ≡ filter (λ x. is_of (record { warehouse = w; district = d }) (order_key x)) xs → found ≡ find (is_order_of w d c) (reverse part)
+    → option_map (λ o. o.id) found ≡ largest (map (λ o. o.id) (filter (is_order_of w d c) xs))
+newest_in_part w d c xs part found up is at =
+    let in_part = filter (λ (x : OrderRow). is_of (record { warehouse = w; district = d }) (order_key x)) xs in
+    ap (option_map (λ (o : OrderRow). o.id)) (at ∙ ap (λ os. find (is_order_of w d c) (reverse os)) is)
+    ∙ newest w d c in_part (ascending-filter order_key (λ (x : OrderRow). is_of (record { warehouse = w; district = d }) (order_key x)) xs up)
+    ∙ ap (λ (os : List OrderRow). largest (map (λ o. o.id) os)) (orders_in_part w d c xs)
+
+-- ---- the oldest new order
 
 not_below : (n : ℕ) (ns : List ℕ) → list_all (λ m. nat_lt n m) ns ≡ true → smaller n (smallest ns) ≡ n
 not_below n [] h = refl

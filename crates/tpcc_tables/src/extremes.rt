@@ -1,21 +1,26 @@
 //! The last order of a customer and the oldest new order of a district.
-ghost use Rattle.std.specs.Prelude.{◌≡◌, ◌==◌, ◌&&◌, filter, map, true};
+ghost use Rattle.std.specs.Prelude.{◌≡◌, ◌==◌, ◌&&◌, filter, find, map, reverse, true};
+ghost use Rattle.std.specs.Option.{option_copied};
 ghost use Rattle.tpcc_rows.specs.Lists.{largest, smallest, is_ascending};
-ghost use Rattle.tpcc_rows.specs.Tables.{is_order_of, new_order_key};
+ghost use Rattle.tpcc_rows.specs.Tables.{is_order_of, new_order_key, order_key};
 
 use tpcc_keyed::Parts;
 use tpcc_rows::keys::DistrictKey;
 use tpcc_rows::rows::{NewOrderRow, OrderRow};
 
-fn largest_order(rows: &[OrderRow], warehouse: u32, district: u32, customer: u32) -> Option<u32>
-    ensures { result ≡ largest (map (λ o. o.id) (filter (is_order_of warehouse district customer) rows.now)) }
+/// The last of a customer's orders, looked for from the end, where the newest stand.
+fn newest_order<'a>(
+    rows: &'a [OrderRow],
+    warehouse: u32,
+    district: u32,
+    customer: u32,
+) -> Option<&'a OrderRow>
+    ensures { option_copied result
+        ≡ find (is_order_of warehouse district customer) (reverse rows.now) }
 {
-    rows.iter()
-        .filter(|row| {
-            row.warehouse == warehouse && row.district == district && row.customer == customer
-        })
-        .map(|row| row.id)
-        .max()
+    rows.iter().rev().find(|row| {
+        row.warehouse == warehouse && row.district == district && row.customer == customer
+    })
 }
 
 /// The largest O_ID of a customer's orders.
@@ -25,13 +30,19 @@ pub fn last_order(
     district: u32,
     customer: u32,
 ) -> Option<u32>
-    ensures { result ≡ largest (map (λ o. o.id) (filter (is_order_of warehouse district customer) rows.now.rows)) }
+    requires keyed { is_ascending order_key rows.now.rows ≡ true }
+    ensures { result
+        ≡ largest (map (λ o. o.id)
+        (filter (is_order_of warehouse district customer) rows.now.rows)) }
 {
     let orders = rows.part(DistrictKey {
         warehouse,
         district,
     });
-    largest_order(orders, warehouse, district, customer)
+    match newest_order(orders, warehouse, district, customer) {
+        Some(order) => Some(order.id),
+        None => None,
+    }
 }
 
 /// The smallest NO_O_ID of a district.

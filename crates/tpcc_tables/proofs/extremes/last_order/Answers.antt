@@ -1,13 +1,14 @@
-use Rattle.std.proofs.Common.{◌∙◌, ap, map, List}
-use Rattle.tpcc_rows.specs.Lists.{largest}
-use Rattle.tpcc_rows.specs.declared.rows.OrderRow.{OrderRow}
-use Rattle.tpcc_rows.specs.Tables.{is_order_of}
-use Rattle.tpcc_tables.proofs.ExtremeLemmas.{orders_in_part}
-use Rattle.std.specs.Prelude.{filter}
+use Rattle.std.proofs.Common.{◌∙◌, ap, sym}
+use Rattle.std.specs.Option.{option_copied}
+use Rattle.tpcc_tables.proofs.ExtremeLemmas.{newest_in_part}
 use Rattle.tpcc_tables.proofs.extremes.last_order.Goals as goal
 
-pub returns : goal.returns
-returns c =
-    c.largest_order.ensures
-    ∙ ap (λ (os : List OrderRow). largest (map (λ o. o.id) (filter (is_order_of c.args.warehouse c.args.district c.args.customer) os))) c.part-orders.ensures
-    ∙ ap (λ (os : List OrderRow). largest (map (λ o. o.id) os)) (orders_in_part c.args.warehouse c.args.district c.args.customer c.args.rows.now.rows)
+pub returns-in-Some : goal.returns-in-Some
+returns-in-Some c =
+    newest_in_part c.args.warehouse c.args.district c.args.customer c.args.rows.now.rows c.part-orders.result.now _ c.requires.keyed c.part-orders.ensures
+    (sym (ap option_copied c.in-Some.is) ∙ c.newest_order.ensures)
+
+pub returns-in-None : goal.returns-in-None
+returns-in-None c =
+    newest_in_part c.args.warehouse c.args.district c.args.customer c.args.rows.now.rows c.part-orders.result.now _ c.requires.keyed c.part-orders.ensures
+    (sym (ap option_copied c.in-None.is) ∙ c.newest_order.ensures)
