@@ -14,7 +14,7 @@ use tpcc_rows::rows::CustomerRow;
 use tpcc_tables::tables::Tables;
 
 /// The sum of a column. It fits: a table has fewer than 2^64 rows, each with a number of 64 bits.
-fn scanned(tables: &Tables, column: Column) -> i128
+fn scan_sum(tables: &Tables, column: Column) -> i128
     ensures { result ≡ whole column tables.now.rows }
 {
     let mut sum = 0i128;
@@ -31,7 +31,7 @@ fn sum(tables: &Tables, known: &Option<Sums>, column: Column) -> i128
 {
     match known {
         Some(sums) => sum_at(sums, column),
-        None => scanned(tables, column),
+        None => scan_sum(tables, column),
     }
 }
 
@@ -39,7 +39,7 @@ fn sum(tables: &Tables, known: &Option<Sums>, column: Column) -> i128
 pub fn district_totals(tables: &Tables, warehouse: u32) -> i128
     ensures { result ≡ total (λ d. d.ytd) (districts_of tables.now.rows warehouse) }
 {
-    scanned(tables, Column::DistrictTotals(warehouse))
+    scan_sum(tables, Column::DistrictTotals(warehouse))
 }
 
 #[tactic(auto, using(crate::proofs::SumLemmas::paid_into_warehouse_is))]

@@ -18,7 +18,7 @@ fn goes_last<T: Keyed>(rows: &[T], added: &T) -> bool
 }
 
 /// How many rows stand before the first one that comes after a new row, searched by halves.
-fn by_halves<T: Keyed>(rows: &[T], added: &T) -> usize
+fn search_by_halves<T: Keyed>(rows: &[T], added: &T) -> usize
     requires keyed { is_ascending T.key rows.now ≡ true }
     ensures { result ≡ prefix_len (λ row. not (by_key T.key added.now row)) rows.now }
 {
@@ -37,7 +37,7 @@ fn place_for<T: Keyed>(rows: &[T], added: &T) -> usize
     if goes_last(rows, added) {
         return rows.len();
     }
-    by_halves(rows, added)
+    search_by_halves(rows, added)
 }
 
 /// Puts a new row at its place; refuses only for want of memory.

@@ -166,7 +166,7 @@ fn place_of(names: &[CustomerName], warehouse: u32, district: u32, last: &[u8]) 
 }
 
 /// The names of a last name, in order of first names.
-fn named<'a>(
+fn names_with_last<'a>(
     names: &'a [CustomerName],
     warehouse: u32,
     district: u32,
@@ -190,7 +190,7 @@ fn all_of(rows: &[CustomerRow], alloc: Global) -> Result<Vec<CustomerName>, NoMe
 }
 
 /// The names of customers, in order.
-fn sorted(rows: &[CustomerRow], alloc: Global) -> Result<Vec<CustomerName>, NoMemory>
+fn sort_names(rows: &[CustomerRow], alloc: Global) -> Result<Vec<CustomerName>, NoMemory>
     ensures names { IfOk result (λ names. names.items ≡ names_of rows.now) }
     ensures order { IfOk result (λ names. is_in_order name_before names.items ≡ true) }
 {
@@ -213,7 +213,7 @@ impl Names {
     pub fn of(rows: &[CustomerRow], alloc: Global) -> Result<Names, NoMemory>
         ensures { IfOk result (λ names. names ≡ names_of rows.now) }
     {
-        let names = sorted(rows, alloc)?;
+        let names = sort_names(rows, alloc)?;
         Ok(Names { names })
     }
 
@@ -229,7 +229,7 @@ impl Names {
     pub fn middle(&self, warehouse: u32, district: u32, last: &[u8]) -> Option<u32>
         ensures { result ≡ middle_id warehouse district last.now self.now }
     {
-        let named = named(self.names.as_slice(), warehouse, district, last);
+        let named = names_with_last(self.names.as_slice(), warehouse, district, last);
         let middle = named.get(named.len().saturating_sub(1) / 2)?;
         Some(middle.id)
     }

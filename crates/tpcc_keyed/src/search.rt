@@ -7,7 +7,7 @@ ghost use Rattle.tpcc_keyed.specs.Searches.{is_same_key};
 use crate::keyed::Keyed;
 
 /// The place of the row of a key, where it stands at the place that its key tells.
-fn guessed<T: Keyed>(rows: &[T], key: &T::Key) -> Option<usize>
+fn try_likely_place<T: Keyed>(rows: &[T], key: &T::Key) -> Option<usize>
     requires keyed { is_ascending T.key rows.now ≡ true }
     ensures { IfSome result (λ place. Some place ≡ position (λ row. is_same_key (T.key row) (T.numbers key.now)) rows.now) }
 {
@@ -20,7 +20,7 @@ fn guessed<T: Keyed>(rows: &[T], key: &T::Key) -> Option<usize>
 }
 
 /// The place of the row of a key, searched by halves.
-fn by_halves<T: Keyed>(rows: &[T], key: &T::Key) -> Option<usize>
+fn search_by_halves<T: Keyed>(rows: &[T], key: &T::Key) -> Option<usize>
     requires keyed { is_ascending T.key rows.now ≡ true }
     ensures { result ≡ position (λ row. is_same_key (T.key row) (T.numbers key.now)) rows.now }
 {
@@ -41,9 +41,9 @@ pub fn place_of<T: Keyed>(rows: &[T], key: &T::Key) -> Option<usize>
     requires keyed { is_ascending T.key rows.now ≡ true }
     ensures { result ≡ position (λ row. is_same_key (T.key row) (T.numbers key.now)) rows.now }
 {
-    match guessed(rows, key) {
+    match try_likely_place(rows, key) {
         Some(place) => Some(place),
-        None => by_halves(rows, key),
+        None => search_by_halves(rows, key),
     }
 }
 

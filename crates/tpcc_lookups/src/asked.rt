@@ -12,7 +12,7 @@ use tpcc_tables::tables::Tables;
 
 #[tactic(auto, unfolding(tpcc_rows::specs::ChosenCustomer::chosen_customer))]
 /// The customer whom a query names.
-fn chosen<'a>(tables: &'a Tables, query: &StatusQuery) -> Option<&'a CustomerRow>
+fn choose_customer<'a>(tables: &'a Tables, query: &StatusQuery) -> Option<&'a CustomerRow>
     ensures { option_copied result ≡ chosen_customer tables.now.rows query.now.warehouse query.now.district query.now.who }
 {
     match &query.who {
@@ -37,7 +37,7 @@ pub fn asking_customer<'a>(
     if tables.district(query.warehouse, query.district).is_none() {
         return Err(Refusal::NoDistrict);
     }
-    match chosen(tables, query) {
+    match choose_customer(tables, query) {
         Some(customer) => Ok(customer),
         None => Err(Refusal::NoCustomer),
     }

@@ -13,7 +13,7 @@ use tpcc_rows::rows::CustomerRow;
 use tpcc_tables::tables::Tables;
 
 /// An order with its lines.
-fn shown(tables: &Tables, warehouse: u32, district: u32, order: u32) -> LastOrder
+fn show_order(tables: &Tables, warehouse: u32, district: u32, order: u32) -> LastOrder
     requires { is_some (find_order tables.now.rows warehouse district order) ≡ true }
     ensures { result ≡ shown_order tables.now.rows warehouse district order }
 {
@@ -33,7 +33,7 @@ fn last_order(tables: &Tables, warehouse: u32, district: u32, customer: u32) -> 
     ensures { result ≡ option_map (shown_order tables.now.rows warehouse district) (last_order_number tables.now.rows warehouse district customer) }
 {
     match tables.last_order(warehouse, district, customer) {
-        Some(order) => Some(shown(tables, warehouse, district, order)),
+        Some(order) => Some(show_order(tables, warehouse, district, order)),
         None => None,
     }
 }

@@ -66,7 +66,7 @@ fn append_each<T: TableRows>(
 }
 
 /// A table of one level: the rows of the numbers 1 to `count`.
-pub(crate) fn by_number<T: TableRows>(
+pub(crate) fn fill_by_number<T: TableRows>(
     alloc: Global,
     table: &T,
     count: u32,
@@ -81,7 +81,7 @@ pub(crate) fn by_number<T: TableRows>(
 }
 
 /// A table by warehouses: the rows of the numbers 1 to `count` of each.
-pub(crate) fn by_warehouse<T: TableRows>(
+pub(crate) fn fill_by_warehouse<T: TableRows>(
     alloc: Global,
     table: &T,
     warehouses: u32,
@@ -121,7 +121,7 @@ fn append_districts<T: TableRows>(
 }
 
 /// A table by districts: the rows of `count` numbers from `low` on of each.
-pub(crate) fn by_district<T: TableRows>(
+pub(crate) fn fill_by_district<T: TableRows>(
     alloc: Global,
     table: &T,
     warehouses: u32,

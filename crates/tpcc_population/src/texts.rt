@@ -8,7 +8,7 @@ ghost use Rattle.tpcc_rows.specs.Printable.{is_printable};
 use tpcc_rows::text::Text;
 
 /// A prefix and a number with leading zeros in so many places.
-pub(crate) fn numbered<const N: usize>(prefix: &[u8], places: usize, number: u32) -> Text<N>
+pub(crate) fn numbered_text<const N: usize>(prefix: &[u8], places: usize, number: u32) -> Text<N>
     requires printable { list_all is_printable prefix.now ≡ true }
     requires some { 0 < places }
     requires few { places ≤ 16 }
@@ -38,5 +38,5 @@ pub(crate) fn district_information(district: u32) -> Text<24>
     requires { district ≤ 10 }
     ensures { result ≡ plain_district_information district }
 {
-    numbered(b"dddddddddddddddddddddd", 2, district)
+    numbered_text(b"dddddddddddddddddddddd", 2, district)
 }

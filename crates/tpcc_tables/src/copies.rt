@@ -5,7 +5,7 @@ use tpcc_rows::few::Few;
 use tpcc_rows::rows::OrderLineRow;
 
 /// At most 15 lines as a value.
-pub fn copied(lines: &[OrderLineRow]) -> Few<OrderLineRow, 15>
+pub fn copy_lines(lines: &[OrderLineRow]) -> Few<OrderLineRow, 15>
     requires few { length lines.now ≤ 15 }
     ensures { result ≡ lines.now }
 {

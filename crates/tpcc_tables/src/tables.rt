@@ -15,7 +15,7 @@ mod load;
 mod positions;
 mod writes;
 
-use crate::copies::copied;
+use crate::copies::copy_lines;
 use crate::{delivery, extremes, find, levels};
 use std::alloc::Global;
 use std::marker::Model;
@@ -148,7 +148,7 @@ impl Tables {
         ensures lines { result ≡ lines_of self.now.rows warehouse district order }
         ensures few { length result ≤ 15 }
     {
-        copied(self.order_lines.lines_of(warehouse, district, order))
+        copy_lines(self.order_lines.lines_of(warehouse, district, order))
     }
 
     /// The sum of OL_AMOUNT of an order's lines (2.7.4.2), 0.00 where it has none.

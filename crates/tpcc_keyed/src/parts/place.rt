@@ -27,7 +27,7 @@ fn is_same(key: DistrictKey, other: DistrictKey) -> bool
 }
 
 /// The place of a district's part, where it stands at the place that the district's numbers tell.
-fn guessed<T>(parts: &[Part<T>], owner: DistrictKey) -> Option<usize>
+fn try_likely_place<T>(parts: &[Part<T>], owner: DistrictKey) -> Option<usize>
     requires rising { is_ascending part_numbers parts.now ≡ true }
     ensures { IfSome result (λ place. Some place ≡ position (is_part (district_numbers owner)) parts.now) }
 {
@@ -40,7 +40,7 @@ fn guessed<T>(parts: &[Part<T>], owner: DistrictKey) -> Option<usize>
 }
 
 /// The place of a district's part, searched by halves.
-fn by_halves<T>(parts: &[Part<T>], owner: DistrictKey) -> Option<usize>
+fn search_by_halves<T>(parts: &[Part<T>], owner: DistrictKey) -> Option<usize>
     requires rising { is_ascending part_numbers parts.now ≡ true }
     ensures { result ≡ position (is_part (district_numbers owner)) parts.now }
 {
@@ -61,9 +61,9 @@ pub fn place_of<T>(parts: &[Part<T>], owner: DistrictKey) -> Option<usize>
     requires rising { is_ascending part_numbers parts.now ≡ true }
     ensures { result ≡ position (is_part (district_numbers owner)) parts.now }
 {
-    match guessed(parts, owner) {
+    match try_likely_place(parts, owner) {
         Some(place) => Some(place),
-        None => by_halves(parts, owner),
+        None => search_by_halves(parts, owner),
     }
 }
 

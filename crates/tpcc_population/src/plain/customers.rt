@@ -4,7 +4,7 @@ ghost use Rattle.tpcc_rows.specs.Opening.{plain_customer, plain_history};
 
 use super::address::plain_address;
 use crate::layout::{TableRows, push};
-use crate::texts::{credit, numbered};
+use crate::texts::{credit, numbered_text};
 use tpcc_draws::last_name;
 use tpcc_money::{Cents, Moment, NoMemory, Rate};
 use tpcc_rows::rows::{CustomerRow, HistoryRow};
@@ -19,11 +19,11 @@ fn plain_customer(warehouse: u32, district: u32, number: u32) -> CustomerRow
         id: number,
         district,
         warehouse,
-        first: numbered(b"FIRST", 4, 9999 - number),
+        first: numbered_text(b"FIRST", 4, 9999 - number),
         middle: Text::of(b"OE"),
         last: last_name((number - 1) % 3),
         address: plain_address(),
-        phone: numbered(b"", 16, number),
+        phone: numbered_text(b"", 16, number),
         since: Moment::new(0),
         credit: credit(number % 10 == 0),
         credit_limit: Cents::new(5_000_000),

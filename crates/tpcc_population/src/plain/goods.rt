@@ -4,7 +4,7 @@ ghost use Rattle.std.specs.List.{range_with_len};
 ghost use Rattle.tpcc_rows.specs.Opening.{plain_item, plain_stock, plain_district_information};
 
 use crate::layout::{TableRows, push};
-use crate::texts::{district_information, numbered};
+use crate::texts::{district_information, numbered_text};
 use tpcc_money::{Cents, NoMemory};
 use tpcc_rows::rows::{ItemRow, StockRow};
 use tpcc_rows::text::Text;
@@ -17,7 +17,7 @@ fn plain_item(number: u32) -> ItemRow
     ItemRow {
         id: number,
         image: 1 + (number - 1) % 10000,
-        name: numbered(b"ITEMNAME", 6, number),
+        name: numbered_text(b"ITEMNAME", 6, number),
         price: Cents::new(i64::from(100 + (number - 1) % 9901)),
         information: Text::of(if number % 10 == 0 {
             b"ORIGINALiiiiiiiiiiiiiiiiii"

@@ -5,7 +5,7 @@ ghost use Rattle.tpcc_rows.specs.Opening.{plain_warehouse, plain_district};
 use super::address::plain_address;
 use crate::layout::{TableRows, push};
 use crate::scale::Scale;
-use crate::texts::numbered;
+use crate::texts::numbered_text;
 use tpcc_money::{Cents, NoMemory, Rate};
 use tpcc_rows::rows::{DistrictRow, WarehouseRow};
 
@@ -15,7 +15,7 @@ fn plain_warehouse(scale: &Scale, number: u32) -> WarehouseRow
 {
     WarehouseRow {
         id: number,
-        name: numbered(b"WARE", 3, number),
+        name: numbered_text(b"WARE", 3, number),
         address: plain_address(),
         tax: Rate::new(1000),
         ytd: Cents::new(i64::from(scale.customers()) * 10000),
@@ -30,7 +30,7 @@ fn plain_district(scale: &Scale, warehouse: u32, number: u32) -> DistrictRow
     DistrictRow {
         id: number,
         warehouse,
-        name: numbered(b"DIST", 2, number),
+        name: numbered_text(b"DIST", 2, number),
         address: plain_address(),
         tax: Rate::new(number as u16 * 100),
         ytd: Cents::new(i64::from(customers) * 1000),

@@ -8,7 +8,7 @@ use super::goods::{PlainItems, PlainStocks};
 use super::homes::{PlainDistricts, PlainWarehouses};
 use super::lines::PlainOrderLines;
 use super::orders::PlainOrders;
-use crate::layout::{by_district, by_number, by_warehouse};
+use crate::layout::{fill_by_district, fill_by_number, fill_by_warehouse};
 use crate::new_orders::NewOrders;
 use crate::scale::Scale;
 use std::alloc::Global;
@@ -22,21 +22,21 @@ use tpcc_rows::rows::{
 pub(crate) fn plain_warehouses(alloc: Global, scale: Scale) -> Result<Vec<WarehouseRow>, NoMemory>
     ensures rows { IfOk result (λ v. v.items ≡ (laid_out scale (plain_rules scale)).warehouses) }
 {
-    by_number(alloc, &PlainWarehouses { scale }, scale.warehouses())
+    fill_by_number(alloc, &PlainWarehouses { scale }, scale.warehouses())
 }
 
 /// DISTRICT.
 pub(crate) fn plain_districts(alloc: Global, scale: Scale) -> Result<Vec<DistrictRow>, NoMemory>
     ensures rows { IfOk result (λ v. v.items ≡ (laid_out scale (plain_rules scale)).districts) }
 {
-    by_warehouse(alloc, &PlainDistricts { scale }, scale.warehouses(), 10)
+    fill_by_warehouse(alloc, &PlainDistricts { scale }, scale.warehouses(), 10)
 }
 
 /// CUSTOMER.
 pub(crate) fn plain_customers(alloc: Global, scale: Scale) -> Result<Vec<CustomerRow>, NoMemory>
     ensures rows { IfOk result (λ v. v.items ≡ (laid_out scale (plain_rules scale)).customers) }
 {
-    by_district(
+    fill_by_district(
         alloc,
         &PlainCustomers,
         scale.warehouses(),
@@ -49,7 +49,7 @@ pub(crate) fn plain_customers(alloc: Global, scale: Scale) -> Result<Vec<Custome
 pub(crate) fn plain_histories(alloc: Global, scale: Scale) -> Result<Vec<HistoryRow>, NoMemory>
     ensures rows { IfOk result (λ v. v.items ≡ (laid_out scale (plain_rules scale)).histories) }
 {
-    by_district(
+    fill_by_district(
         alloc,
         &PlainHistories,
         scale.warehouses(),
@@ -62,7 +62,7 @@ pub(crate) fn plain_histories(alloc: Global, scale: Scale) -> Result<Vec<History
 pub(crate) fn plain_orders(alloc: Global, scale: Scale) -> Result<Vec<OrderRow>, NoMemory>
     ensures rows { IfOk result (λ v. v.items ≡ (laid_out scale (plain_rules scale)).orders) }
 {
-    by_district(
+    fill_by_district(
         alloc,
         &PlainOrders { scale },
         scale.warehouses(),
@@ -75,7 +75,7 @@ pub(crate) fn plain_orders(alloc: Global, scale: Scale) -> Result<Vec<OrderRow>,
 pub(crate) fn plain_order_lines(alloc: Global, scale: Scale) -> Result<Vec<OrderLineRow>, NoMemory>
     ensures rows { IfOk result (λ v. v.items ≡ (laid_out scale (plain_rules scale)).order_lines) }
 {
-    by_district(
+    fill_by_district(
         alloc,
         &PlainOrderLines { scale },
         scale.warehouses(),
@@ -88,7 +88,7 @@ pub(crate) fn plain_order_lines(alloc: Global, scale: Scale) -> Result<Vec<Order
 pub(crate) fn plain_new_orders(alloc: Global, scale: Scale) -> Result<Vec<NewOrderRow>, NoMemory>
     ensures rows { IfOk result (λ v. v.items ≡ (laid_out scale (plain_rules scale)).new_orders) }
 {
-    by_district(
+    fill_by_district(
         alloc,
         &NewOrders,
         scale.warehouses(),
@@ -101,12 +101,12 @@ pub(crate) fn plain_new_orders(alloc: Global, scale: Scale) -> Result<Vec<NewOrd
 pub(crate) fn plain_items(alloc: Global, scale: Scale) -> Result<Vec<ItemRow>, NoMemory>
     ensures rows { IfOk result (λ v. v.items ≡ (laid_out scale (plain_rules scale)).items) }
 {
-    by_number(alloc, &PlainItems, scale.items())
+    fill_by_number(alloc, &PlainItems, scale.items())
 }
 
 /// STOCK.
 pub(crate) fn plain_stocks(alloc: Global, scale: Scale) -> Result<Vec<StockRow>, NoMemory>
     ensures rows { IfOk result (λ v. v.items ≡ (laid_out scale (plain_rules scale)).stocks) }
 {
-    by_warehouse(alloc, &PlainStocks, scale.warehouses(), scale.items())
+    fill_by_warehouse(alloc, &PlainStocks, scale.warehouses(), scale.items())
 }

@@ -9,7 +9,7 @@ use super::goods::{SeededItems, SeededStocks};
 use super::homes::{SeededDistricts, SeededWarehouses};
 use super::lines::SeededOrderLines;
 use super::orders::SeededOrders;
-use crate::layout::{by_district, by_number, by_warehouse};
+use crate::layout::{fill_by_district, fill_by_number, fill_by_warehouse};
 use crate::new_orders::NewOrders;
 use std::alloc::Global;
 use tpcc_money::NoMemory;
@@ -22,14 +22,14 @@ use tpcc_rows::rows::{
 pub(crate) fn seeded_warehouses(alloc: Global, seed: Seed) -> Result<Vec<WarehouseRow>, NoMemory>
     ensures rows { IfOk result (λ v. v.items ≡ (laid_out seed.scale (seeded_rules seed)).warehouses) }
 {
-    by_number(alloc, &SeededWarehouses { seed }, seed.scale.warehouses())
+    fill_by_number(alloc, &SeededWarehouses { seed }, seed.scale.warehouses())
 }
 
 /// DISTRICT.
 pub(crate) fn seeded_districts(alloc: Global, seed: Seed) -> Result<Vec<DistrictRow>, NoMemory>
     ensures rows { IfOk result (λ v. v.items ≡ (laid_out seed.scale (seeded_rules seed)).districts) }
 {
-    by_warehouse(
+    fill_by_warehouse(
         alloc,
         &SeededDistricts { seed },
         seed.scale.warehouses(),
@@ -41,7 +41,7 @@ pub(crate) fn seeded_districts(alloc: Global, seed: Seed) -> Result<Vec<District
 pub(crate) fn seeded_customers(alloc: Global, seed: Seed) -> Result<Vec<CustomerRow>, NoMemory>
     ensures rows { IfOk result (λ v. v.items ≡ (laid_out seed.scale (seeded_rules seed)).customers) }
 {
-    by_district(
+    fill_by_district(
         alloc,
         &SeededCustomers { seed },
         seed.scale.warehouses(),
@@ -54,7 +54,7 @@ pub(crate) fn seeded_customers(alloc: Global, seed: Seed) -> Result<Vec<Customer
 pub(crate) fn seeded_histories(alloc: Global, seed: Seed) -> Result<Vec<HistoryRow>, NoMemory>
     ensures rows { IfOk result (λ v. v.items ≡ (laid_out seed.scale (seeded_rules seed)).histories) }
 {
-    by_district(
+    fill_by_district(
         alloc,
         &SeededHistories { seed },
         seed.scale.warehouses(),
@@ -67,7 +67,7 @@ pub(crate) fn seeded_histories(alloc: Global, seed: Seed) -> Result<Vec<HistoryR
 pub(crate) fn seeded_orders(alloc: Global, seed: Seed) -> Result<Vec<OrderRow>, NoMemory>
     ensures rows { IfOk result (λ v. v.items ≡ (laid_out seed.scale (seeded_rules seed)).orders) }
 {
-    by_warehouse(
+    fill_by_warehouse(
         alloc,
         &SeededOrders { seed, alloc },
         seed.scale.warehouses(),
@@ -79,7 +79,7 @@ pub(crate) fn seeded_orders(alloc: Global, seed: Seed) -> Result<Vec<OrderRow>, 
 pub(crate) fn seeded_order_lines(alloc: Global, seed: Seed) -> Result<Vec<OrderLineRow>, NoMemory>
     ensures rows { IfOk result (λ v. v.items ≡ (laid_out seed.scale (seeded_rules seed)).order_lines) }
 {
-    by_district(
+    fill_by_district(
         alloc,
         &SeededOrderLines { seed },
         seed.scale.warehouses(),
@@ -93,7 +93,7 @@ pub(crate) fn seeded_new_orders(alloc: Global, seed: Seed) -> Result<Vec<NewOrde
     ensures rows { IfOk result (λ v. v.items ≡ (laid_out seed.scale (seeded_rules seed)).new_orders) }
 {
     let scale = seed.scale;
-    by_district(
+    fill_by_district(
         alloc,
         &NewOrders,
         scale.warehouses(),
@@ -106,14 +106,14 @@ pub(crate) fn seeded_new_orders(alloc: Global, seed: Seed) -> Result<Vec<NewOrde
 pub(crate) fn seeded_items(alloc: Global, seed: Seed) -> Result<Vec<ItemRow>, NoMemory>
     ensures rows { IfOk result (λ v. v.items ≡ (laid_out seed.scale (seeded_rules seed)).items) }
 {
-    by_number(alloc, &SeededItems { seed }, seed.scale.items())
+    fill_by_number(alloc, &SeededItems { seed }, seed.scale.items())
 }
 
 /// STOCK.
 pub(crate) fn seeded_stocks(alloc: Global, seed: Seed) -> Result<Vec<StockRow>, NoMemory>
     ensures rows { IfOk result (λ v. v.items ≡ (laid_out seed.scale (seeded_rules seed)).stocks) }
 {
-    by_warehouse(
+    fill_by_warehouse(
         alloc,
         &SeededStocks { seed },
         seed.scale.warehouses(),

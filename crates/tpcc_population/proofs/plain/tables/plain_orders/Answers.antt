@@ -5,6 +5,6 @@ use Rattle.tpcc_population.proofs.plain.tables.plain_orders.Goals as goal
 
 pub returns : goal.returns
 returns c =
-    let Rows = λ (n m : ℕ). IfOk c.by_district.result (λ v. v.items ≡ each 1 n (λ w. each 1 10 (λ d. one_each 1 m (plain_order c.args.scale w d)))) in
-    let placed = subst (λ n. Rows n c.customers.result) c.warehouses.ensures.value c.by_district.ensures in
+    let Rows = λ (n m : ℕ). IfOk c.fill_by_district.result (λ v. v.items ≡ each 1 n (λ w. each 1 10 (λ d. one_each 1 m (plain_order c.args.scale w d)))) in
+    let placed = subst (λ n. Rows n c.customers.result) c.warehouses.ensures.value c.fill_by_district.ensures in
     record { rows = subst (λ m. Rows c.args.scale.warehouses m) c.customers.ensures.value placed }

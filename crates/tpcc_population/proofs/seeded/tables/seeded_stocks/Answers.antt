@@ -5,8 +5,8 @@ use Rattle.tpcc_population.proofs.seeded.tables.seeded_stocks.Goals as goal
 
 pub returns : goal.returns
 returns c =
-    let Rows = λ (n m : ℕ). IfOk c.by_warehouse.result (λ v. v.items ≡ each 1 n (λ w. one_each 1 m (seeded_stock c.args.seed w))) in
+    let Rows = λ (n m : ℕ). IfOk c.fill_by_warehouse.result (λ v. v.items ≡ each 1 n (λ w. one_each 1 m (seeded_stock c.args.seed w))) in
     let warehouses : c.warehouses.result ≡ c.args.seed.scale.warehouses = search rules in
     let items : c.items.result ≡ c.args.seed.scale.items = search rules in
-    let placed = subst (λ n. Rows n c.items.result) warehouses c.by_warehouse.ensures in
+    let placed = subst (λ n. Rows n c.items.result) warehouses c.fill_by_warehouse.ensures in
     record { rows = subst (λ m. Rows c.args.seed.scale.warehouses m) items placed }

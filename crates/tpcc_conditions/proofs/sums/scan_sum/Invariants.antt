@@ -1,7 +1,7 @@
 use Rattle.std.proofs.Common.{◌≡◌, ◌*◌, ◌^◌, pos, ◌≤ℤ◌}
 use Rattle.std.specs.Prelude.{neg_ℤ}
 use Rattle.tpcc_conditions.specs.Columns.{sum_to}
-use Rattle.tpcc_conditions.proofs.sums.scanned.Given as goal
+use Rattle.tpcc_conditions.proofs.sums.scan_sum.Given as goal
 
 abbrev pub invariant-loop-position : goal.invariant-loop-position
 invariant-loop-position l = record {

@@ -1,7 +1,7 @@
 use Rattle.std.proofs.Common.{rules, arith, ap}
 use Rattle.std.specs.Prelude.{length}
 use Rattle.std.proofs.lemmas.Fmt.{length-decimal-le}
-use Rattle.tpcc_population.proofs.texts.numbered.Goals as goal
+use Rattle.tpcc_population.proofs.texts.numbered_text.Goals as goal
 
 pub extend_padded-requires : goal.extend_padded-requires
 extend_padded-requires g c = (

@@ -1,7 +1,7 @@
 use Rattle.std.proofs.Common.{arith}
 use Rattle.std.proofs.lemmas.Int.{ints, to_z-of_z}
 use Rattle.tpcc_conditions.proofs.SumLemmas.{next_term, no_term}
-use Rattle.tpcc_conditions.proofs.sums.scanned.Goals as goal
+use Rattle.tpcc_conditions.proofs.sums.scan_sum.Goals as goal
 
 pub loop-position-init : goal.loop-position-init
 loop-position-init c = record {

@@ -1,5 +1,5 @@
 use Rattle.std.proofs.Common.{◌≡◌, take, length}
-use Rattle.tpcc_tables.proofs.copies.copied.Given as goal
+use Rattle.tpcc_tables.proofs.copies.copy_lines.Given as goal
 
 abbrev pub invariant-loop-line : goal.invariant-loop-line
 invariant-loop-line l = record {

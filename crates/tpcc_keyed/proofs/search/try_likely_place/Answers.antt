@@ -1,6 +1,6 @@
 use Rattle.std.proofs.Common.{◌∙◌, sym}
 use Rattle.tpcc_keyed.proofs.SearchLemmas.{some_at, guessed_there}
-use Rattle.tpcc_keyed.proofs.search.guessed.Goals as goal
+use Rattle.tpcc_keyed.proofs.search.try_likely_place.Goals as goal
 
 pub returns-then-has_key : goal.returns-then-has_key
 returns-then-has_key g c =

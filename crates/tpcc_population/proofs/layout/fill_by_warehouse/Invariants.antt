@@ -1,6 +1,6 @@
 use Rattle.std.proofs.Common.{◌≡◌, ◌≤◌, ◌-◌}
 use Rattle.tpcc_rows.specs.Layout.{each}
-use Rattle.tpcc_population.proofs.layout.by_warehouse.Given as goal
+use Rattle.tpcc_population.proofs.layout.fill_by_warehouse.Given as goal
 
 abbrev pub invariant-loop-warehouse : goal.invariant-loop-warehouse
 invariant-loop-warehouse g l = record {

@@ -1,6 +1,6 @@
 use Rattle.std.proofs.Common.{rules, arith, ap, ◌∙◌, sym, ◌++◌, ◌∷◌, [], ◌+◌, length}
 use Rattle.std.proofs.lemmas.List.{length-append, take_all, take_more}
-use Rattle.tpcc_tables.proofs.copies.copied.Goals as goal
+use Rattle.tpcc_tables.proofs.copies.copy_lines.Goals as goal
 
 pub push-requires : goal.push-requires
 push-requires c = (search rules, omega (arith, c.loop-line.invariant.count, c.loop-line-test.true, c.requires.few))
