@@ -11,7 +11,7 @@ use crate::event::Event;
 use crate::fault::CoreFault;
 use crate::mailbox::Collected;
 use crate::opening;
-use crate::seat::{Seat, refused};
+use crate::seat::{Seat, refuse};
 use crate::server::{Server, give_answer, serve_letter, take_letter};
 use std::alloc::Global;
 use std::marker::Model;
@@ -140,7 +140,7 @@ impl<N: Naming> Desk<N> {
     {
         match place(self.seats.as_slice(), terminal) {
             Some(seat) => self.seats[seat].post(request),
-            None => Err(refused(request, CoreFault::NotReady)),
+            None => Err(refuse(request, CoreFault::NotReady)),
         }
     }
 

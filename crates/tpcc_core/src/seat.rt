@@ -90,13 +90,13 @@ impl<P: Drop> Seat<P> {
         ensures same { OnErr result (self.new ≡ self.old) }
     {
         if !self.is_free() {
-            return Err(refused(request, CoreFault::NotReady));
+            return Err(refuse(request, CoreFault::NotReady));
         }
         if self.collected.reserve(1).is_err() {
-            return Err(refused(request, CoreFault::NoMemory));
+            return Err(refuse(request, CoreFault::NoMemory));
         }
         let old = mem::replace(&mut self.mailbox, Mailbox::Taken(0));
-        let_go(mem::replace(&mut self.mailbox, sent(old, request)));
+        let_go(mem::replace(&mut self.mailbox, send(old, request)));
         Ok(())
     }
 
@@ -166,7 +166,7 @@ fn keep(collected: &mut Vec<Collected>, one: Collected)
 }
 
 // A request that was not posted.
-pub(crate) fn refused(request: Request, fault: CoreFault) -> CoreFault
+pub(crate) fn refuse(request: Request, fault: CoreFault) -> CoreFault
     ensures { result ≡ fault }
 {
     let _request = request;
@@ -174,22 +174,22 @@ pub(crate) fn refused(request: Request, fault: CoreFault) -> CoreFault
 }
 
 // The purse of a free mailbox goes into it with a request.
-fn sent<P: Drop>(mailbox: Mailbox<P>, request: Request) -> Mailbox<P>
+fn send<P: Drop>(mailbox: Mailbox<P>, request: Request) -> Mailbox<P>
     ensures { result ≡ sent mailbox request }
 {
     match mailbox {
-        Mailbox::Free(purse) => posted(request, purse),
-        other => kept(request, other),
+        Mailbox::Free(purse) => post_letter(request, purse),
+        other => keep_mailbox(request, other),
     }
 }
 
-fn posted<P: Drop>(request: Request, purse: P) -> Mailbox<P>
+fn post_letter<P: Drop>(request: Request, purse: P) -> Mailbox<P>
     ensures { result ≡ Mailbox.Posted (record { request = request; purse = purse }) }
 {
     Mailbox::Posted(Letter { request, purse })
 }
 
-fn kept<P: Drop>(request: Request, mailbox: Mailbox<P>) -> Mailbox<P>
+fn keep_mailbox<P: Drop>(request: Request, mailbox: Mailbox<P>) -> Mailbox<P>
     ensures { result ≡ mailbox }
 {
     let _request = request;
