@@ -4,6 +4,7 @@ ghost use Rattle.tpcc_rows.specs.Opening.{plain_rows};
 ghost use Rattle.tpcc_tables.specs.Listed.{listed};
 ghost use Rattle.tpcc_population.specs.Opening.{opening_rows, seeded_rows, IsSoundOpening};
 
+use crate::lists::{GoodsLists, HomeLists, OrderLists, join};
 use crate::opening::{Opening, plain_is_sound, seeded_is_sound};
 use crate::plain::tables::*;
 use crate::scale::Scale;
@@ -59,55 +60,106 @@ fn is_sound(seed: Seed)
 
 // ORDER-LINE comes first: while its rows stand twice, the other tables take no memory yet.
 #[tactic(auto, unfolding(tpcc_rows::specs::Opening::plain_rows))]
-fn plain_lists(alloc: Global, scale: Scale) -> Result<Lists, NoMemory>
-    ensures rows { IfOk result (λ lists. listed lists ≡ plain_rows scale) }
+fn plain_order_lists(alloc: Global, scale: Scale) -> Result<OrderLists, NoMemory>
+    ensures orders { IfOk result (λ lists. lists.orders.rows ≡ (plain_rows scale).orders) }
+    ensures lines { IfOk result (λ lists. lists.order_lines.rows ≡ (plain_rows scale).order_lines) }
+    ensures new { IfOk result (λ lists. lists.new_orders.rows ≡ (plain_rows scale).new_orders) }
 {
     plain_is_sound(scale);
     let order_lines = Parts::from_sorted(plain_order_lines(alloc, scale)?, alloc)?;
     let orders = Parts::from_sorted(plain_orders(alloc, scale)?, alloc)?;
     let new_orders = Parts::from_sorted(plain_new_orders(alloc, scale)?, alloc)?;
-    let warehouses = plain_warehouses(alloc, scale)?;
-    let districts = plain_districts(alloc, scale)?;
-    let customers = plain_customers(alloc, scale)?;
-    let histories = plain_histories(alloc, scale)?;
-    let items = plain_items(alloc, scale)?;
-    let stocks = plain_stocks(alloc, scale)?;
-    Ok(Lists {
-        warehouses,
-        districts,
-        customers,
-        histories,
+    Ok(OrderLists {
         orders,
         order_lines,
         new_orders,
-        items,
-        stocks,
     })
 }
 
+#[tactic(auto, unfolding(tpcc_rows::specs::Opening::plain_rows))]
+fn plain_home_lists(alloc: Global, scale: Scale) -> Result<HomeLists, NoMemory>
+    ensures warehouses { IfOk result (λ lists. lists.warehouses.items ≡ (plain_rows scale).warehouses) }
+    ensures districts { IfOk result (λ lists. lists.districts.items ≡ (plain_rows scale).districts) }
+    ensures customers { IfOk result (λ lists. lists.customers.items ≡ (plain_rows scale).customers) }
+    ensures histories { IfOk result (λ lists. lists.histories.items ≡ (plain_rows scale).histories) }
+{
+    Ok(HomeLists {
+        warehouses: plain_warehouses(alloc, scale)?,
+        districts: plain_districts(alloc, scale)?,
+        customers: plain_customers(alloc, scale)?,
+        histories: plain_histories(alloc, scale)?,
+    })
+}
+
+#[tactic(auto, unfolding(tpcc_rows::specs::Opening::plain_rows))]
+fn plain_goods_lists(alloc: Global, scale: Scale) -> Result<GoodsLists, NoMemory>
+    ensures items { IfOk result (λ lists. lists.items.items ≡ (plain_rows scale).items) }
+    ensures stocks { IfOk result (λ lists. lists.stocks.items ≡ (plain_rows scale).stocks) }
+{
+    Ok(GoodsLists {
+        items: plain_items(alloc, scale)?,
+        stocks: plain_stocks(alloc, scale)?,
+    })
+}
+
+fn plain_lists(alloc: Global, scale: Scale) -> Result<Lists, NoMemory>
+    ensures rows { IfOk result (λ lists. listed lists ≡ plain_rows scale) }
+{
+    let orders = plain_order_lists(alloc, scale)?;
+    let homes = plain_home_lists(alloc, scale)?;
+    let goods = plain_goods_lists(alloc, scale)?;
+    Ok(join(homes, orders, goods))
+}
+
+// ORDER-LINE comes first: while its rows stand twice, the other tables take no memory yet.
 #[tactic(auto, unfolding(crate::specs::Opening::seeded_rows))]
-fn seeded_lists(alloc: Global, seed: Seed) -> Result<Lists, NoMemory>
-    ensures rows { IfOk result (λ lists. listed lists ≡ seeded_rows seed) }
+fn seeded_order_lists(alloc: Global, seed: Seed) -> Result<OrderLists, NoMemory>
+    ensures orders { IfOk result (λ lists. lists.orders.rows ≡ (seeded_rows seed).orders) }
+    ensures lines { IfOk result (λ lists. lists.order_lines.rows ≡ (seeded_rows seed).order_lines) }
+    ensures new { IfOk result (λ lists. lists.new_orders.rows ≡ (seeded_rows seed).new_orders) }
 {
     is_sound(seed);
     let order_lines = Parts::from_sorted(seeded_order_lines(alloc, seed)?, alloc)?;
     let orders = Parts::from_sorted(seeded_orders(alloc, seed)?, alloc)?;
     let new_orders = Parts::from_sorted(seeded_new_orders(alloc, seed)?, alloc)?;
-    let warehouses = seeded_warehouses(alloc, seed)?;
-    let districts = seeded_districts(alloc, seed)?;
-    let customers = seeded_customers(alloc, seed)?;
-    let histories = seeded_histories(alloc, seed)?;
-    let items = seeded_items(alloc, seed)?;
-    let stocks = seeded_stocks(alloc, seed)?;
-    Ok(Lists {
-        warehouses,
-        districts,
-        customers,
-        histories,
+    Ok(OrderLists {
         orders,
         order_lines,
         new_orders,
-        items,
-        stocks,
     })
+}
+
+#[tactic(auto, unfolding(crate::specs::Opening::seeded_rows))]
+fn seeded_home_lists(alloc: Global, seed: Seed) -> Result<HomeLists, NoMemory>
+    ensures warehouses { IfOk result (λ lists. lists.warehouses.items ≡ (seeded_rows seed).warehouses) }
+    ensures districts { IfOk result (λ lists. lists.districts.items ≡ (seeded_rows seed).districts) }
+    ensures customers { IfOk result (λ lists. lists.customers.items ≡ (seeded_rows seed).customers) }
+    ensures histories { IfOk result (λ lists. lists.histories.items ≡ (seeded_rows seed).histories) }
+{
+    Ok(HomeLists {
+        warehouses: seeded_warehouses(alloc, seed)?,
+        districts: seeded_districts(alloc, seed)?,
+        customers: seeded_customers(alloc, seed)?,
+        histories: seeded_histories(alloc, seed)?,
+    })
+}
+
+#[tactic(auto, unfolding(crate::specs::Opening::seeded_rows))]
+fn seeded_goods_lists(alloc: Global, seed: Seed) -> Result<GoodsLists, NoMemory>
+    ensures items { IfOk result (λ lists. lists.items.items ≡ (seeded_rows seed).items) }
+    ensures stocks { IfOk result (λ lists. lists.stocks.items ≡ (seeded_rows seed).stocks) }
+{
+    Ok(GoodsLists {
+        items: seeded_items(alloc, seed)?,
+        stocks: seeded_stocks(alloc, seed)?,
+    })
+}
+
+fn seeded_lists(alloc: Global, seed: Seed) -> Result<Lists, NoMemory>
+    ensures rows { IfOk result (λ lists. listed lists ≡ seeded_rows seed) }
+{
+    let orders = seeded_order_lists(alloc, seed)?;
+    let homes = seeded_home_lists(alloc, seed)?;
+    let goods = seeded_goods_lists(alloc, seed)?;
+    Ok(join(homes, orders, goods))
 }

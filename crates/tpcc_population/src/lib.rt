@@ -3,6 +3,7 @@
 
 mod filled;
 mod layout;
+mod lists;
 mod new_orders;
 mod opening;
 mod plain;

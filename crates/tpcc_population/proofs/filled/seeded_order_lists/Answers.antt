@@ -3,7 +3,7 @@ use Rattle.std.specs.Prelude.{IsTrue}
 use Rattle.tpcc_rows.specs.Lists.{is_ascending}
 use Rattle.tpcc_rows.specs.Tables.{order_line_key, new_order_key}
 use Rattle.tpcc_population.specs.Opening.{seeded_rows}
-use Rattle.tpcc_population.proofs.filled.seeded_lists.Goals as goal
+use Rattle.tpcc_population.proofs.filled.seeded_order_lists.Goals as goal
 
 same_order : {X : Type 0} (key : X → List ℕ) (xs ys : List X) → xs ≡ ys → IsTrue (is_ascending key ys) → is_ascending key xs ≡ true
 same_order key xs ys e h = ap (is_ascending key) e ∙ h
