@@ -13,12 +13,13 @@ use Rattle.tpcc_draws.specs.declared.cards.Card.TheVariants as cards
 use Rattle.tpcc_rows.specs.declared.rows.CustomerRow.{CustomerRow}
 use Rattle.tpcc_rows.specs.LastName.{syllable, syllables, last_name}
 use Rattle.tpcc_rows.specs.Layout.{Scale, RowRules, laid_out, one_each}
-use Rattle.tpcc_rows.specs.Opening.{plain_customer, plain_rows, plain_rules}
+use Rattle.tpcc_rows.specs.Opening.{plain_rows, plain_rules}
 use Rattle.tpcc_population.specs.declared.opening.Opening.{Opening}
 use Rattle.tpcc_population.specs.declared.opening.Opening.TheVariants.{Plain, Seeded}
 use Rattle.tpcc_population.specs.Opening.{opening_rows, seeded_rows}
-use Rattle.tpcc_population.specs.Seeded.{Seeding, drawn_last, number_in_districts, seeded_customer, seeded_rules}
+use Rattle.tpcc_population.specs.Seeded.{Seeding, drawn_last, number_in_districts, seeded_rules}
 use Rattle.tpcc_terminal.specs.declared.home.Home.{Home}
+use Rattle.tpcc_terminal.specs.declared.drafts.DrawnCustomer.{DrawnCustomer}
 use Rattle.tpcc_terminal.specs.declared.drafts.DrawnCustomer.TheVariants as customers
 use Rattle.tpcc_terminal.specs.Cards.{drawn, drawn_customer, drawn_payment, drawn_status, payer, request_of, who_of}
 use Rattle.tpcc_script.specs.Script.{is_capital, is_last_name}
@@ -79,7 +80,7 @@ nurand_is_below reach constant high s small =
     omega (arith, below)
 
 one_of : (b : Bool) (n k : ℕ) (s t : Stream) → n ≤ 999
-    → is_customer_by_letters (who_of (if b then (customers.Name n, s) else (customers.Number k, t)).0) ≡ true
+    → is_customer_by_letters (who_of (if◌then◌else◌ {A = DrawnCustomer × Stream} b (customers.Name n, s) (customers.Number k, t)).0) ≡ true
 one_of true n k s t small = last_name_is_letters n small
 one_of false n k s t small = refl
 
@@ -92,7 +93,7 @@ customer_by_letters home s =
     one_of (nat_le percent.0 60) n.0 k.0 n.1 k.1 (nurand_is_below 255 187 (min home.scale.customers 1000 - 1) percent.1 (omega arith))
 
 pub drawn_by_letters : (home : Home) (moment : ℕ) (card : Card) (s : Stream) → has_letters (request_of home moment (drawn home card s).0) ≡ true
-unfolding drawn, drawn_payment, drawn_status
+unfolding drawn drawn_payment drawn_status
 drawn_by_letters home moment cards.NewOrder s = refl
 drawn_by_letters home moment cards.Payment s =
     let district = between 1 10 s in
@@ -119,8 +120,8 @@ customers_by_letters s r each =
     (range_with_len 1 s.warehouses)
 
 last_of : (b : Bool) (k : ℕ) (s : Stream) → nat_le k 1000 ≡ b
-    → is_last_name (if b then (last_name (k - 1), s) else (let n = nurand 255 100 0 999 s in (last_name n.0, n.1))).0 ≡ true
-last_of true k s test = last_name_is_letters (k - 1) (omega (arith, nat_tests))
+    → is_last_name (if◌then◌else◌ {A = List ℕ × Stream} b (last_name (k - 1), s) (let n = nurand 255 100 0 999 s in (last_name n.0, n.1))).0 ≡ true
+last_of true k s test = (let few : k ≤ 1000 = grind (arith, nat_tests) in last_name_is_letters (k - 1) (omega (arith, few)))
 last_of false k s test = last_name_is_letters (nurand 255 100 0 999 s).0 (nurand_is_below 255 100 999 s (omega arith))
 
 last_by_letters : (k : ℕ) (s : Stream) → is_last_name (drawn_last k s).0 ≡ true
@@ -128,7 +129,7 @@ unfolding drawn_last
 last_by_letters k s = last_of (nat_le k 1000) k s refl
 
 pub opening_by_letters : (opening : Opening) → list_all (λ c. is_last_name c.last) (opening_rows opening).customers ≡ true
-unfolding plain_rows, seeded_rows
+unfolding plain_rows seeded_rows
 opening_by_letters (Plain scale) =
     customers_by_letters scale (plain_rules scale) (λ w d k. last_name_is_letters ((k - 1) % 3) (omega arith))
 opening_by_letters (Seeded scale seed moment) =
