@@ -7,20 +7,23 @@ ghost use Rattle.tpcc_rows.specs.Tables.{customer_at, order_at};
 ghost use Rattle.tpcc_delivery.specs.Runs.{charge_tests};
 
 use tpcc_money::Cents;
+use tpcc_rows::limits::{GREATEST_COUNT, GREATEST_TOTAL};
 use tpcc_rows::{Field, Refusal};
 use tpcc_tables::tables::Tables;
 
 fn is_count_after(count: u32) -> bool
     ensures { result ≡ is_count (count + 1) }
 {
-    u64::from(count) + 1 <= 999_999_999
+    count < GREATEST_COUNT
 }
 
 fn is_balance_after(balance: Cents, amount: Cents) -> bool
     ensures { result ≡ is_balance (balance +ℤ amount) }
 {
-    let sum = i128::from(balance.value()) + i128::from(amount.value());
-    -999_999_999_999 <= sum && sum <= 999_999_999_999
+    match balance.checked_add(amount) {
+        Some(sum) => -GREATEST_TOTAL <= sum.value() && sum.value() <= GREATEST_TOTAL,
+        None => false,
+    }
 }
 
 #[tactic(auto, unfolding(crate::specs::Runs::charge_tests))]

@@ -1,5 +1,5 @@
 //! Points in time.
-ghost use Rattle.std.specs.Prelude.{◌≡◌, ◌<◌, ◌*◌, pos, IfOk};
+ghost use Rattle.std.specs.Prelude.{◌≡◌, ◌<◌, ◌*◌, pos, nat_le, if◌then◌else◌, IfOk, Some, None};
 ghost use Rattle.jiff.specs.Words.{civil_nanos};
 ghost use Rattle.tpcc_money.specs.Texts.{moment_text};
 
@@ -27,6 +27,20 @@ impl Model for Moment {
 }
 
 impl Moment {
+    /// The last second of 2099, since the start of 1970.
+    pub const LAST_SECOND: u32 = 4_102_444_799;
+
+    /// So many seconds after the start of 1970, if that is before the year 2100.
+    pub fn try_new(seconds: u32) -> Option<Self>
+        ensures { result ≡ (if nat_le seconds 4102444799 then Some seconds else None) }
+    {
+        if seconds <= Moment::LAST_SECOND {
+            Some(Moment::new(seconds))
+        } else {
+            None
+        }
+    }
+
     /// So many seconds after the start of 1970.
     pub fn new(seconds: u32) -> Self
         requires { seconds < 4102444800 }

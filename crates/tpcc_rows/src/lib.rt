@@ -5,6 +5,7 @@
 pub mod entry;
 pub mod few;
 pub mod keys;
+pub mod limits;
 mod numerals;
 pub mod refusals;
 pub mod replies;

@@ -5,6 +5,10 @@ ghost use Rattle.std.specs.List.{list_all};
 ghost use Rattle.tpcc_rows.specs.Ranges as ranges;
 
 use tpcc_money::{Cents, Moment, Rate};
+use tpcc_rows::limits::{
+    GREATEST_CARRIER, GREATEST_COUNT, GREATEST_CUSTOMER, GREATEST_DISTRICT, GREATEST_ITEM,
+    GREATEST_ORDER, GREATEST_STOCK_YTD, GREATEST_TOTAL, GREATEST_WAREHOUSE,
+};
 use tpcc_rows::rows::*;
 use tpcc_rows::text::Text;
 
@@ -23,13 +27,13 @@ fn is_amount_within(low: i64, high: i64, amount: Cents) -> bool
 fn is_total(amount: Cents) -> bool
     ensures { result ≡ ranges.is_total amount }
 {
-    is_amount_within(0, 999_999_999_999, amount)
+    is_amount_within(0, GREATEST_TOTAL, amount)
 }
 
 fn is_balance(amount: Cents) -> bool
     ensures { result ≡ ranges.is_balance amount }
 {
-    is_amount_within(-999_999_999_999, 999_999_999_999, amount)
+    is_amount_within(-GREATEST_TOTAL, GREATEST_TOTAL, amount)
 }
 
 fn is_rate(rate: Rate) -> bool
@@ -41,7 +45,7 @@ fn is_rate(rate: Rate) -> bool
 fn is_moment(moment: Moment) -> bool
     ensures { result ≡ ranges.is_moment moment }
 {
-    is_within(0, 4_102_444_799, moment.seconds())
+    is_within(0, Moment::LAST_SECOND, moment.seconds())
 }
 
 fn is_text<const N: usize>(longest: usize, text: &Text<N>) -> bool
@@ -59,44 +63,44 @@ fn is_exact_text<const N: usize>(long: usize, text: &Text<N>) -> bool
 fn is_warehouse_id(id: u32) -> bool
     ensures { result ≡ ranges.is_warehouse_id id }
 {
-    is_within(1, 100, id)
+    is_within(1, GREATEST_WAREHOUSE, id)
 }
 
 fn is_district_id(id: u32) -> bool
     ensures { result ≡ ranges.is_district_id id }
 {
-    is_within(1, 10, id)
+    is_within(1, GREATEST_DISTRICT, id)
 }
 
 fn is_customer_id(id: u32) -> bool
     ensures { result ≡ ranges.is_customer_id id }
 {
-    is_within(1, 3_000, id)
+    is_within(1, GREATEST_CUSTOMER, id)
 }
 
 fn is_item_id(id: u32) -> bool
     ensures { result ≡ ranges.is_item_id id }
 {
-    is_within(1, 100_000, id)
+    is_within(1, GREATEST_ITEM, id)
 }
 
 fn is_order_id(id: u32) -> bool
     ensures { result ≡ ranges.is_order_id id }
 {
-    is_within(1, 9_999_999, id)
+    is_within(1, GREATEST_ORDER, id)
 }
 
 fn is_count(count: u32) -> bool
     ensures { result ≡ ranges.is_count count }
 {
-    is_within(0, 999_999_999, count)
+    is_within(0, GREATEST_COUNT, count)
 }
 
 fn is_carrier_or_null(carrier: Option<u32>) -> bool
     ensures { result ≡ ranges.is_null_or ranges.is_carrier carrier }
 {
     match carrier {
-        Some(carrier) => is_within(1, 10, carrier),
+        Some(carrier) => is_within(1, GREATEST_CARRIER, carrier),
         None => true,
     }
 }
@@ -243,7 +247,7 @@ pub fn is_stock_row(row: &StockRow) -> bool
         && is_within(10, 100, row.quantity)
         && row.district_information.len() == 10
         && are_district_texts(&row.district_information)
-        && is_within(0, 99_999_999, row.ytd)
+        && is_within(0, GREATEST_STOCK_YTD, row.ytd)
         && is_count(row.order_count)
         && is_count(row.remote_count)
         && is_text(50, &row.information)

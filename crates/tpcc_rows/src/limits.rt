@@ -1,0 +1,28 @@
+//! The greatest values of the columns (1.3, 4.2.2), each once; `specs/Ranges.antt` has the same numbers for the clauses.
+
+/// W_ID.
+pub const GREATEST_WAREHOUSE: u32 = 100;
+
+/// D_ID: each warehouse has ten districts (1.2.1).
+pub const GREATEST_DISTRICT: u32 = 10;
+
+/// C_ID.
+pub const GREATEST_CUSTOMER: u32 = 3_000;
+
+/// I_ID.
+pub const GREATEST_ITEM: u32 = 100_000;
+
+/// O_ID, and D_NEXT_O_ID, which no order takes once it is there.
+pub const GREATEST_ORDER: u32 = 9_999_999;
+
+/// O_CARRIER_ID.
+pub const GREATEST_CARRIER: u32 = 10;
+
+/// C_PAYMENT_CNT, C_DELIVERY_CNT, S_ORDER_CNT and S_REMOTE_CNT.
+pub const GREATEST_COUNT: u32 = 999_999_999;
+
+/// S_YTD.
+pub const GREATEST_STOCK_YTD: u32 = 99_999_999;
+
+/// W_YTD, D_YTD, C_BALANCE, C_YTD_PAYMENT and C_CREDIT_LIM, in cents: 9,999,999,999.99. A balance may be as far below zero.
+pub const GREATEST_TOTAL: i64 = 999_999_999_999;
