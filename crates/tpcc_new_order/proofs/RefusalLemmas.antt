@@ -1,7 +1,7 @@
 -- Why the input of an order is refused, look-up by look-up.
-use Rattle.std.proofs.Common.{◌≡◌, List, ◌∷◌, refl, sym, ◌∙◌, ap, Bool, Option, Some, None, Bor}
+use Rattle.std.proofs.Common.{◌≡◌, List, ◌∷◌, refl, sym, ◌∙◌, ap, Bool, true, false, Option, Some, None, Bor}
 use Rattle.std.specs.Prelude.{is_none}
-use Rattle.std.specs.Option.{option_copied}
+use Rattle.std.specs.Option.{option_copied, IsSome}
 use Rattle.tpcc_rows.specs.declared.rows.WarehouseRow.{WarehouseRow}
 use Rattle.tpcc_rows.specs.declared.rows.DistrictRow.{DistrictRow}
 use Rattle.tpcc_rows.specs.declared.rows.CustomerRow.{CustomerRow}
@@ -10,7 +10,8 @@ use Rattle.tpcc_rows.specs.declared.refusals.Refusal.{Refusal}
 use Rattle.tpcc_rows.specs.declared.refusals.Refusal.TheVariants.{NoWarehouse, NoDistrict, NoCustomer}
 use Rattle.tpcc_rows.specs.Lists.{first_finding}
 use Rattle.tpcc_rows.specs.Tables.{Rows, find_warehouse, find_district, find_customer}
-use Rattle.tpcc_rows.specs.NewOrder.{order_number, order_refusal_by_input, order_input_tests, order_refusal_by_range, order_range_tests, stocks_after}
+use Rattle.tpcc_rows.specs.NewOrder.{order_number, order_refusal, order_refusal_by_input, order_input_tests, order_refusal_by_range, order_range_tests, stocks_after}
+use Rattle.tpcc_laws.proofs.TurnKeeps.{all_false, first_none}
 use Rattle.tpcc_new_order.specs.Tests.{line_tests, overruns_of, range_tests}
 
 -- the refusal by the three look-ups and the tests of the lines
@@ -45,3 +46,13 @@ copied r f x e h = sym e ∙ ap option_copied h
 
 pub copied_none : {T : Type 0} (r : Option (Bor T)) (f : Option T) → option_copied r ≡ f → r ≡ None → f ≡ None
 copied_none r f e h = sym e ∙ ap option_copied h
+
+pub there : {T : Type 0} (r : Option (Bor T)) (f : Option T) → option_copied r ≡ f → is_none f ≡ false → IsSome r
+there None f e h = let no : true ≡ false = (λ i. is_none (e i)) ∙ h in cc
+there (Some x) f e h = refl
+
+-- the three rows of an order that nothing refuses are there
+pub rows_there : (rows : Rows) (o : Order) → order_refusal rows o ≡ None → (is_none (find_warehouse rows o.warehouse) ≡ false) × (is_none (find_district rows o.warehouse o.district) ≡ false) × (is_none (find_customer rows o.warehouse o.district o.customer) ≡ false)
+unfolding order_input_tests
+rows_there rows o none =
+    let t = all_false (order_input_tests rows o) (first_none (order_refusal_by_input rows o) _ none) in (t.0, t.1.0, t.1.1.0)

@@ -1,49 +1,37 @@
--- What a prepared order is: what it writes, if anything, and what it shows.
-use Rattle.std.specs.Prelude.{◌≡◌, ◌==◌, ◌<◌, ℕ, ℤ, List, length, Option, Some, None, true}
+-- What a prepared order is, and what is made of the rows that it names.
+use Rattle.std.specs.Prelude.{◌≡◌, ◌==◌, ◌<◌, ℕ, ℤ, List, length, take, None, true, false}
 use Rattle.std.specs.List.{list_all}
-use Rattle.tpcc_rows.specs.declared.rows.OrderRow.{OrderRow}
-use Rattle.tpcc_money.specs.Amounts.{order_total}
+use Rattle.tpcc_money.specs.Amounts.{line_amount}
 use Rattle.tpcc_rows.specs.declared.rows.WarehouseRow.{WarehouseRow}
 use Rattle.tpcc_rows.specs.declared.rows.DistrictRow.{DistrictRow}
 use Rattle.tpcc_rows.specs.declared.rows.CustomerRow.{CustomerRow}
+use Rattle.tpcc_rows.specs.declared.rows.ItemRow.{ItemRow}
+use Rattle.tpcc_rows.specs.declared.rows.StockRow.{StockRow}
+use Rattle.tpcc_rows.specs.declared.rows.OrderRow.{OrderRow}
+use Rattle.tpcc_rows.specs.declared.rows.OrderLineRow.{OrderLineRow}
 use Rattle.tpcc_rows.specs.declared.requests.Order.{Order}
+use Rattle.tpcc_rows.specs.declared.requests.Line.{Line}
 use Rattle.tpcc_rows.specs.declared.replies.EnteredLine.{EnteredLine}
 use Rattle.tpcc_rows.specs.declared.replies.AcceptedOrder.{AcceptedOrder}
 use Rattle.tpcc_rows.specs.declared.replies.RolledBackOrder.{RolledBackOrder}
 use Rattle.tpcc_rows.specs.Tables.{Rows}
-use Rattle.tpcc_rows.specs.NewOrder.{order_refusal, order_reply, rows_after_order, is_rolled_back}
-use Rattle.tpcc_tables.specs.Writes.{with_entered_order, IsOrderOf}
-use Rattle.tpcc_new_order.specs.declared.written.NewRows.{NewRows}
+use Rattle.tpcc_rows.specs.NewOrder.{brand_of, district_information_of, is_rolled_back, stock_after}
 use Rattle.tpcc_new_order.specs.declared.transaction.Prepared.{Prepared}
+use Rattle.tpcc_new_order.specs.declared.transaction.Prepared.TheVariants.{Enter, RollBack}
 
--- the rows of an order that is entered; an order that is rolled back has none
-abbrev pub AreRowsOf : Rows → Order → Option NewRows → Type 0
-AreRowsOf rows order None = is_rolled_back rows order ≡ true
-AreRowsOf rows order (Some new) = IsOrderOf rows new.order new.lines order
-
--- the tables with these rows written, if there are any
-abbrev pub with_new_rows : Rows → Option NewRows → Rows
-with_new_rows rows None = rows
-with_new_rows rows (Some new) = with_entered_order rows new.order new.lines
-
--- what finishing writes and shows is what the order does and shows
-pub record IsPrepared (rows : Rows) (order : Order) (prepared : Prepared) : Type 0 where
-  pub accepted : order_refusal rows order ≡ None
-  pub writes : AreRowsOf rows order prepared.rows
-  pub after : with_new_rows rows prepared.rows ≡ rows_after_order rows order
-  pub reply : prepared.reply ≡ order_reply rows order
+-- an order is entered unless an unused item rolls it back
+abbrev pub IsPrepared : Rows → Order → Prepared → Type 0
+IsPrepared rows order Enter = is_rolled_back rows order ≡ false
+IsPrepared rows order RollBack = is_rolled_back rows order ≡ true
 
 -- there is room for the rows, if there are any
-abbrev pub HasRoomForRows : ℕ → Option NewRows → Type 0
-HasRoomForRows room None = Unit {0}
-HasRoomForRows room (Some new) = length new.lines < room
+abbrev pub HasRoom : ℕ → Order → Prepared → Type 0
+HasRoom room order Enter = length order.lines < room
+HasRoom room order RollBack = Unit {0}
 
-abbrev pub HasRoom : ℕ → Prepared → Type 0
-HasRoom room prepared = HasRoomForRows room prepared.rows
-
--- what is shown, of the three rows, the sum of the lines' amounts and the lines as shown
+-- what is shown, of the three rows, the order's total and the lines as shown
 abbrev pub accepted_from : Order → WarehouseRow → DistrictRow → CustomerRow → ℤ → List EnteredLine → AcceptedOrder
-accepted_from order w d c sum shown =
+accepted_from order w d c total shown =
     record {
       warehouse = order.warehouse;
       district = order.district;
@@ -56,13 +44,44 @@ accepted_from order w d c sum shown =
       warehouse_tax = w.tax;
       district_tax = d.tax;
       entry_date = order.moment;
-      total = order_total sum c.discount w.tax d.tax;
+      total = total;
       lines = shown;
     }
 
 abbrev pub rolled_back_from : Order → DistrictRow → CustomerRow → RolledBackOrder
 rolled_back_from order d c =
     record { warehouse = order.warehouse; district = order.district; customer = order.customer; last = c.last; credit = c.credit; order = d.next_order }
+
+-- the line with that number as the terminal shows it, of its ITEM and STOCK row
+abbrev pub entered_line_from : Order → ℕ → Line → ItemRow → StockRow → EnteredLine
+entered_line_from order number l i s =
+    record {
+      number = number;
+      supply = l.supply;
+      item = l.item;
+      name = i.name;
+      quantity = l.quantity;
+      stock = (stock_after order.warehouse (take number order.lines) s).quantity;
+      brand = brand_of i s;
+      price = i.price;
+      amount = line_amount i.price l.quantity;
+    }
+
+-- the ORDER-LINE row of a line that is so shown, in the order of that id
+abbrev pub order_line_from : Order → ℕ → EnteredLine → StockRow → OrderLineRow
+order_line_from order id shown s =
+    record {
+      order = id;
+      district = order.district;
+      warehouse = order.warehouse;
+      number = shown.number;
+      item = shown.item;
+      supply = shown.supply;
+      delivered = None;
+      quantity = shown.quantity;
+      amount = shown.amount;
+      district_information = district_information_of s order.district;
+    }
 
 -- the ORDER row of the order with that number
 abbrev pub order_row_from : ℕ → Order → OrderRow

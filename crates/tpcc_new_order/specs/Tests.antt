@@ -10,7 +10,7 @@ use Rattle.tpcc_rows.specs.declared.refusals.Field.TheVariants.{StockOrders, Rem
 use Rattle.tpcc_rows.specs.Ranges.{is_within, is_count, greatest_order, greatest_stock_ytd}
 use Rattle.tpcc_rows.specs.Tables.{Rows, find_warehouse, find_district, find_customer}
 use Rattle.tpcc_rows.specs.NewOrder.{order_refusal_by_input}
-use Rattle.tpcc_new_order.specs.declared.named.NamedRows.{NamedRows}
+use Rattle.tpcc_new_order.specs.declared.named_rows.NamedRows.{NamedRows}
 use Rattle.tpcc_new_order.specs.declared.ranges.Overruns.{Overruns}
 use Rattle.tpcc_new_order.specs.declared.supply.StockNumbers.{StockNumbers}
 

@@ -5,14 +5,13 @@ mod amounts;
 mod brand;
 mod lines;
 mod lookups;
-mod named;
+mod named_rows;
 mod ranges;
 mod replies;
+mod rows;
 mod supply;
 pub mod transaction;
-mod written;
 
 pub use tpcc_rows::replies::Entered;
 pub use tpcc_rows::requests::{Line, Order};
 pub use transaction::{Prepared, enter, finish, prepare};
-pub use written::NewRows;

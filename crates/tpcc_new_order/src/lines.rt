@@ -1,18 +1,21 @@
 //! The values of an order's lines (2.4.2.2, 2.4.3.3).
-ghost use Rattle.std.specs.Prelude.{◌≡◌, ◌≤◌, true, map, length};
-ghost use Rattle.std.specs.List.{enumerate_from};
-ghost use Rattle.tpcc_rows.specs.Ranges.{is_within, is_stock_row};
-ghost use Rattle.tpcc_rows.specs.NewOrder.{district_information_of, entered_line, order_line_row, order_number};
-ghost use Rattle.tpcc_new_order.specs.Supplied.{is_servable_line, IsServable};
+ghost use Rattle.std.specs.Prelude.{◌≡◌, ◌≤◌, ◌≤ℤ◌, [], true, map, length, pos};
+ghost use Rattle.std.specs.List.{enumerate_from, list_all};
+ghost use Rattle.tpcc_money.specs.Amounts.{total};
+ghost use Rattle.tpcc_rows.specs.Ranges.{is_within, is_item_row, is_stock_row};
+ghost use Rattle.tpcc_rows.specs.NewOrder.{amount_of, district_information_of, entered_line, order_line_rows, order_number};
+ghost use Rattle.tpcc_new_order.specs.Supplied.{IsServable};
+ghost use Rattle.tpcc_new_order.specs.Prepares.{entered_line_from, order_line_from};
 
 use crate::amounts::amount;
 use crate::brand::brand;
 use crate::lookups::{item_of, stock_of};
 use crate::supply::numbers_after;
+use tpcc_money::Cents;
 use tpcc_rows::few::Few;
 use tpcc_rows::replies::{EnteredLine, EnteredLines};
 use tpcc_rows::requests::{Line, Order};
-use tpcc_rows::rows::{OrderLineRow, StockRow};
+use tpcc_rows::rows::{ItemRow, OrderLineRow, StockRow};
 use tpcc_rows::text::Text;
 use tpcc_tables::tables::Tables;
 
@@ -25,52 +28,44 @@ fn district_information(stock: &StockRow, district: u32) -> Text<24>
     stock.district_information[(district - 1) as usize]
 }
 
-/// The ORDER-LINE row of the line with that number, in the order of that id.
-fn order_line(tables: &Tables, order: &Order, id: u32, number: u32, line: &Line) -> OrderLineRow
+/// The ORDER-LINE row of a line as it is shown, in the order of that id.
+fn order_line(order: &Order, id: u32, shown: &EnteredLine, stock: &StockRow) -> OrderLineRow
     requires district { is_within 1 10 order.now.district ≡ true }
-    requires id { id ≡ order_number tables.now.rows order.now }
-    requires line { is_servable_line tables.now.rows line.now ≡ true }
-    ensures { result ≡ order_line_row tables.now.rows order.now number line.now }
+    requires row { is_stock_row stock.now ≡ true }
+    ensures { result ≡ order_line_from order.now id shown.now stock.now }
 {
-    let amount = amount(item_of(tables, line), line);
-    let stock = stock_of(tables, line);
     OrderLineRow {
         order: id,
         district: order.district,
         warehouse: order.warehouse,
-        number,
-        item: line.item,
-        supply: line.supply,
+        number: shown.number,
+        item: shown.item,
+        supply: shown.supply,
         delivered: None,
-        quantity: line.quantity,
-        amount,
+        quantity: shown.quantity,
+        amount: shown.amount,
         district_information: district_information(stock, order.district),
     }
 }
 
-/// The ORDER-LINE rows of an order's lines, in the order of that id.
-pub fn order_lines(tables: &Tables, order: &Order, id: u32, lines: &[Line]) -> Few<OrderLineRow, 15>
-    requires district { is_within 1 10 order.now.district ≡ true }
-    requires id { id ≡ order_number tables.now.rows order.now }
-    requires servable { IsServable tables.now.rows lines.now }
-    ensures { result ≡ map (λ line. order_line_row tables.now.rows order.now line.0 line.1) (enumerate_from 1 lines.now) }
-{
-    let mut rows = Few::empty();
-    for (index, line) in lines.iter().enumerate() {
-        rows.push(order_line(tables, order, id, index as u32 + 1, line));
-    }
-    rows
-}
-
 /// The line with that number, as the terminal shows it.
-fn entered_line(tables: &Tables, order: &Order, number: u32, line: &Line) -> EnteredLine
-    requires servable { IsServable tables.now.rows order.now.lines }
+fn entered_line(
+    order: &Order,
+    number: u32,
+    line: &Line,
+    item: &ItemRow,
+    stock: &StockRow,
+) -> EnteredLine
     requires number { number ≤ length order.now.lines }
-    requires line { is_servable_line tables.now.rows line.now ≡ true }
-    ensures { result ≡ entered_line tables.now.rows order.now number line.now }
+    requires few { length order.now.lines ≤ 15 }
+    requires quantities { list_all (λ l. is_within 1 10 l.quantity) order.now.lines ≡ true }
+    requires quantity { is_within 1 10 line.now.quantity ≡ true }
+    requires item { is_item_row item.now ≡ true }
+    requires stock { is_stock_row stock.now ≡ true }
+    ensures shown { result ≡ entered_line_from order.now number line.now item.now stock.now }
+    ensures low { pos 0 ≤ℤ result.amount }
+    ensures high { result.amount ≤ℤ pos 999999 }
 {
-    let item = item_of(tables, line);
-    let stock = stock_of(tables, line);
     let taken = &order.lines.as_slice()[..number as usize];
     EnteredLine {
         number,
@@ -85,15 +80,37 @@ fn entered_line(tables: &Tables, order: &Order, number: u32, line: &Line) -> Ent
     }
 }
 
-/// The lines as the terminal shows them.
-pub fn entered_lines(tables: &Tables, order: &Order, lines: &[Line]) -> EnteredLines
+/// Adds the ORDER-LINE rows of an order's lines, in the order of that id, and the lines as the terminal shows them;
+/// gives the sum of their amounts.
+pub fn add_lines(
+    tables: &Tables,
+    order: &Order,
+    lines: &[Line],
+    id: u32,
+    rows: &mut Few<OrderLineRow, 15>,
+    shown: &mut EnteredLines,
+) -> Cents
+    requires district { is_within 1 10 order.now.district ≡ true }
+    requires id { id ≡ order_number tables.now.rows order.now }
     requires lines { lines.now ≡ order.now.lines }
     requires servable { IsServable tables.now.rows lines.now }
-    ensures { result ≡ map (λ line. entered_line tables.now.rows order.now line.0 line.1) (enumerate_from 1 lines.now) }
+    requires no_row { rows.old ≡ [] }
+    requires none_shown { shown.old ≡ [] }
+    ensures rows { rows.new ≡ order_line_rows tables.now.rows order.now }
+    ensures shown { shown.new
+        ≡ map (λ line. entered_line tables.now.rows order.now line.0 line.1)
+        (enumerate_from 1 order.now.lines) }
+    ensures sum { result ≡ total (amount_of tables.now.rows) order.now.lines }
+    ensures low { pos 0 ≤ℤ result }
+    ensures high { result ≤ℤ pos 15000000 }
 {
-    let mut shown = Few::empty();
+    let mut sum = Cents::new(0);
     for (index, line) in lines.iter().enumerate() {
-        shown.push(entered_line(tables, order, index as u32 + 1, line));
+        let stock = stock_of(tables, line);
+        let entered = entered_line(order, index as u32 + 1, line, item_of(tables, line), stock);
+        rows.push(order_line(order, id, &entered, stock));
+        shown.push(entered);
+        sum = sum.plus(entered.amount);
     }
-    shown
+    sum
 }

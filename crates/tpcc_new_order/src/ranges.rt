@@ -13,6 +13,15 @@ use tpcc_rows::refusals::{Field, Refusal};
 use tpcc_rows::requests::{Line, Order};
 use tpcc_tables::tables::Tables;
 
+// The greatest D_NEXT_O_ID, which no order takes.
+const GREATEST_ORDER: u32 = 9_999_999;
+
+// The greatest S_ORDER_CNT and S_REMOTE_CNT.
+const GREATEST_COUNT: u32 = 999_999_999;
+
+// The greatest S_YTD.
+const GREATEST_STOCK_YTD: u32 = 99_999_999;
+
 /// Which columns would leave their ranges in some STOCK row of an order.
 #[derive(Clone, Copy)]
 pub struct Overruns {
@@ -21,13 +30,14 @@ pub struct Overruns {
     ytd: bool,
 }
 
+/// The same, with one STOCK row more.
 fn with_row(over: Overruns, numbers: StockNumbers) -> Overruns
     ensures { result ≡ overruns_with over numbers }
 {
     Overruns {
-        orders: over.orders || 999_999_999 < numbers.order_count,
-        remotes: over.remotes || 999_999_999 < numbers.remote_count,
-        ytd: over.ytd || 99_999_999 < numbers.ytd,
+        orders: over.orders || GREATEST_COUNT < numbers.order_count,
+        remotes: over.remotes || GREATEST_COUNT < numbers.remote_count,
+        ytd: over.ytd || GREATEST_STOCK_YTD < numbers.ytd,
     }
 }
 
@@ -35,7 +45,9 @@ fn with_row(over: Overruns, numbers: StockNumbers) -> Overruns
 fn numbers_of_line(tables: &Tables, home: u32, lines: &[Line], line: &Line) -> StockNumbers
     requires servable { IsServable tables.now.rows lines.now }
     requires line { is_servable_line tables.now.rows line.now ≡ true }
-    ensures { result ≡ numbers_of (stock_after home lines.now (stock_at tables.now.rows line.now.supply line.now.item)) }
+    ensures { result
+        ≡ numbers_of (stock_after home lines.now
+        (stock_at tables.now.rows line.now.supply line.now.item)) }
 {
     numbers_after(stock_of(tables, line), home, lines)
 }
@@ -43,7 +55,10 @@ fn numbers_of_line(tables: &Tables, home: u32, lines: &[Line], line: &Line) -> S
 /// Which columns of the lines' STOCK rows would leave their ranges.
 fn overruns_after(tables: &Tables, home: u32, lines: &[Line]) -> Overruns
     requires servable { IsServable tables.now.rows lines.now }
-    ensures { result ≡ overruns_of (map (λ l. stock_after home lines.now (stock_at tables.now.rows l.supply l.item)) lines.now) }
+    ensures { result
+        ≡ overruns_of
+        (map (λ l. stock_after home lines.now (stock_at tables.now.rows l.supply l.item))
+        lines.now) }
 {
     let mut over = Overruns {
         orders: false,
@@ -57,10 +72,11 @@ fn overruns_after(tables: &Tables, home: u32, lines: &[Line]) -> Overruns
 }
 
 #[tactic(auto, unfolding(crate::specs::Tests::range_tests))]
+/// The first refusal of the number and of the columns, if there is one.
 fn first_overrun(number: u32, over: Overruns) -> Option<Refusal>
     ensures { result ≡ first_finding (range_tests number over) }
 {
-    if number == 9_999_999 {
+    if number == GREATEST_ORDER {
         return Some(Refusal::OrderNumbers);
     }
     if over.orders {

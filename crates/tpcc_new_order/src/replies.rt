@@ -1,24 +1,24 @@
 //! What the terminal shows of an order (2.4.3.3, 2.4.3.4).
-ghost use Rattle.std.specs.Prelude.{◌≡◌, ◌≤◌, ◌≤ℤ◌, pos, length};
-ghost use Rattle.tpcc_rows.specs.NewOrder.{accepted_order};
-ghost use Rattle.tpcc_new_order.specs.Supplied.{IsServable};
-ghost use Rattle.tpcc_new_order.specs.Tests.{IsNamed};
-ghost use Rattle.tpcc_new_order.specs.Prepares.{accepted_from, rolled_back_from};
+ghost use Rattle.std.specs.Prelude.{◌≡◌, ◌≤◌, [], None, false, length, pos};
+ghost use Rattle.tpcc_rows.specs.WellKeyed.{IsStocked};
+ghost use Rattle.tpcc_rows.specs.NewOrder.{accepted_order, is_rolled_back, order_line_rows, order_refusal, rolled_back_order};
+ghost use Rattle.tpcc_new_order.specs.Prepares.{accepted_from};
 
-use crate::amounts::sum_of;
-use crate::lines::entered_lines;
-use crate::named::NamedRows;
+use crate::lines::add_lines;
+use crate::named_rows::{NamedRows, named_rows};
 use tpcc_money::{Cents, order_total};
-use tpcc_rows::replies::{AcceptedOrder, EnteredLines, RolledBackOrder};
+use tpcc_rows::few::Few;
+use tpcc_rows::replies::{AcceptedOrder, RolledBackOrder};
 use tpcc_rows::requests::Order;
+use tpcc_rows::rows::OrderLineRow;
 use tpcc_tables::tables::Tables;
 
-/// The reply of the three rows, the sum of the lines' amounts and the lines.
-fn accepted_of(order: &Order, named: &NamedRows, sum: Cents, lines: EnteredLines) -> AcceptedOrder
+/// What is shown of an order's three rows, with no line yet and no total.
+fn show_head(order: &Order, named: &NamedRows) -> AcceptedOrder
     requires few { length order.now.lines ≤ 15 }
-    requires low { pos 0 ≤ℤ sum }
-    requires high { sum ≤ℤ pos 15000000 }
-    ensures { result ≡ accepted_from order.now named.now.warehouse.now named.now.district.now named.now.customer.now sum lines }
+    ensures { result
+        ≡ accepted_from order.now named.now.warehouse.now named.now.district.now
+        named.now.customer.now (pos 0) [] }
 {
     let NamedRows {
         warehouse,
@@ -37,26 +37,35 @@ fn accepted_of(order: &Order, named: &NamedRows, sum: Cents, lines: EnteredLines
         warehouse_tax: warehouse.tax,
         district_tax: district.tax,
         entry_date: order.moment,
-        total: order_total(sum, customer.discount, warehouse.tax, district.tax),
-        lines,
+        total: Cents::new(0),
+        lines: Few::empty(),
     }
 }
 
-/// What is shown of an order that is entered.
-pub fn accepted(tables: &Tables, order: &Order, named: &NamedRows) -> AcceptedOrder
-    requires named { IsNamed tables.now.rows order.now named.now }
-    requires servable { IsServable tables.now.rows order.now.lines }
-    ensures { result ≡ accepted_order tables.now.rows order.now }
+/// What is shown of an order that is entered; its ORDER-LINE rows are put into an empty list.
+pub fn show_order(tables: &Tables, order: &Order, rows: &mut Few<OrderLineRow, 15>) -> AcceptedOrder
+    requires stocked { IsStocked tables.now.rows }
+    requires accepted { order_refusal tables.now.rows order.now ≡ None }
+    requires entered { is_rolled_back tables.now.rows order.now ≡ false }
+    requires empty { rows.old ≡ [] }
+    ensures rows { rows.new ≡ order_line_rows tables.now.rows order.now }
+    ensures reply { result ≡ accepted_order tables.now.rows order.now }
 {
+    tables.well_keyed();
+    let named = named_rows(tables, order);
+    let mut shown = show_head(order, &named);
     let lines = order.lines.as_slice();
-    let shown = entered_lines(tables, order, lines);
-    accepted_of(order, named, sum_of(tables, lines), shown)
+    let sum = add_lines(tables, order, lines, shown.order, rows, &mut shown.lines);
+    shown.total = order_total(sum, shown.discount, shown.warehouse_tax, shown.district_tax);
+    shown
 }
 
 /// What is shown of an order that is rolled back.
-pub fn rolled_back(order: &Order, named: &NamedRows) -> RolledBackOrder
-    ensures { result ≡ rolled_back_from order.now named.now.district.now named.now.customer.now }
+pub fn show_rollback(tables: &Tables, order: &Order) -> RolledBackOrder
+    requires accepted { order_refusal tables.now.rows order.now ≡ None }
+    ensures { result ≡ rolled_back_order tables.now.rows order.now }
 {
+    let named = named_rows(tables, order);
     RolledBackOrder {
         warehouse: order.warehouse,
         district: order.district,

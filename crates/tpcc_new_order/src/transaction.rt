@@ -1,73 +1,58 @@
 //! An order in two halves: what may fail, and what can't.
-ghost use Rattle.std.specs.Prelude.{◌≡◌, IfOk, IfErr, OnOk, OnErr, Some, None, true, false};
+ghost use Rattle.std.specs.Prelude.{◌≡◌, ◌≤◌, IfOk, IfErr, OnOk, OnErr, Some, None, length};
 ghost use Rattle.std.specs.Option.{option_or};
-ghost use Rattle.tpcc_rows.specs.declared.requests.Order.{Order};
 ghost use Rattle.tpcc_rows.specs.WellKeyed.{IsStocked};
-ghost use Rattle.tpcc_rows.specs.NewOrder.{is_rolled_back, order_refusal, order_reply, rows_after_order};
-ghost use Rattle.tpcc_new_order.specs.Supplied.{IsServable};
-ghost use Rattle.tpcc_new_order.specs.Tests.{IsNamed};
+ghost use Rattle.tpcc_rows.specs.NewOrder.{order_refusal, order_reply, rows_after_order};
 ghost use Rattle.tpcc_new_order.specs.Prepares.{IsPrepared, HasRoom};
 
 use crate::lookups::has_unused_item;
-use crate::named::{NamedRows, rows_of_order};
+use crate::named_rows::rows_of_order;
 use crate::ranges::range_refusal;
-use crate::replies::{accepted, rolled_back};
-use crate::written::{NewRows, make_room, new_rows, write};
+use crate::replies::show_rollback;
+use crate::rows::write_order;
+use tpcc_money::NoMemory;
 use tpcc_rows::refusals::Refusal;
 use tpcc_rows::replies::Entered;
 use tpcc_rows::requests::Order;
 use tpcc_tables::tables::Tables;
 
-/// An order that nothing refuses, with all that it writes and shows.
-#[derive(Drop)]
-pub struct Prepared {
-    /// What is written; nothing of an order that is rolled back (2.4.2.3).
-    pub rows: Option<NewRows>,
-    /// What the terminal shows (2.4.3.3, 2.4.3.4).
-    pub reply: Entered,
+/// What is left to do for an order that nothing refuses.
+#[derive(Clone, Copy)]
+pub enum Prepared {
+    /// Its rows are written (2.4.2.2).
+    Enter,
+    /// It has an unused item, so no row changes (2.4.2.3).
+    RollBack,
 }
 
-/// What an order that is entered writes and shows.
-fn entering(tables: &Tables, order: &Order, named: &NamedRows) -> Prepared
-    requires stocked { IsStocked tables.now.rows }
-    requires named { IsNamed tables.now.rows order.now named.now }
-    requires accepted { order_refusal tables.now.rows order.now ≡ None }
-    requires entered { is_rolled_back tables.now.rows order.now ≡ false }
-    requires servable { IsServable tables.now.rows order.now.lines }
-    ensures { IsPrepared tables.now.rows order.now result }
-{
-    Prepared {
-        rows: Some(new_rows(tables, order, named)),
-        reply: Entered::Accepted(accepted(tables, order, named)),
-    }
-}
-
-/// What an order that is rolled back shows.
-fn unwritten(tables: &Tables, order: &Order, named: &NamedRows) -> Prepared
-    requires named { IsNamed tables.now.rows order.now named.now }
-    requires back { is_rolled_back tables.now.rows order.now ≡ true }
-    ensures { IsPrepared tables.now.rows order.now result }
-{
-    Prepared {
-        rows: None,
-        reply: Entered::RolledBack(rolled_back(order, named)),
-    }
-}
-
-/// The refusal of an order, or what it writes and shows.
-fn judged(tables: &Tables, order: &Order) -> Result<Prepared, Refusal>
+/// The first refusal of an order, or what is left to do for it.
+fn judge(tables: &Tables, order: &Order) -> Result<Prepared, Refusal>
     requires stocked { IsStocked tables.now.rows }
     ensures ok { IfOk result (IsPrepared tables.now.rows order.now) }
-    ensures err { IfErr result (λ refusal. order_refusal tables.now.rows order.now ≡ Some refusal) }
+    ensures accepted { OnOk result (order_refusal tables.now.rows order.now ≡ None) }
+    ensures err { IfErr result (λ refusal.
+        order_refusal tables.now.rows order.now ≡ Some refusal) }
 {
     let named = rows_of_order(tables, order)?;
     if has_unused_item(tables, order.lines.as_slice()) {
-        return Ok(unwritten(tables, order, &named));
+        return Ok(Prepared::RollBack);
     }
-    if let Some(refusal) = range_refusal(tables, order, named.district.next_order) {
-        return Err(refusal);
+    match range_refusal(tables, order, named.district.next_order) {
+        Some(refusal) => Err(refusal),
+        None => Ok(Prepared::Enter),
     }
-    Ok(entering(tables, order, &named))
+}
+
+/// Room for the rows of an order that is entered.
+fn make_room(tables: &mut Tables, order: &Order, prepared: Prepared) -> Result<(), NoMemory>
+    requires few { length order.now.lines ≤ 15 }
+    ensures same { tables.new.rows ≡ tables.old.rows }
+    ensures room { OnOk result (HasRoom tables.new.order_room order.now prepared) }
+{
+    match prepared {
+        Prepared::Enter => tables.reserve_order(order.lines.as_slice().len() as u32),
+        Prepared::RollBack => Ok(()),
+    }
 }
 
 /// Tells every refusal and makes every growth of an order (2.4.2); no row changes.
@@ -81,26 +66,33 @@ pub fn prepare(tables: &mut Tables, order: &Order) -> Result<Prepared, Refusal>
     requires stocked { IsStocked tables.old.rows }
     ensures ok { IfOk result (IsPrepared tables.old.rows order.now) }
     ensures accepted { OnOk result (order_refusal tables.old.rows order.now ≡ None) }
-    ensures room { IfOk result (HasRoom tables.new.order_room) }
+    ensures room { IfOk result (HasRoom tables.new.order_room order.now) }
     ensures same { tables.new.rows ≡ tables.old.rows }
-    ensures err { IfErr result (λ refusal. option_or (order_refusal tables.old.rows order.now) (Some Refusal.NoMemory) ≡ Some refusal) }
+    ensures err { IfErr result (λ refusal.
+        option_or (order_refusal tables.old.rows order.now) (Some Refusal.NoMemory)
+        ≡ Some refusal) }
 {
-    let prepared = judged(tables, order)?;
-    match make_room(tables, &prepared.rows) {
+    let prepared = judge(tables, order)?;
+    match make_room(tables, order, prepared) {
         Ok(()) => Ok(prepared),
         Err(_) => Err(Refusal::NoMemory),
     }
 }
 
-/// Writes a prepared order (2.4.2.2), or nothing where it is rolled back, and gives its reply; takes no memory.
-pub fn finish(tables: &mut Tables, prepared: &Prepared) -> Entered
-    requires room { HasRoom tables.old.order_room prepared.now }
-    requires prepared { (order : Order) × IsPrepared tables.old.rows order prepared.now }
-    ensures rows { (order : Order) → IsPrepared tables.old.rows order prepared.now → tables.new.rows ≡ rows_after_order tables.old.rows order }
-    ensures reply { (order : Order) → IsPrepared tables.old.rows order prepared.now → result ≡ order_reply tables.old.rows order }
+/// Writes an order that was prepared on the same rows (2.4.2.2), or nothing where it is rolled back, and gives its
+/// reply; takes no memory.
+pub fn finish(tables: &mut Tables, order: &Order, prepared: Prepared) -> Entered
+    requires stocked { IsStocked tables.old.rows }
+    requires accepted { order_refusal tables.old.rows order.now ≡ None }
+    requires prepared { IsPrepared tables.old.rows order.now prepared }
+    requires room { HasRoom tables.old.order_room order.now prepared }
+    ensures rows { tables.new.rows ≡ rows_after_order tables.old.rows order.now }
+    ensures reply { result ≡ order_reply tables.old.rows order.now }
 {
-    write(tables, &prepared.rows);
-    prepared.reply
+    match prepared {
+        Prepared::Enter => Entered::Accepted(write_order(tables, order)),
+        Prepared::RollBack => Entered::RolledBack(show_rollback(tables, order)),
+    }
 }
 
 /// One order: the refusals of [`prepare`], which leave all rows as they were, or the reply of [`finish`].
@@ -109,11 +101,13 @@ pub fn enter(tables: &mut Tables, order: &Order) -> Result<Entered, Refusal>
     ensures rows { OnOk result (tables.new.rows ≡ rows_after_order tables.old.rows order.now) }
     ensures accepted { OnOk result (order_refusal tables.old.rows order.now ≡ None) }
     ensures reply { IfOk result (λ entered. entered ≡ order_reply tables.old.rows order.now) }
-    ensures refused { IfErr result (λ refusal. option_or (order_refusal tables.old.rows order.now) (Some Refusal.NoMemory) ≡ Some refusal) }
+    ensures refused { IfErr result (λ refusal.
+        option_or (order_refusal tables.old.rows order.now) (Some Refusal.NoMemory)
+        ≡ Some refusal) }
     ensures same { OnErr result (tables.new.rows ≡ tables.old.rows) }
 {
     match prepare(tables, order) {
-        Ok(prepared) => Ok(finish(tables, &prepared)),
+        Ok(prepared) => Ok(finish(tables, order, prepared)),
         Err(refusal) => Err(refusal),
     }
 }

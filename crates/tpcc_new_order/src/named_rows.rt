@@ -1,10 +1,10 @@
 //! The rows that an order names, and why its input may be refused.
-ghost use Rattle.std.specs.Prelude.{◌≡◌, IfOk, IfErr, Some, is_none, not};
+ghost use Rattle.std.specs.Prelude.{◌≡◌, IfOk, IfErr, Some, None, is_none, not};
 ghost use Rattle.std.specs.List.{list_any};
 ghost use Rattle.tpcc_rows.specs.Lists.{first_finding};
 ghost use Rattle.tpcc_rows.specs.Ranges.{is_within};
 ghost use Rattle.tpcc_rows.specs.Tables.{find_warehouse};
-ghost use Rattle.tpcc_rows.specs.NewOrder.{order_refusal_by_input};
+ghost use Rattle.tpcc_rows.specs.NewOrder.{order_refusal, order_refusal_by_input};
 ghost use Rattle.tpcc_new_order.specs.Tests.{IsNamed, line_tests};
 
 use tpcc_rows::refusals::Refusal;
@@ -64,7 +64,8 @@ fn line_refusal(tables: &Tables, lines: &[Line]) -> Option<Refusal>
 /// The rows of an order whose input nothing refuses.
 pub fn rows_of_order<'a>(tables: &'a Tables, order: &Order) -> Result<NamedRows<'a>, Refusal>
     ensures ok { IfOk result (IsNamed tables.now.rows order.now) }
-    ensures err { IfErr result (λ refusal. order_refusal_by_input tables.now.rows order.now ≡ Some refusal) }
+    ensures err { IfErr result (λ refusal.
+        order_refusal_by_input tables.now.rows order.now ≡ Some refusal) }
 {
     let Some(warehouse) = tables.warehouse(order.warehouse) else {
         return Err(Refusal::NoWarehouse);
@@ -82,5 +83,19 @@ pub fn rows_of_order<'a>(tables: &'a Tables, order: &Order) -> Result<NamedRows<
             district,
             customer,
         }),
+    }
+}
+
+/// The rows of an order that nothing refuses.
+pub fn named_rows<'a>(tables: &'a Tables, order: &Order) -> NamedRows<'a>
+    requires accepted { order_refusal tables.now.rows order.now ≡ None }
+    ensures { IsNamed tables.now.rows order.now result }
+{
+    NamedRows {
+        warehouse: tables.warehouse(order.warehouse).unwrap(),
+        district: tables.district(order.warehouse, order.district).unwrap(),
+        customer: tables
+            .customer(order.warehouse, order.district, order.customer)
+            .unwrap(),
     }
 }
