@@ -84,3 +84,7 @@ is_missing (Some x) f b e h k = let no : true ≡ false = h ∙ ap not k in cc
 pub is_there : {T : Type 0} (r : Option (Bor T)) (f : Option T) (b : Bool) → option_copied r ≡ f → is_some r ≡ not b → b ≡ false → (x : T) × (f ≡ Some x)
 is_there None f b e h k = let no : false ≡ true = h ∙ ap not k in cc
 is_there (Some x) f b e h k = (x.now, sym e)
+
+pub found : {T : Type 0} (r : Option (Bor T)) (f : Option T) (x : T) → option_copied r ≡ f → f ≡ Some x → is_some r ≡ true
+found None f x e h = let no : false ≡ true = λ i. is_some ((e ∙ h) i) in cc
+found (Some y) f x e h = refl

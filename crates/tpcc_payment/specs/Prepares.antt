@@ -1,4 +1,4 @@
--- What a prepared payment is, and what is known of the rows that it names.
+-- What a prepared payment is, and what is made of the rows that it names.
 use Rattle.std.specs.Prelude.{◌≡◌, ◌+◌, ◌+ℤ◌, ◌-ℤ◌, ℤ, pos, Bool, not, [], ◌∷◌, List, ℕ, ◌++◌, take, Option, Some, None, if◌then◌else◌, codes, option_map}
 use Rattle.tpcc_rows.specs.declared.rows.HistoryRow.{HistoryRow}
 use Rattle.tpcc_rows.specs.declared.replies.Paid.{Paid}
@@ -10,11 +10,10 @@ use Rattle.tpcc_rows.specs.declared.refusals.Refusal.TheVariants.{Amount, Count,
 use Rattle.tpcc_rows.specs.declared.refusals.Field.TheVariants.{PaymentCount, WarehouseYtd, DistrictYtd, Balance, YtdPayment}
 use Rattle.tpcc_rows.specs.Ranges.{is_amount_within, is_total, is_balance, is_count}
 use Rattle.tpcc_rows.specs.declared.requests.Payment.{Payment}
-use Rattle.tpcc_rows.specs.Tables.{Rows, find_warehouse, find_district}
+use Rattle.tpcc_rows.specs.Tables.{Rows, find_warehouse, find_district, find_customer}
 use Rattle.tpcc_rows.specs.ChosenCustomer.{chosen_customer}
-use Rattle.tpcc_rows.specs.Payment.{payment_refusal, payment_reply, payment_note, after_payment, has_bad_credit}
-use Rattle.tpcc_tables.specs.Writes.{with_payment, IsPaymentOf}
-use Rattle.tpcc_payment.specs.declared.named.NamedRows.{NamedRows}
+use Rattle.tpcc_rows.specs.Payment.{payment_refusal, paying_customer, payment_note, has_bad_credit}
+use Rattle.tpcc_payment.specs.declared.named_rows.NamedRows.{NamedRows}
 use Rattle.tpcc_payment.specs.declared.transaction.Prepared.{Prepared}
 
 -- the three rows of a payment that nothing refuses
@@ -39,13 +38,12 @@ range_tests w d c amount =
 abbrev pub new_information : Payment → CustomerRow → Option (List ℕ)
 new_information p c = if has_bad_credit c then Some (take 500 (payment_note p c ++ c.information)) else None
 
--- what finishing writes and shows is what the payment does and shows
-pub record IsPrepared (rows : Rows) (payment : Payment) (prepared : Prepared) : Type 0 where
-  pub writes : IsPaymentOf rows prepared.history prepared.information payment
-  pub after : with_payment rows prepared.history prepared.information ≡ after_payment rows payment
-  pub reply : prepared.reply ≡ payment_reply rows payment
+-- the key that was found is the paying customer's
+abbrev pub IsPrepared : Rows → Payment → Prepared → Type 0
+IsPrepared rows payment prepared =
+    find_customer rows prepared.customer.warehouse prepared.customer.district prepared.customer.customer ≡ Some (paying_customer rows payment)
 
--- what is prepared of the three rows
+-- what is written and shown of the three rows
 abbrev pub history_from : Payment → WarehouseRow → DistrictRow → CustomerRow → HistoryRow
 history_from p w d c =
     record {
@@ -83,7 +81,3 @@ reply_from p w d c =
       balance = c.balance -ℤ p.amount;
       information = option_map (take 200) (new_information p c);
     }
-
-abbrev pub prepared_from : Payment → WarehouseRow → DistrictRow → CustomerRow → Prepared
-prepared_from p w d c =
-    record { history = history_from p w d c; information = new_information p c; reply = reply_from p w d c }

@@ -1,11 +1,13 @@
 //! The rows that a payment names, and why it may be refused.
-ghost use Rattle.std.specs.Prelude.{◌≡◌, IfOk, IfErr, Some};
+ghost use Rattle.std.specs.Prelude.{◌≡◌, IfOk, IfErr, Some, None};
 ghost use Rattle.std.specs.Option.{option_copied};
-ghost use Rattle.tpcc_rows.specs.Payment.{payment_refusal};
+ghost use Rattle.tpcc_rows.specs.Payment.{payment_refusal, paying_customer};
+ghost use Rattle.tpcc_rows.specs.Tables.{find_customer};
 ghost use Rattle.tpcc_rows.specs.ChosenCustomer.{chosen_customer};
 ghost use Rattle.tpcc_payment.specs.Prepares.{IsNamed};
 
 use crate::ranges::range_refusal;
+use tpcc_rows::keys::CustomerKey;
 use tpcc_rows::refusals::Refusal;
 use tpcc_rows::requests::{Payment, Who};
 use tpcc_rows::rows::*;
@@ -21,8 +23,10 @@ pub struct NamedRows<'a> {
 
 #[tactic(auto, unfolding(tpcc_rows::specs::ChosenCustomer::chosen_customer))]
 /// The customer whom a payment names.
-fn chosen<'a>(tables: &'a Tables, payment: &Payment) -> Option<&'a CustomerRow>
-    ensures { option_copied result ≡ chosen_customer tables.now.rows payment.now.customer_warehouse payment.now.customer_district payment.now.who }
+fn chosen_customer<'a>(tables: &'a Tables, payment: &Payment) -> Option<&'a CustomerRow>
+    ensures { option_copied result
+        ≡ chosen_customer tables.now.rows payment.now.customer_warehouse
+        payment.now.customer_district payment.now.who }
 {
     match &payment.who {
         Who::Number(customer) => tables.customer(
@@ -41,7 +45,8 @@ fn chosen<'a>(tables: &'a Tables, payment: &Payment) -> Option<&'a CustomerRow>
 /// The rows of a payment that nothing refuses.
 pub fn rows_of_payment<'a>(tables: &'a Tables, payment: &Payment) -> Result<NamedRows<'a>, Refusal>
     ensures ok { IfOk result (IsNamed tables.now.rows payment.now) }
-    ensures err { IfErr result (λ refusal. payment_refusal tables.now.rows payment.now ≡ Some refusal) }
+    ensures err { IfErr result (λ refusal.
+        payment_refusal tables.now.rows payment.now ≡ Some refusal) }
 {
     let Some(warehouse) = tables.warehouse(payment.warehouse) else {
         return Err(Refusal::NoWarehouse);
@@ -58,7 +63,7 @@ pub fn rows_of_payment<'a>(tables: &'a Tables, payment: &Payment) -> Result<Name
     {
         return Err(Refusal::NoDistrict);
     }
-    let Some(customer) = chosen(tables, payment) else {
+    let Some(customer) = chosen_customer(tables, payment) else {
         return Err(Refusal::NoCustomer);
     };
     let named = NamedRows {
@@ -69,5 +74,24 @@ pub fn rows_of_payment<'a>(tables: &'a Tables, payment: &Payment) -> Result<Name
     match range_refusal(&named, payment.amount) {
         Some(refusal) => Err(refusal),
         None => Ok(named),
+    }
+}
+
+/// The rows of a payment that nothing refuses, whose customer has that key.
+pub fn named_rows<'a>(tables: &'a Tables, payment: &Payment, key: CustomerKey) -> NamedRows<'a>
+    requires accepted { payment_refusal tables.now.rows payment.now ≡ None }
+    requires customer { find_customer tables.now.rows key.warehouse key.district key.customer
+        ≡ Some (paying_customer tables.now.rows payment.now) }
+    ensures { IsNamed tables.now.rows payment.now result }
+{
+    tables.well_keyed();
+    NamedRows {
+        warehouse: tables.warehouse(payment.warehouse).unwrap(),
+        district: tables
+            .district(payment.warehouse, payment.district)
+            .unwrap(),
+        customer: tables
+            .customer(key.warehouse, key.district, key.customer)
+            .unwrap(),
     }
 }

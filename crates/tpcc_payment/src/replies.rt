@@ -1,23 +1,12 @@
-//! The HISTORY row that a payment appends, and the reply that its terminal shows.
-ghost use Rattle.std.specs.Prelude.{◌≡◌, ◌++◌, ◌-ℤ◌, FitsSigned, take, codes, option_map};
+//! What the terminal shows of a payment (2.5.3.3).
+ghost use Rattle.std.specs.Prelude.{◌≡◌, ◌-ℤ◌, FitsSigned, take, option_map};
 ghost use Rattle.std.specs.Int.{w64};
-ghost use Rattle.tpcc_payment.specs.Prepares.{new_information, history_from, reply_from};
+ghost use Rattle.tpcc_payment.specs.Prepares.{new_information, reply_from};
 
-use crate::named::NamedRows;
+use crate::named_rows::NamedRows;
 use tpcc_rows::replies::Paid;
 use tpcc_rows::requests::Payment;
-use tpcc_rows::rows::HistoryRow;
 use tpcc_rows::text::Text;
-
-/// Two names with four spaces between them.
-fn joined_names(a: &Text<10>, b: &Text<10>) -> Text<24>
-    ensures { result ≡ a.now ++ codes "    " ++ b.now }
-{
-    let mut text = Text::of(a.bytes());
-    text.extend(b"    ");
-    text.extend(b.bytes());
-    text
-}
 
 /// The first 200 bytes of a text.
 fn first_200(text: &Text<500>) -> Text<200>
@@ -29,7 +18,7 @@ fn first_200(text: &Text<500>) -> Text<200>
 }
 
 /// What the terminal shows of the new C_DATA.
-fn shown(information: &Option<Text<500>>) -> Option<Text<200>>
+fn shown_information(information: &Option<Text<500>>) -> Option<Text<200>>
     ensures { result ≡ option_map (take 200) information.now }
 {
     match information {
@@ -38,27 +27,13 @@ fn shown(information: &Option<Text<500>>) -> Option<Text<200>>
     }
 }
 
-/// The HISTORY row of a payment.
-pub fn history(payment: &Payment, named: &NamedRows) -> HistoryRow
-    ensures { result ≡ history_from payment.now named.now.warehouse.now named.now.district.now named.now.customer.now }
-{
-    HistoryRow {
-        customer: named.customer.id,
-        customer_district: named.customer.district,
-        customer_warehouse: named.customer.warehouse,
-        district: payment.district,
-        warehouse: payment.warehouse,
-        date: payment.moment,
-        amount: payment.amount,
-        information: joined_names(&named.warehouse.name, &named.district.name),
-    }
-}
-
-/// What the terminal shows of a payment (2.5.3.3).
-pub fn reply(payment: &Payment, named: &NamedRows, information: &Option<Text<500>>) -> Paid
+/// What the terminal shows of a payment with that new C_DATA.
+pub fn show_payment(payment: &Payment, named: &NamedRows, information: &Option<Text<500>>) -> Paid
     requires fits { FitsSigned w64 (named.now.customer.now.balance -ℤ payment.now.amount) }
     requires information { information.now ≡ new_information payment.now named.now.customer.now }
-    ensures { result ≡ reply_from payment.now named.now.warehouse.now named.now.district.now named.now.customer.now }
+    ensures { result
+        ≡ reply_from payment.now named.now.warehouse.now named.now.district.now
+        named.now.customer.now }
 {
     Paid {
         warehouse: payment.warehouse,
@@ -80,6 +55,6 @@ pub fn reply(payment: &Payment, named: &NamedRows, information: &Option<Text<500
         credit_limit: named.customer.credit_limit,
         discount: named.customer.discount,
         balance: named.customer.balance.minus(payment.amount),
-        information: shown(information),
+        information: shown_information(information),
     }
 }

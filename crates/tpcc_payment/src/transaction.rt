@@ -1,81 +1,76 @@
 //! A payment in two halves: what may fail, and what can't.
-ghost use Rattle.std.specs.Prelude.{◌≡◌, ◌<◌, ◌≤ℤ◌, ◌-ℤ◌, pos, IfOk, IfErr, OnOk, OnErr, Some, None, FitsSigned};
-ghost use Rattle.std.specs.Int.{w64};
+ghost use Rattle.std.specs.Prelude.{◌≡◌, ◌<◌, IfOk, IfErr, OnOk, OnErr, Some, None};
 ghost use Rattle.std.specs.Option.{option_or};
 ghost use Rattle.tpcc_rows.specs.Payment.{payment_refusal, payment_reply, after_payment};
-ghost use Rattle.tpcc_tables.specs.Writes.{with_payment, IsPayment};
-ghost use Rattle.tpcc_payment.specs.Prepares.{IsPrepared, prepared_from};
+ghost use Rattle.tpcc_payment.specs.Prepares.{IsPrepared};
 
-use crate::named::{NamedRows, rows_of_payment};
+use crate::history::history_row;
+use crate::named_rows::{named_rows, rows_of_payment};
 use crate::note::information_after;
-use crate::shown::{history, reply};
+use crate::replies::show_payment;
+use tpcc_rows::keys::CustomerKey;
 use tpcc_rows::refusals::Refusal;
 use tpcc_rows::replies::Paid;
 use tpcc_rows::requests::Payment;
-use tpcc_rows::rows::HistoryRow;
-use tpcc_rows::text::Text;
 use tpcc_tables::tables::Tables;
 
-/// A payment that nothing refuses, with all that it writes and shows.
+/// What was found out of a payment that nothing refuses.
 #[derive(Clone, Copy)]
 pub struct Prepared {
-    /// The HISTORY row that is appended.
-    pub history: HistoryRow,
-    /// The new C_DATA of a customer with bad credit.
-    pub information: Option<Text<500>>,
-    /// What the terminal shows.
-    pub reply: Paid,
+    /// The key of the customer whom the payment names by number or by last name (2.5.2.2).
+    pub customer: CustomerKey,
 }
 
-/// All that a payment writes and shows.
-fn work_out(payment: &Payment, named: &NamedRows) -> Prepared
-    requires fits { FitsSigned w64 (named.now.customer.now.balance -ℤ payment.now.amount) }
-    requires least { pos 0 ≤ℤ payment.now.amount }
-    requires most { payment.now.amount ≤ℤ pos 500000 }
-    ensures { result ≡ prepared_from payment.now named.now.warehouse.now named.now.district.now named.now.customer.now }
-{
-    let information = information_after(payment, named.customer);
-    Prepared {
-        history: history(payment, named),
-        information,
-        reply: reply(payment, named, &information),
-    }
-}
-
-/// The first refusal of a payment's rows and ranges, or all that it writes and shows.
-fn judged(tables: &Tables, payment: &Payment) -> Result<Prepared, Refusal>
+/// The first refusal of a payment's rows and ranges, or its customer.
+fn judge(tables: &Tables, payment: &Payment) -> Result<Prepared, Refusal>
     ensures ok { IfOk result (IsPrepared tables.now.rows payment.now) }
-    ensures err { IfErr result (λ refusal. payment_refusal tables.now.rows payment.now ≡ Some refusal) }
+    ensures accepted { OnOk result (payment_refusal tables.now.rows payment.now ≡ None) }
+    ensures err { IfErr result (λ refusal.
+        payment_refusal tables.now.rows payment.now ≡ Some refusal) }
 {
-    let named = rows_of_payment(tables, payment)?;
-    let _moment = payment.moment.seconds();
     tables.well_keyed();
-    Ok(work_out(payment, &named))
+    let named = rows_of_payment(tables, payment)?;
+    let customer = CustomerKey {
+        warehouse: named.customer.warehouse,
+        district: named.customer.district,
+        customer: named.customer.id,
+    };
+    Ok(Prepared { customer })
 }
 
 /// Tells every refusal and makes every growth; no row changes.
 pub fn prepare(tables: &mut Tables, payment: &Payment) -> Result<Prepared, Refusal>
     ensures ok { IfOk result (IsPrepared tables.old.rows payment.now) }
+    ensures accepted { OnOk result (payment_refusal tables.old.rows payment.now ≡ None) }
     ensures room { OnOk result (0 < tables.new.payment_room) }
     ensures same { tables.new.rows ≡ tables.old.rows }
-    ensures err { IfErr result (λ refusal. option_or (payment_refusal tables.old.rows payment.now) (Some Refusal.NoMemory) ≡ Some refusal) }
+    ensures err { IfErr result (λ refusal.
+        option_or (payment_refusal tables.old.rows payment.now) (Some Refusal.NoMemory)
+        ≡ Some refusal) }
 {
-    let prepared = judged(tables, payment)?;
+    let prepared = judge(tables, payment)?;
     match tables.reserve_payment() {
         Ok(()) => Ok(prepared),
         Err(_) => Err(Refusal::NoMemory),
     }
 }
 
-/// Writes a prepared payment and gives its reply; takes no memory.
-pub fn finish(tables: &mut Tables, prepared: &Prepared) -> Paid
+/// Writes a payment that was prepared on the same rows and gives its reply; takes no memory.
+pub fn finish(tables: &mut Tables, payment: &Payment, prepared: Prepared) -> Paid
+    requires accepted { payment_refusal tables.old.rows payment.now ≡ None }
+    requires prepared { IsPrepared tables.old.rows payment.now prepared }
     requires room { 0 < tables.old.payment_room }
-    requires prepared { IsPayment tables.old.rows prepared.now.history prepared.now.information }
-    ensures rows { tables.new.rows ≡ with_payment tables.old.rows prepared.now.history prepared.now.information }
-    ensures reply { result ≡ prepared.now.reply }
+    ensures rows { tables.new.rows ≡ after_payment tables.old.rows payment.now }
+    ensures reply { result ≡ payment_reply tables.old.rows payment.now }
 {
-    tables.pay(prepared.history, prepared.information);
-    prepared.reply
+    let _moment = payment.moment.seconds();
+    tables.well_keyed();
+    let named = named_rows(tables, payment, prepared.customer);
+    let information = information_after(payment, named.customer);
+    let reply = show_payment(payment, &named, &information);
+    let history = history_row(payment, &named);
+    tables.pay(history, information);
+    reply
 }
 
 /// One payment.
@@ -83,9 +78,11 @@ pub fn pay(tables: &mut Tables, payment: &Payment) -> Result<Paid, Refusal>
     ensures rows { OnOk result (tables.new.rows ≡ after_payment tables.old.rows payment.now) }
     ensures accepted { OnOk result (payment_refusal tables.old.rows payment.now ≡ None) }
     ensures reply { IfOk result (λ paid. paid ≡ payment_reply tables.old.rows payment.now) }
-    ensures refused { IfErr result (λ refusal. option_or (payment_refusal tables.old.rows payment.now) (Some Refusal.NoMemory) ≡ Some refusal) }
+    ensures refused { IfErr result (λ refusal.
+        option_or (payment_refusal tables.old.rows payment.now) (Some Refusal.NoMemory)
+        ≡ Some refusal) }
     ensures same { OnErr result (tables.new.rows ≡ tables.old.rows) }
 {
     let prepared = prepare(tables, payment)?;
-    Ok(finish(tables, &prepared))
+    Ok(finish(tables, payment, prepared))
 }
