@@ -1,10 +1,9 @@
 -- The book that is found when the turns end.
-use Rattle.std.proofs.Common.{◌≡◌, ℕ, ◌+◌, ◌%◌, ◌^◌, ◌==◌, List, [], refl, sym, ap, ◌∙◌, subst, ⊎_elim, arith, Some}
+use Rattle.std.proofs.Common.{◌≡◌, ℕ, ◌%◌, ◌^◌, ◌==◌, List, [], refl, sym, ap, ◌∙◌, subst, ⊎_elim, arith, Some}
 use Rattle.std.specs.Prelude.{Option, None, IfSome, if◌then◌else◌, ℤ, Result, Ok, Err, IsOk, IfOk, IfErr}
 use Rattle.std.proofs.lemmas.Int.{ints}
 use Rattle.std.proofs.lemmas.Bool.Decides.{nat_tests}
 use mathlib.Core.Option.{some, some-injective, Option as Home}
-use mathlib.Core.List.{IsPrefix}
 use lib.ListN.{get_elem?}
 use Rattle.atomic_table.specs.Table.{State, Final, Seen}
 use Rattle.atomic_table.proofs.Lists.{one_turn}

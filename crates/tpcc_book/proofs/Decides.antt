@@ -9,9 +9,9 @@ use Rattle.tpcc_rows.specs.declared.refusals.Refusal.TheVariants.{NoMemory}
 use Rattle.tpcc_rows.specs.RefusalOrder.{refusal_number}
 use Rattle.tpcc_rows.specs.Tables.{State}
 use Rattle.tpcc_rows.specs.Turn.{refusal}
-use Rattle.tpcc_book.specs.Ready.{IsReady, HasRoom, CanFinish, Rooms, by_order}
+use Rattle.tpcc_book.specs.Ready.{IsReady, HasRoom, CanFinish, Rooms, order_refusals}
 use Rattle.tpcc_book.specs.Turn.{early, journal_refusal, turn_refusal}
-use Rattle.tpcc_book.specs.declared.prepared.Prepared.{Prepared}
+use Rattle.tpcc_book.specs.declared.halves.Prepared.{Prepared}
 
 -- nothing applies where neither the model nor the journal refuses
 none_applies : (first journal : Option Refusal) → first ≡ None → journal ≡ None → option_or (early first) (option_or journal first) ≡ None
@@ -21,19 +21,19 @@ none_applies (Some f) journal a b = absurd cc
 
 ready-by : (s : State) (entries : List Entry) (terminal number : ℕ) (request : Request) (rooms : Rooms) (journal : Option Refusal) (told : Result Prepared Refusal)
     → journal ≡ journal_refusal entries terminal number
-    → IfOk told (IsReady s request) → OnOk told (refusal s request ≡ None) → IfOk told (HasRoom rooms)
-    → IfOk (by_order journal told) (CanFinish s entries terminal number request rooms)
+    → IfOk told (IsReady s request) → OnOk told (refusal s request ≡ None) → IfOk told (HasRoom rooms request)
+    → IfOk (order_refusals journal told) (CanFinish s entries terminal number request rooms)
 unfolding turn_refusal
 ready-by s entries terminal number request rooms None (Ok prepared) same ready none room =
-    record { ready = ready; room = room; accepted = none_applies (refusal s request) (journal_refusal entries terminal number) none (sym same) }
+    record { ready = ready; room = room; none = none; accepted = none_applies (refusal s request) (journal_refusal entries terminal number) none (sym same) }
 ready-by s entries terminal number request rooms (Some r) (Ok prepared) same ready none room = tt
 ready-by s entries terminal number request rooms None (Err r) same ready none room = tt
 ready-by s entries terminal number request rooms (Some j) (Err r) same ready none room = tt
 
 -- what is ready can be finished, and the journal refuses nothing
 pub decided-ready : (s : State) (entries : List Entry) (terminal number : ℕ) (request : Request) (rooms : Rooms) (told : Result Prepared Refusal)
-    → IfOk told (IsReady s request) → OnOk told (refusal s request ≡ None) → IfOk told (HasRoom rooms)
-    → IfOk (by_order (journal_refusal entries terminal number) told) (CanFinish s entries terminal number request rooms)
+    → IfOk told (IsReady s request) → OnOk told (refusal s request ≡ None) → IfOk told (HasRoom rooms request)
+    → IfOk (order_refusals (journal_refusal entries terminal number) told) (CanFinish s entries terminal number request rooms)
 decided-ready s entries terminal number request rooms told ready none room =
     ready-by s entries terminal number request rooms (journal_refusal entries terminal number) told refl ready none room
 
@@ -50,7 +50,7 @@ same-refusal f e h = cc
 
 refused-by : (first journal : Option Refusal) (told : Result Prepared Refusal)
     → OnOk told (first ≡ None) → IfErr told (λ e. option_or first (Some NoMemory) ≡ Some e)
-    → IfErr (by_order journal told) (λ r. option_or (option_or (early first) (option_or journal first)) (Some NoMemory) ≡ Some r)
+    → IfErr (order_refusals journal told) (λ r. option_or (option_or (early first) (option_or journal first)) (Some NoMemory) ≡ Some r)
 refused-by None None (Ok p) none some = tt
 refused-by None (Some j) (Ok p) none some = refl
 refused-by (Some f) None (Ok p) none some = tt
@@ -65,7 +65,7 @@ refused-by (Some f) (Some j) (Err e) none some =
 -- what is told is the first refusal that applies
 pub decided-refused : (s : State) (entries : List Entry) (terminal number : ℕ) (request : Request) (told : Result Prepared Refusal)
     → OnOk told (refusal s request ≡ None) → IfErr told (λ e. option_or (refusal s request) (Some NoMemory) ≡ Some e)
-    → IfErr (by_order (journal_refusal entries terminal number) told) (λ r. option_or (turn_refusal s entries terminal number request) (Some NoMemory) ≡ Some r)
+    → IfErr (order_refusals (journal_refusal entries terminal number) told) (λ r. option_or (turn_refusal s entries terminal number request) (Some NoMemory) ≡ Some r)
 unfolding turn_refusal
 decided-refused s entries terminal number request told none some =
     refused-by (refusal s request) (journal_refusal entries terminal number) told none some

@@ -1,17 +1,16 @@
 -- Telling that the journal has grown keeps the rule.
-use Rattle.std.proofs.Common.{◌≡◌, ◌≢◌, ℕ, ◌+◌, ◌%◌, ◌^◌, ◌<◌, List, [], ◌∷◌, refl, sym, ap, ◌∙◌, subst, inr, arith, Some}
+use Rattle.std.proofs.Common.{◌≡◌, ◌≢◌, ℕ, ◌<◌, List, [], ◌∷◌, refl, sym, ap, ◌∙◌, subst, inr, arith, Some}
 use Rattle.std.specs.Prelude.{Option, slice_index, slice_set}
-use mathlib.Core.Option.{some, none, Option as Home}
+use mathlib.Core.Option.{some}
 use mathlib.Core.List.{IsPrefix}
 use lib.ListN.{get_elem?}
 use Rattle.atomic_table.specs.Table.{State, Step, keeps, Allows}
 use Rattle.tpcc_rows.specs.declared.entry.Entry.{Entry}
 use Rattle.tpcc_book.specs.Past.{Past}
 use Rattle.tpcc_book.specs.declared.turns.knows.Knows.{Knows}
-use Rattle.tpcc_book.specs.declared.turns.knows.Heard.{Heard}
 use Rattle.tpcc_book.specs.declared.turns.knows.Stage.{Stage}
 use Rattle.tpcc_book.specs.declared.turns.knows.Stage.TheVariants.{Idle, Out, Holds}
-use Rattle.tpcc_book.specs.Turning.{knows, out_of, HasTicket, Stands, IsHeard, IsSeated, IsTurning, Grown}
+use Rattle.tpcc_book.specs.Turning.{knows, out_of, HasTicket, Stands, IsSeated, IsTurning, Grown}
 use Rattle.tpcc_book.proofs.Seats.{total_set, each_set, apart_set, set_same, prefix_self, prefix_trans, heard_on}
 use Rattle.tpcc_book.proofs.Ends.{holder, some_same, is_away}
 use Rattle.tpcc_population.specs.declared.opening.Opening.{Opening}

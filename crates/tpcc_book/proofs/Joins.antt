@@ -1,9 +1,9 @@
 -- Seats joined into one.
-use Rattle.std.proofs.Common.{◌≡◌, ◌∙◌, ◌+◌, suc, List, [], ◌∷◌, ◌++◌, refl, sym, ap, subst, arith, All}
+use Rattle.std.proofs.Common.{◌≡◌, ◌∙◌, suc, List, [], ◌∷◌, ◌++◌, refl, sym, ap, subst, arith}
 use Rattle.std.proofs.lemmas.List.Elements.{All-same, All-push}
 use mathlib.Core.List.{IsPrefix, map-append}
 use Rattle.tpcc_rows.specs.declared.entry.Entry.{Entry}
-use Rattle.tpcc_book.specs.Purses.{Held, Pooled, pool_of, pooled}
+use Rattle.tpcc_book.specs.Purses.{Pooled, pool_of, pooled}
 use Rattle.tpcc_book.specs.Seats.{Seated, view_of, purses_of}
 use Rattle.tpcc_book.specs.Gathering.{HasSeen, AllBegin, HasJoined}
 use Rattle.tpcc_book.specs.Shares.{both_of, heard_of}

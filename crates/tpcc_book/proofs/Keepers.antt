@@ -1,5 +1,5 @@
 -- The steps of a held turn, put together.
-use Rattle.std.proofs.Common.{◌≡◌, ℕ, ◌+◌, ◌-◌, ◌%◌, ◌^◌, ◌<◌, List, [], ◌∷◌, ◌++◌, refl, sym, ap, ◌∙◌, subst, Some, arith}
+use Rattle.std.proofs.Common.{◌≡◌, ℕ, ◌+◌, ◌-◌, ◌%◌, ◌^◌, ◌<◌, List, [], ◌∷◌, refl, sym, ap, ◌∙◌, subst, Some, arith}
 use Rattle.std.specs.Prelude.{Option, None, Result, Ok, Err, MatchResult}
 use mathlib.Core.Option.{some}
 use mathlib.Core.List.{IsPrefix}
@@ -10,18 +10,15 @@ use Rattle.tpcc_rows.specs.declared.requests.Request.{Request}
 use Rattle.tpcc_rows.specs.declared.replies.Reply.{Reply}
 use Rattle.tpcc_rows.specs.declared.refusals.Refusal.{Refusal}
 use Rattle.tpcc_rows.specs.Replay.{count_of, paid_by_request}
-use Rattle.tpcc_population.specs.declared.opening.Opening.{Opening}
 use Rattle.tpcc_book.specs.Past.{Past, IsKept}
 use Rattle.tpcc_book.specs.Purses.{Held}
 use Rattle.tpcc_book.specs.Told.{Told}
 use Rattle.tpcc_book.specs.Serve.{IsServed, credited}
-use Rattle.tpcc_book.specs.Seats.{Seated, Keeper, start_of, front_of, number_of, keeping, IsTurned}
+use Rattle.tpcc_book.specs.Seats.{Seated, start_of, front_of, number_of, keeping, IsTurned}
 use Rattle.tpcc_book.specs.Shares.{heard_of, both_of, last_parts, freed_of, back_of}
 use Rattle.tpcc_book.specs.Turning.{knows, IsHeard, Grew}
 use Rattle.tpcc_book.specs.TurnSteps.{Taken, Giving, Growing, CanGrow, Shown}
 use Rattle.tpcc_book.specs.declared.turns.knows.Knows.{Knows}
-use Rattle.tpcc_book.specs.declared.turns.knows.Heard.{Heard}
-use Rattle.tpcc_book.specs.declared.turns.knows.Stage.{Stage}
 use Rattle.tpcc_book.specs.declared.turns.knows.Stage.TheVariants.{Idle, Holds}
 use Rattle.tpcc_book.proofs.Seats.{prefix_self}
 use Rattle.tpcc_book.proofs.Serves.{own_of, grown, same_opening, head_same}

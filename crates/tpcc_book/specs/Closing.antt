@@ -1,5 +1,5 @@
 -- What is known of the book when the turns end.
-use Rattle.std.specs.Prelude.{ℕ, ℤ, ◌≡◌, ◌==◌, List, length, All, Option, Some, None, if◌then◌else◌}
+use Rattle.std.specs.Prelude.{ℕ, ℤ, ◌≡◌, ◌==◌, List, length, All, Option, None, if◌then◌else◌}
 use mathlib.Core.Option.{some}
 use mathlib.Core.List.{IsPrefix}
 use lib.ListN.{get_elem?}

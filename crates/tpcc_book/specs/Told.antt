@@ -3,6 +3,7 @@ use Rattle.std.specs.Prelude.{ℕ, Option, Result}
 use Rattle.tpcc_rows.specs.declared.requests.Request.{Request}
 use Rattle.tpcc_rows.specs.declared.replies.Reply.{Reply}
 use Rattle.tpcc_rows.specs.declared.refusals.Refusal.{Refusal}
+use Rattle.tpcc_book.specs.declared.turned.Turned.{Turned}
 
 -- the request, its reply or refusal, the place of its entry, and the purse that was handed in
 pub record Told (P : Type 0) : Type 0 where
@@ -10,3 +11,8 @@ pub record Told (P : Type 0) : Type 0 where
   pub outcome : Result Reply Refusal
   pub place : Option ℕ
   pub purse : P
+
+-- what a turn gave back, with the purse
+abbrev pub answer_of : {P : Type 0} → Turned → P → Told P
+answer_of turned purse =
+    record { request = turned.request; outcome = turned.outcome; place = turned.place; purse = purse }

@@ -1,6 +1,8 @@
 //! A sealed answer.
 ghost use Rattle.std.specs.Prelude.{◌≡◌};
+ghost use Rattle.tpcc_book.specs.Told.{answer_of};
 
+use crate::turned::Turned;
 use std::marker::Model;
 use tpcc_rows::{Refusal, Reply, Request};
 
@@ -8,58 +10,44 @@ use tpcc_rows::{Refusal, Reply, Request};
 /// holds an answer holds what a book answered.
 #[derive(Drop)]
 pub struct Answer<P> {
-    request: Request,
-    outcome: Result<Reply, Refusal>,
-    place: Option<u64>,
+    turned: Turned,
     purse: P,
 }
 
 impl<P> Model for Answer<P> {
-    ghost use Rattle.tpcc_book.specs.Told.{Told};
+    ghost use Rattle.tpcc_book.specs.Told.{Told, answer_of};
 
     ghost Value = { Told P };
 
-    ghost view = { λ a.
-        record { request = a.request; outcome = a.outcome; place = a.place; purse = a.purse } };
+    ghost view = { λ a. answer_of a.turned a.purse };
 }
 
 impl<P> Answer<P> {
-    pub(crate) fn new(
-        request: Request,
-        outcome: Result<Reply, Refusal>,
-        place: Option<u64>,
-        purse: P,
-    ) -> Answer<P>
-        ensures { result
-            ≡ record { request = request; outcome = outcome; place = place; purse = purse } }
+    pub(crate) fn new(turned: Turned, purse: P) -> Answer<P>
+        ensures { result ≡ answer_of turned purse }
     {
-        Answer {
-            request,
-            outcome,
-            place,
-            purse,
-        }
+        Answer { turned, purse }
     }
 
     /// The request that was served.
     pub fn request(&self) -> &Request
         ensures request { result.now ≡ self.now.request }
     {
-        &self.request
+        &self.turned.request
     }
 
     /// Its reply, or why it was refused.
     pub fn outcome(&self) -> &Result<Reply, Refusal>
         ensures outcome { result.now ≡ self.now.outcome }
     {
-        &self.outcome
+        &self.turned.outcome
     }
 
     /// The place of its entry in the journal, counted from 0; None after a refusal.
     pub fn place(&self) -> Option<u64>
         ensures place { result ≡ self.now.place }
     {
-        self.place
+        self.turned.place
     }
 
     /// The purse that was handed in, as it is now.
@@ -76,12 +64,7 @@ impl<P> Answer<P> {
         ensures place { result.2 ≡ self.place }
         ensures purse { result.3 ≡ self.purse }
     {
-        let Answer {
-            request,
-            outcome,
-            place,
-            purse,
-        } = self;
-        (request, outcome, place, purse)
+        let Answer { turned, purse } = self;
+        (turned.request, turned.outcome, turned.place, purse)
     }
 }

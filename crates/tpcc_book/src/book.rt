@@ -2,6 +2,7 @@
 ghost use Rattle.std.specs.Prelude.{◌≡◌, IfOk, pos, length};
 ghost use Rattle.tpcc_book.specs.Past.{IsKept, opened, rise_of};
 ghost use Rattle.tpcc_book.specs.Turn.{TakesTurn, MakesTurn};
+ghost use Rattle.tpcc_book.specs.Told.{answer_of};
 ghost use Rattle.tpcc_book.specs.Serve.{IsServed, rooms_of, entries_of, paid_of};
 
 use crate::answer::Answer;
@@ -123,18 +124,28 @@ impl<N: Naming> Book<N> {
         ensures served { IsServed self.old request purse result self.new }
     {
         let mut purse = purse;
+        let turned = self.serve_for(request, &mut purse, turn);
+        Answer::new(turned, purse)
+    }
+
+    // The same for a purse that stays where it is.
+    pub(crate) fn serve_for<F: FnOnce(&mut Register, Request, u32, u64) -> Turned>(
+        &mut self,
+        request: Request,
+        purse: &mut Purse<N>,
+        turn: F,
+    ) -> Turned
+        requires takes { TakesTurn (F.pre turn) }
+        requires turns { MakesTurn (F.post turn) }
+        ensures served { IsServed self.old request purse.old (answer_of result purse.new) self.new }
+    {
         let paid = request.paid();
-        let Turned {
-            request,
-            outcome,
-            place,
-        } = self
-            .register
-            .turn_by(request, purse.terminal(), purse.entries(), turn);
-        if outcome.is_ok() {
+        let (terminal, entries) = (purse.terminal(), purse.entries());
+        let turned = self.register.turn_by(request, terminal, entries, turn);
+        if turned.outcome.is_ok() {
             purse.credit(&mut self.entries, &mut self.cents, paid);
         }
-        Answer::new(request, outcome, place, purse)
+        turned
     }
 
     /// The entries and the payments of all purses of the book, put together. The conditions of a call are

@@ -3,8 +3,8 @@
 
 mod answer;
 mod book;
+mod halves;
 mod naming;
-mod prepared;
 mod purse;
 mod register;
 mod steps;

@@ -1,6 +1,7 @@
 //! The register: the rows of an opening, and the journal that they are the replay of.
-ghost use Rattle.std.specs.Prelude.{◌≡◌, Some, None, IfOk, IfErr, OnOk};
+ghost use Rattle.std.specs.Prelude.{◌≡◌, Some, None, IfOk, IfErr, OnOk, length};
 ghost use Rattle.tpcc_book.specs.Past.{IsKept, Rises, opened, rise_of};
+ghost use Rattle.tpcc_rows.specs.Turn.{reply_to};
 ghost use Rattle.tpcc_book.specs.Turn.{IsTurn, TakesTurn, MakesTurn, Accepts, Refuses};
 
 use crate::steps::{commit, make_ready};
@@ -13,7 +14,7 @@ use tpcc_journal::Journal;
 use tpcc_laws::laws;
 use tpcc_money::{Cents, NoMemory};
 use tpcc_population::{Opening, fill, opening_is_sound};
-use tpcc_rows::{Refusal, Reply, Request};
+use tpcc_rows::{Refusal, Request};
 use tpcc_tables::tables::Tables;
 
 /// Tables, queue and journal of one opening. Whenever it can be seen, its rows satisfy the
@@ -113,11 +114,17 @@ impl Register {
         ensures turn { IsTurn self.old terminal number request result self.new }
     {
         match self.try_turn(&request, terminal, number) {
-            Ok((reply, place)) => Turned {
-                request,
-                outcome: Ok(reply),
-                place: Some(place),
-            },
+            Ok(()) => {
+                let place = self.journal.len() - 1;
+                let Some(entry) = self.journal.entry(place) else {
+                    unreachable!()
+                };
+                Turned {
+                    request,
+                    outcome: Ok(entry.reply),
+                    place: Some(place as u64),
+                }
+            }
             Err(refusal) => Turned {
                 request,
                 outcome: Err(refusal),
@@ -141,18 +148,15 @@ impl Register {
     {
         let _opening = self.opening;
         laws::turn_pays();
-        called(self, request, terminal, number, turn)
+        call_turn(self, request, terminal, number, turn)
     }
 
-    // Makes the turn, or tells why not.
-    fn try_turn(
-        &mut self,
-        request: &Request,
-        terminal: u32,
-        number: u64,
-    ) -> Result<(Reply, u64), Refusal>
-        ensures ok { IfOk result (λ r.
-            Accepts self.old terminal number request.now (Some r.1) self.new r.0) }
+    // Makes the turn and its entry, or tells why not.
+    fn try_turn(&mut self, request: &Request, terminal: u32, number: u64) -> Result<(), Refusal>
+        ensures ok { OnOk result
+            (Accepts self.old terminal number request.now
+            (Some (length self.old.entries)) self.new
+            (reply_to self.old.state request.now)) }
         ensures err { IfErr result (λ e.
             Refuses self.old terminal number request.now None self.new e) }
     {
@@ -164,7 +168,7 @@ impl Register {
             terminal,
             number,
         )?;
-        let made = commit(
+        commit(
             &mut self.tables,
             &mut self.queue,
             &mut self.journal,
@@ -176,11 +180,12 @@ impl Register {
         laws::turn_keeps();
         laws::turn_pays();
         laws::journal_grows();
-        Ok(made)
+        Ok(())
     }
 }
 
-fn called<F: FnOnce(&mut Register, Request, u32, u64) -> Turned>(
+// One call.
+fn call_turn<F: FnOnce(&mut Register, Request, u32, u64) -> Turned>(
     register: &mut Register,
     request: Request,
     terminal: u32,

@@ -1,16 +1,15 @@
 //! The steps of a turn: what may fail first, and then what can't.
-ghost use Rattle.std.specs.Prelude.{◌≡◌, ◌<◌, ◌∷◌, ◌++◌, [], None, Some, IfOk, IfErr, OnOk, length};
+ghost use Rattle.std.specs.Prelude.{◌≡◌, ◌<◌, ◌∷◌, ◌++◌, [], None, Some, IfOk, IfErr, OnOk};
 ghost use Rattle.std.specs.Option.{option_or};
-ghost use Rattle.tpcc_rows.specs.declared.requests.Request.{Request};
 ghost use Rattle.tpcc_rows.specs.WellKeyed.{IsStocked};
-ghost use Rattle.tpcc_rows.specs.Turn.{state_after, reply_to};
-ghost use Rattle.tpcc_book.specs.Ready.{CanFinish, IsReady, HasRoom, state_of, room_in, by_order};
+ghost use Rattle.tpcc_rows.specs.Turn.{refusal, state_after, reply_to};
+ghost use Rattle.tpcc_book.specs.Ready.{CanFinish, IsReady, HasRoom, state_of, room_in, order_refusals};
 ghost use Rattle.tpcc_book.specs.Turn.{journal_refusal, turn_refusal};
 
-use crate::prepared::{Prepared, finish, prepare};
+use crate::halves::{Prepared, finish, prepare};
 use tpcc_delivery::Queue;
 use tpcc_journal::Journal;
-use tpcc_rows::{Entry, Refusal, Reply, Request};
+use tpcc_rows::{Entry, Refusal, Request};
 use tpcc_tables::tables::Tables;
 
 // At most so many entries are journaled.
@@ -31,11 +30,11 @@ fn journal_refusal(journal: &Journal, terminal: u32, number: u64) -> Option<Refu
 }
 
 /// The refusals 1 to 9 come before those of the journal, and these before all others.
-fn by_order(
+fn order_refusals(
     journal: Option<Refusal>,
     prepared: Result<Prepared, Refusal>,
 ) -> Result<Prepared, Refusal>
-    ensures { result ≡ by_order journal prepared }
+    ensures { result ≡ order_refusals journal prepared }
 {
     match prepared {
         Ok(prepared) => match journal {
@@ -68,10 +67,10 @@ fn decide(
         (Some Refusal.NoMemory) ≡ Some r) }
 {
     let prepared = prepare(tables, queue, request);
-    by_order(journal_refusal(journal, terminal, number), prepared)
+    order_refusals(journal_refusal(journal, terminal, number), prepared)
 }
 
-fn copied(request: &Request) -> Result<Request, Refusal>
+fn copy_request(request: &Request) -> Result<Request, Refusal>
     ensures copy { IfOk result (λ copy. copy ≡ request.now) }
     ensures refused { IfErr result (λ r. r ≡ Refusal.NoMemory) }
 {
@@ -123,7 +122,7 @@ pub(crate) fn make_ready(
         (Some Refusal.NoMemory) ≡ Some r) }
 {
     let prepared = decide(tables, queue, journal, request, terminal, number)?;
-    let copy = copied(request)?;
+    let copy = copy_request(request)?;
     make_room(journal)?;
     Ok(Ready { prepared, copy })
 }
@@ -136,9 +135,11 @@ pub(crate) fn commit(
     ready: Ready,
     terminal: u32,
     number: u64,
-) -> (Reply, u64)
+)
+    requires stocked { IsStocked tables.old.rows }
+    requires accepted { refusal (state_of tables.old queue.old) ready.copy ≡ None }
     requires prepared { IsReady (state_of tables.old queue.old) ready.copy ready.prepared }
-    requires room { HasRoom (room_in tables.old queue.old) ready.prepared }
+    requires room { HasRoom (room_in tables.old queue.old) ready.copy ready.prepared }
     requires entry { 0 < journal.old.room }
     ensures state { state_of tables.new queue.new
         ≡ state_after (state_of tables.old queue.old) ready.copy }
@@ -150,18 +151,13 @@ pub(crate) fn commit(
           request = ready.copy;
           reply = reply_to (state_of tables.old queue.old) ready.copy;
         } ∷ [] }
-    ensures reply { result.0 ≡ reply_to (state_of tables.old queue.old) ready.copy }
-    ensures place { result.1 ≡ length journal.old.entries }
 {
     let Ready { prepared, copy } = ready;
-    let place = journal.len() as u64;
-    let reply = finish(tables, queue, &prepared);
-    let stored = reply;
+    let reply = finish(tables, queue, &copy, prepared);
     journal.append(Entry {
         terminal,
         number,
         request: copy,
-        reply: stored,
+        reply,
     });
-    (reply, place)
 }

@@ -99,12 +99,15 @@ impl<N: Naming, T: Seating> Turns<N, T> {
         requires turns { MakesTurn (F.post turn) }
         ensures turned { IsTurned request purse result }
     {
-        let SeatedPurse { purse, badge, of } = purse;
+        let SeatedPurse {
+            mut purse,
+            badge,
+            of,
+        } = purse;
         let mut seat = badge.into_seat::<Option<Book<N>>>();
         let board = &self.table.shared;
         let (ticket, mut book) = take(rt, board, &mut seat);
-        let answer = book.serve_by(request, purse, turn);
-        let (request, outcome, place, purse) = answer.into_parts();
+        let turned = book.serve_for(request, &mut purse, turn);
         let _journal = book.journal();
         give(board, &mut seat, ticket, book);
         let purse = SeatedPurse {
@@ -112,6 +115,6 @@ impl<N: Naming, T: Seating> Turns<N, T> {
             badge: seat.into_badge(),
             of,
         };
-        Answer::new(request, outcome, place, purse)
+        Answer::new(turned, purse)
     }
 }

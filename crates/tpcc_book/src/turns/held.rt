@@ -81,14 +81,13 @@ impl<N: Naming, T: Seating> Turns<N, T> {
             of,
         } = held;
         let SeatedPurse {
-            purse,
+            mut purse,
             badge,
             of: _,
         } = purse;
         let board = &self.table.shared;
         adopt(board, &mut seat, badge.into_seat::<Option<Book<N>>>());
-        let answer = book.serve_by(request, purse, turn);
-        let (request, outcome, place, purse) = answer.into_parts();
+        let turned = book.serve_for(request, &mut purse, turn);
         let book = show(board, &mut seat, book);
         let _journal = book.journal();
         let back = free(board, &mut seat);
@@ -104,7 +103,7 @@ impl<N: Naming, T: Seating> Turns<N, T> {
             book,
             of,
         };
-        (held, Answer::new(request, outcome, place, purse))
+        (held, Answer::new(turned, purse))
     }
 
     /// Ends a turn that was kept: the keeper's purse, which has seen the whole journal.

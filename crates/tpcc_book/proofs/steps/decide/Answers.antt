@@ -4,8 +4,8 @@ use Rattle.tpcc_book.proofs.steps.decide.Goals as goal
 
 pub returns-clause-ready : goal.returns-clause-ready
 returns-clause-ready c =
-    rw (c.by_order.ensures, c.journal_refusal.ensures) (decided-ready (state_of c.args.tables.now c.args.queue.now) c.args.journal.now.entries c.args.terminal c.args.number c.args.request.now (room_in c.prepare-prepared.new.tables c.prepare-prepared.new.queue) c.prepare-prepared.result c.prepare-prepared.ensures.ready c.prepare-prepared.ensures.accepted c.prepare-prepared.ensures.room)
+    rw (c.order_refusals.ensures, c.journal_refusal.ensures) (decided-ready (state_of c.args.tables.now c.args.queue.now) c.args.journal.now.entries c.args.terminal c.args.number c.args.request.now (room_in c.prepare-prepared.new.tables c.prepare-prepared.new.queue) c.prepare-prepared.result c.prepare-prepared.ensures.ready c.prepare-prepared.ensures.accepted c.prepare-prepared.ensures.room)
 
 pub returns-clause-refused : goal.returns-clause-refused
 returns-clause-refused c =
-    rw (c.by_order.ensures, c.journal_refusal.ensures) (decided-refused (state_of c.args.tables.now c.args.queue.now) c.args.journal.now.entries c.args.terminal c.args.number c.args.request.now c.prepare-prepared.result c.prepare-prepared.ensures.accepted c.prepare-prepared.ensures.refused)
+    rw (c.order_refusals.ensures, c.journal_refusal.ensures) (decided-refused (state_of c.args.tables.now c.args.queue.now) c.args.journal.now.entries c.args.terminal c.args.number c.args.request.now c.prepare-prepared.result c.prepare-prepared.ensures.accepted c.prepare-prepared.ensures.refused)

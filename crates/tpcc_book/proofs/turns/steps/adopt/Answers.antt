@@ -1,4 +1,4 @@
-use Rattle.std.proofs.Common.{◌∙◌, sym, arith}
+use Rattle.std.proofs.Common.{arith}
 use Rattle.tpcc_book.proofs.Shares.{joins}
 use Rattle.tpcc_book.proofs.turns.steps.adopt.Goals as goal
 
