@@ -9,18 +9,10 @@ ghost use Rattle.tpcc_new_order.specs.Tests.{overruns_of, overruns_with, range_t
 
 use crate::lookups::stock_of;
 use crate::supply::{StockNumbers, numbers_after};
+use tpcc_rows::limits::{GREATEST_COUNT, GREATEST_ORDER, GREATEST_STOCK_YTD};
 use tpcc_rows::refusals::{Field, Refusal};
 use tpcc_rows::requests::{Line, Order};
 use tpcc_tables::tables::Tables;
-
-// The greatest D_NEXT_O_ID, which no order takes.
-const GREATEST_ORDER: u32 = 9_999_999;
-
-// The greatest S_ORDER_CNT and S_REMOTE_CNT.
-const GREATEST_COUNT: u32 = 999_999_999;
-
-// The greatest S_YTD.
-const GREATEST_STOCK_YTD: u32 = 99_999_999;
 
 /// Which columns would leave their ranges in some STOCK row of an order.
 #[derive(Clone, Copy)]

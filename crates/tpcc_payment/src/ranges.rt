@@ -6,43 +6,36 @@ ghost use Rattle.tpcc_payment.specs.Prepares.{range_tests};
 
 use crate::named_rows::NamedRows;
 use tpcc_money::Cents;
+use tpcc_rows::limits::{GREATEST_COUNT, GREATEST_PAYMENT, GREATEST_TOTAL, LEAST_PAYMENT};
 use tpcc_rows::refusals::{Field, Refusal};
 
-// The greatest of W_YTD, D_YTD and C_YTD_PAYMENT, and of C_BALANCE in size: 9,999,999,999.99.
-const GREATEST_TOTAL: i128 = 999_999_999_999;
-
-// The greatest C_PAYMENT_CNT.
-const GREATEST_COUNT: u64 = 999_999_999;
-
-// The least and the greatest H_AMOUNT: 1.00 and 5,000.00.
-const LEAST_AMOUNT: i64 = 100;
-
-const GREATEST_AMOUNT: i64 = 500_000;
+// A sum of two amounts has more bits than an amount.
+const GREATEST: i128 = GREATEST_TOTAL as i128;
 
 fn is_total_after(total: Cents, amount: Cents) -> bool
     ensures { result ≡ is_total (total +ℤ amount) }
 {
     let sum = i128::from(total.value()) + i128::from(amount.value());
-    0 <= sum && sum <= GREATEST_TOTAL
+    0 <= sum && sum <= GREATEST
 }
 
 fn is_balance_after(balance: Cents, amount: Cents) -> bool
     ensures { result ≡ is_balance (balance -ℤ amount) }
 {
     let sum = i128::from(balance.value()) - i128::from(amount.value());
-    -GREATEST_TOTAL <= sum && sum <= GREATEST_TOTAL
+    -GREATEST <= sum && sum <= GREATEST
 }
 
 fn is_count_after(count: u32) -> bool
     ensures { result ≡ is_count (count + 1) }
 {
-    u64::from(count) + 1 <= GREATEST_COUNT
+    count < GREATEST_COUNT
 }
 
 fn is_payable(amount: Cents) -> bool
     ensures { result ≡ is_amount_within (pos 100) (pos 500000) amount }
 {
-    LEAST_AMOUNT <= amount.value() && amount.value() <= GREATEST_AMOUNT
+    LEAST_PAYMENT <= amount.value() && amount.value() <= GREATEST_PAYMENT
 }
 
 #[tactic(auto, unfolding(crate::specs::Prepares::range_tests))]

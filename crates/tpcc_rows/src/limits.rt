@@ -1,4 +1,4 @@
-//! The greatest values of the columns (1.3, 4.2.2), each once; `specs/Ranges.antt` has the same numbers for the clauses.
+//! The limits of the columns (1.3, 4.2.2), each once; `specs/Ranges.antt` has the same numbers for the clauses.
 
 /// W_ID.
 pub const GREATEST_WAREHOUSE: u32 = 100;
@@ -26,3 +26,9 @@ pub const GREATEST_STOCK_YTD: u32 = 99_999_999;
 
 /// W_YTD, D_YTD, C_BALANCE, C_YTD_PAYMENT and C_CREDIT_LIM, in cents: 9,999,999,999.99. A balance may be as far below zero.
 pub const GREATEST_TOTAL: i64 = 999_999_999_999;
+
+/// H_AMOUNT, in cents: 1.00 to 5,000.00 (2.5.1.3).
+pub const LEAST_PAYMENT: i64 = 100;
+
+/// See [`LEAST_PAYMENT`].
+pub const GREATEST_PAYMENT: i64 = 500_000;
