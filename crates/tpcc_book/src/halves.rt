@@ -7,7 +7,7 @@ ghost use Rattle.tpcc_rows.specs.Turn.{refusal, state_after, reply_to};
 ghost use Rattle.tpcc_book.specs.Ready.{IsReady, HasRoom, state_of, room_in};
 
 use tpcc_delivery::{PreparedRun, Queue, finish_run, finish_ticket, prepare_run, prepare_ticket};
-use tpcc_lookups::{Level, Status, order_status, stock_level};
+use tpcc_lookups::{Level, order_status, stock_level};
 use tpcc_rows::{Refusal, Reply, Request, StatusQuery};
 use tpcc_tables::tables::Tables;
 
@@ -21,6 +21,18 @@ pub enum Prepared {
     Level(Level),
     Ticket,
     Run(PreparedRun),
+}
+
+// The refusal of a query. A function has room for its longest value, so the long reply stays in here.
+fn judge_status(tables: &Tables, query: &StatusQuery) -> Result<(), Refusal>
+    ensures accepted { OnOk result (status_refusal tables.now.rows query.now ≡ None) }
+    ensures refused { IfErr result (λ refusal.
+        status_refusal tables.now.rows query.now ≡ Some refusal) }
+{
+    match order_status(tables, query) {
+        Ok(_) => Ok(()),
+        Err(refusal) => Err(refusal),
+    }
 }
 
 #[tactic(auto, unfolding(tpcc_rows::specs::Turn::refusal, crate::specs::Ready::IsReady, crate::specs::Ready::HasRoom))]
@@ -49,10 +61,10 @@ pub(crate) fn prepare(
             Ok(prepared) => Ok(Prepared::Payment(prepared)),
             Err(refusal) => Err(refusal),
         },
-        Request::Status(query) => match order_status(tables, query) {
-            Ok(_) => Ok(Prepared::Status),
-            Err(refusal) => Err(refusal),
-        },
+        Request::Status(query) => {
+            judge_status(tables, query)?;
+            Ok(Prepared::Status)
+        }
         Request::Stock(query) => Ok(Prepared::Level(stock_level(tables, query)?)),
         Request::Delivery(ticket) => {
             prepare_ticket(tables, queue, *ticket)?;
@@ -62,13 +74,13 @@ pub(crate) fn prepare(
     }
 }
 
-// What a query that nothing refuses is answered.
-fn status_of(tables: &Tables, query: &StatusQuery) -> Status
+// The reply to a query that nothing refuses.
+fn show_status(tables: &Tables, query: &StatusQuery) -> Reply
     requires accepted { status_refusal tables.now.rows query.now ≡ None }
-    ensures { result ≡ status_reply tables.now.rows query.now }
+    ensures { result ≡ Reply.Status (status_reply tables.now.rows query.now) }
 {
     match order_status(tables, query) {
-        Ok(status) => status,
+        Ok(status) => Reply::Status(status),
         Err(_) => unreachable!(),
     }
 }
@@ -102,7 +114,7 @@ pub(crate) fn finish(
             };
             Reply::Paid(tpcc_payment::finish(tables, payment, found))
         }
-        Request::Status(query) => Reply::Status(status_of(tables, query)),
+        Request::Status(query) => show_status(tables, query),
         Request::Stock(_) => {
             let Prepared::Level(level) = prepared else {
                 unreachable!()

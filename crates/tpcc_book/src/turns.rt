@@ -50,7 +50,8 @@ impl<N: Naming, T: Seating> Model for Turns<N, T> {
 
     ghost view = { λ t. t.table.shared.key };
 
-    ghost invariant = { λ t. (t.table.shared.table_id ≡ T.table) × (t.table.shared.table_id.words ≡ 2) × (t.table.shared.table_id.slots ≡ 1) };
+    ghost invariant = { λ t. (t.table.shared.table_id ≡ T.table)
+        × (t.table.shared.table_id.words ≡ 2) × (t.table.shared.table_id.slots ≡ 1) };
 }
 
 impl<N: Naming, T: Seating> Turns<N, T> {

@@ -20,7 +20,9 @@ fn warehouse_at(tables: &Tables, position: usize) -> Option<&WarehouseRow>
 
 /// W_YTD of the row at a place, in cents; 0 behind the last row.
 fn year_to_date_at(tables: &Tables, position: usize) -> i64
-    ensures { result ≡ unwrap_or (option_map (λ w. w.ytd) (slice_get tables.now.rows.warehouses position)) (pos 0) }
+    ensures { result
+        ≡ unwrap_or (option_map (λ w. w.ytd) (slice_get tables.now.rows.warehouses position))
+        (pos 0) }
 {
     match warehouse_at(tables, position) {
         Some(row) => row.ytd.value(),

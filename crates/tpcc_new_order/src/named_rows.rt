@@ -15,8 +15,11 @@ use tpcc_tables::tables::Tables;
 /// The rows that an order names.
 #[derive(Drop)]
 pub struct NamedRows<'a> {
+    /// The WAREHOUSE row.
     pub warehouse: &'a WarehouseRow,
+    /// The DISTRICT row.
     pub district: &'a DistrictRow,
+    /// The row of the customer who orders.
     pub customer: &'a CustomerRow,
 }
 

@@ -11,9 +11,13 @@ use tpcc_rows::rows::StockRow;
 /// The columns of a STOCK row that an order changes.
 #[derive(Clone, Copy)]
 pub struct StockNumbers {
+    /// S_QUANTITY.
     pub quantity: u32,
+    /// S_YTD.
     pub ytd: u32,
+    /// S_ORDER_CNT.
     pub order_count: u32,
+    /// S_REMOTE_CNT.
     pub remote_count: u32,
 }
 

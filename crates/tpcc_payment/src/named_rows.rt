@@ -16,8 +16,11 @@ use tpcc_tables::tables::Tables;
 /// The rows that a payment names.
 #[derive(Drop)]
 pub struct NamedRows<'a> {
+    /// The WAREHOUSE row.
     pub warehouse: &'a WarehouseRow,
+    /// The DISTRICT row.
     pub district: &'a DistrictRow,
+    /// The row of the customer who pays.
     pub customer: &'a CustomerRow,
 }
 

@@ -1,5 +1,5 @@
 //! What a payment of a customer with bad credit leaves in C_DATA (2.5.2.2).
-ghost use Rattle.std.specs.Prelude.{◌≡◌, ◌+◌, ◌++◌, ◌≤◌, ◌≤ℤ◌, pos, length, codes};
+ghost use Rattle.std.specs.Prelude.{◌≡◌, ◌+◌, ◌++◌, ◌≤◌, ◌≤ℤ◌, pos, length, take, codes};
 ghost use Rattle.std.specs.Fmt.{decimal};
 ghost use Rattle.tpcc_money.specs.Texts.{amount_text};
 ghost use Rattle.tpcc_rows.specs.Payment.{payment_note, has_bad_credit};
@@ -56,16 +56,27 @@ fn note(payment: &Payment, customer: &CustomerRow) -> Text<500>
     note
 }
 
-/// The new C_DATA of a customer with bad credit: the note and what stood before, cut to 500 bytes.
+/// The note and what stood before in C_DATA, cut to 500 bytes.
+fn put_note_before(payment: &Payment, customer: &CustomerRow) -> Text<500>
+    requires least { pos 0 ≤ℤ payment.now.amount }
+    requires most { payment.now.amount ≤ℤ pos 500000 }
+    ensures { result
+        ≡ take 500 (payment_note payment.now customer.now ++ customer.now.information) }
+{
+    let mut information = note(payment, customer);
+    information.fill(customer.information.bytes());
+    information
+}
+
+/// The new C_DATA of a customer with bad credit; of another none, and no bytes are moved.
 pub fn information_after(payment: &Payment, customer: &CustomerRow) -> Option<Text<500>>
     requires least { pos 0 ≤ℤ payment.now.amount }
     requires most { payment.now.amount ≤ℤ pos 500000 }
     ensures { result ≡ new_information payment.now customer.now }
 {
-    if !is_bad_credit(customer) {
-        return None;
+    if is_bad_credit(customer) {
+        Some(put_note_before(payment, customer))
+    } else {
+        None
     }
-    let mut information = note(payment, customer);
-    information.fill(customer.information.bytes());
-    Some(information)
 }

@@ -3,6 +3,7 @@ use crate::changes::Change;
 use crate::conditions::at;
 use crate::opening::{filled, loaded, scale};
 use std::alloc::AllocGlobal;
+use std::mem::size_of;
 use std::process::Abort;
 use tpcc_conditions::{check, check_opening};
 use tpcc_delivery::{Delivery, Queue, Ticket, deliver_next, queue};
@@ -141,4 +142,12 @@ fn runs_pass_over_a_gap_of_new_orders(rt: HostRuntime) {
     for order in [Some(8), Some(10), None] {
         assert_eq!(rt; delivered_in(&rt, &mut tables, &mut waiting, 2), order);
     }
+}
+
+/// What goes from the first half of a transaction to the second: the sizes of docs/architecture.md.
+#[test]
+fn little_is_prepared(rt: HostRuntime) {
+    assert_eq!(rt; size_of::<tpcc_new_order::Prepared>(), 1usize);
+    // A key of three numbers.
+    assert_eq!(rt; size_of::<tpcc_payment::Prepared>(), 3 * 4);
 }

@@ -35,7 +35,10 @@ impl<N: Naming, T: Seating> Model for HeldTurn<N, T> {
 
     ghost view = { λ h. record { purse = h.purse; start = h.seat.me.0.start } };
 
-    ghost invariant = { λ h. (h.seat.table_id ≡ T.table) × (h.seat.me ≡ keeping h.seat.me (h.purse.room + 1) h.book) × (h.ticket ≡ number_of h.seat.me.0.stage % 2 ^ 64) × (h.book.opening ≡ h.seat.me.0.start) };
+    ghost invariant = { λ h. (h.seat.table_id ≡ T.table)
+        × (h.seat.me ≡ keeping h.seat.me (h.purse.room + 1) h.book)
+        × (h.ticket ≡ number_of h.seat.me.0.stage % 2 ^ 64)
+        × (h.book.opening ≡ h.seat.me.0.start) };
 }
 
 impl<N: Naming, T: Seating> Turns<N, T> {

@@ -43,16 +43,25 @@ impl<N: Naming, T: Seating> Model for SeatedPurse<N, T> {
 
     ghost Value = { Seated };
 
-    ghost view = { λ p. record { purse = p.purse; start = start_of p.badge.views; front = front_of p.badge.views } };
+    ghost view = { λ p. record {
+      purse = p.purse;
+      start = start_of p.badge.views;
+      front = front_of p.badge.views;
+    } };
 
-    ghost invariant = { λ p. (p.badge.table_id ≡ T.table) × (p.badge.views ≡ knows (start_of p.badge.views) (front_of p.badge.views) (p.purse.room + 1) Idle [] ∷ []) };
+    ghost invariant = { λ p. (p.badge.table_id ≡ T.table)
+        × (p.badge.views
+        ≡ knows (start_of p.badge.views) (front_of p.badge.views)
+        (p.purse.room + 1) Idle [] ∷ []) };
 }
 
 impl<N: Naming, T: Seating> SeatedPurse<N, T> {
     pub(crate) fn of(purse: Purse<N>, badge: Badge<Knows>) -> SeatedPurse<N, T>
         requires table { badge.table_id ≡ T.table }
-        requires view { badge.views ≡ knows (start_of badge.views) (front_of badge.views) (purse.room + 1) Idle [] ∷ [] }
-        ensures seated { result ≡ record { purse = purse; start = start_of badge.views; front = front_of badge.views } }
+        requires view { badge.views
+            ≡ knows (start_of badge.views) (front_of badge.views) (purse.room + 1) Idle [] ∷ [] }
+        ensures seated { result
+            ≡ record { purse = purse; start = start_of badge.views; front = front_of badge.views } }
     {
         SeatedPurse {
             purse,

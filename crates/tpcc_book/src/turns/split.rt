@@ -36,8 +36,18 @@ impl<N: Naming, T: Seating> SeatedPurse<N, T> {
     /// An empty purse of a terminal, which takes one of the rooms, and has seen as much. It does not wait.
     pub fn split(&mut self, turns: &Turns<N, T>, terminal: u32) -> SeatedPurse<N, T>
         requires room { 0 < self.old.purse.room }
-        ensures new { result ≡ record { purse = record { terminal = terminal; entries = 0; paid = pos 0; room = 0 }; start = self.old.start; front = self.old.front } }
-        ensures rest { self.old ≡ record { purse = record self.new.purse { room = self.new.purse.room + 1 }; start = self.new.start; front = self.new.front } }
+        ensures new { result
+            ≡ record {
+              purse = record { terminal = terminal; entries = 0; paid = pos 0; room = 0 };
+              start = self.old.start;
+              front = self.old.front;
+            } }
+        ensures rest { self.old
+            ≡ record {
+              purse = record self.new.purse { room = self.new.purse.room + 1 };
+              start = self.new.start;
+              front = self.new.front;
+            } }
     {
         let board = &turns.table.shared;
         let badge = replace(&mut self.badge, Badge::blank());

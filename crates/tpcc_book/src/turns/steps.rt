@@ -40,7 +40,8 @@ fn wait<N: Naming, R: Wait>(rt: &R, board: &Board<N>, seat: &mut Place<N>, ticke
     requires fits { (seat.old.table_id ≡ board.now.table_id) × (board.now.table_id.words ≡ 2) }
     requires out { Awaits seat.old.me ticket }
     ensures same { (seat.new.table_id ≡ seat.old.table_id) × (seat.new.id ≡ seat.old.id) }
-    ensures called { (number : ℕ) → seat.old.me.0.stage ≡ Out number → Took seat.old.me number seat.new.me }
+    ensures called { (number : ℕ) → seat.old.me.0.stage ≡ Out number
+        → Took seat.old.me number seat.new.me }
 {
     for _ in rt.forever() {
         if board.load::<Look>(seat, 1) == ticket {
@@ -57,7 +58,9 @@ fn end<N: Naming>(board: &Board<N>, seat: &mut Place<N>, next: u64)
     requires fits { (seat.old.table_id ≡ board.now.table_id) × (board.now.table_id.words ≡ 2) }
     requires holds { Ending seat.old.me next }
     ensures same { (seat.new.table_id ≡ seat.old.table_id) × (seat.new.id ≡ seat.old.id) }
-    ensures ended { (book : Past) → seat.old.me.1 ≡ (0, Some book) ∷ [] → seat.new.me ≡ (knows seat.old.me.0.start book.entries seat.old.me.0.parts Idle seat.old.me.0.told, []) }
+    ensures ended { (book : Past) → seat.old.me.1 ≡ (0, Some book) ∷ []
+        → seat.new.me
+        ≡ (knows seat.old.me.0.start book.entries seat.old.me.0.parts Idle seat.old.me.0.told, []) }
 {
     board.store::<End>(seat, 1, next);
 }
@@ -69,7 +72,8 @@ pub(crate) fn take<N: Naming, R: Wait>(
     seat: &mut Place<N>,
 ) -> (u64, Book<N>)
     requires fits { (seat.old.table_id ≡ board.now.table_id) × (board.now.table_id.words ≡ 2) }
-    requires idle { (seat.old.me.0.stage ≡ Idle) × (0 < seat.old.me.0.parts) × (seat.old.me.1 ≡ []) }
+    requires idle { (seat.old.me.0.stage ≡ Idle) × (0 < seat.old.me.0.parts)
+        × (seat.old.me.1 ≡ []) }
     ensures same { (seat.new.table_id ≡ seat.old.table_id) × (seat.new.id ≡ seat.old.id) }
     ensures taken { Taken seat.old.me result.0 result.1 seat.new.me }
 {
@@ -98,7 +102,8 @@ fn put<B: Drop, V, K, P: TableRule<Option<B>, V, K>>(
 /// Joins an idle seat into one that has the turn.
 pub(crate) fn adopt<N: Naming>(board: &Board<N>, seat: &mut Place<N>, other: Place<N>)
     requires fits { (seat.old.table_id ≡ board.now.table_id) × (board.now.table_id.words ≡ 2) }
-    requires other { (other.table_id ≡ board.now.table_id) × (other.me.0.stage ≡ Idle) × (other.me.1 ≡ []) }
+    requires other { (other.table_id ≡ board.now.table_id) × (other.me.0.stage ≡ Idle)
+        × (other.me.1 ≡ []) }
     requires parts { (0 < seat.old.me.0.parts) × (0 < other.me.0.parts) }
     ensures same { (seat.new.table_id ≡ seat.old.table_id) × (seat.new.id ≡ seat.old.id) }
     ensures adopted { seat.new.me ≡ (both_of seat.old.me.0 other.me.0, seat.old.me.1) }
@@ -127,7 +132,8 @@ fn grow<N: Naming>(board: &Board<N>, seat: &mut Place<N>)
     requires fits { (seat.old.table_id ≡ board.now.table_id) × (board.now.table_id.words ≡ 2) }
     requires grows { CanGrow seat.old.me }
     ensures same { (seat.new.table_id ≡ seat.old.table_id) × (seat.new.id ≡ seat.old.id) }
-    ensures grown { (number : ℕ) (base : List Entry) (book : Past) → seat.old.me.0.stage ≡ Holds number base
+    ensures grown { (number : ℕ) (base : List Entry) (book : Past)
+        → seat.old.me.0.stage ≡ Holds number base
         → seat.old.me.1 ≡ (0, Some book) ∷ [] → Grew seat.old.me number base book seat.new.me }
 {
     board.load::<Grow>(seat, 0);
@@ -136,10 +142,12 @@ fn grow<N: Naming>(board: &Board<N>, seat: &mut Place<N>)
 /// Splits off the seat that was joined last.
 pub(crate) fn free<N: Naming>(board: &Board<N>, seat: &mut Place<N>) -> Place<N>
     requires fits { (seat.old.table_id ≡ board.now.table_id) × (board.now.table_id.words ≡ 2) }
-    requires parts { (0 < last_parts seat.old.me.0.told) × (last_parts seat.old.me.0.told < seat.old.me.0.parts) }
+    requires parts { (0 < last_parts seat.old.me.0.told)
+        × (last_parts seat.old.me.0.told < seat.old.me.0.parts) }
     ensures same { (seat.new.table_id ≡ seat.old.table_id) × (seat.new.id ≡ seat.old.id) }
     ensures left { seat.new.me ≡ (freed_of seat.old.me.0, seat.old.me.1) }
-    ensures back { (result.table_id ≡ seat.old.table_id) × (result.me ≡ (back_of seat.old.me.0, [])) }
+    ensures back { (result.table_id ≡ seat.old.table_id)
+        × (result.me ≡ (back_of seat.old.me.0, [])) }
 {
     board.split_seat::<LastJoined>(seat)
 }
@@ -149,7 +157,8 @@ pub(crate) fn give<N: Naming>(board: &Board<N>, seat: &mut Place<N>, ticket: u64
     requires fits { (seat.old.table_id ≡ board.now.table_id) × (board.now.table_id.words ≡ 2) }
     requires giving { Giving seat.old.me ticket book }
     ensures same { (seat.new.table_id ≡ seat.old.table_id) × (seat.new.id ≡ seat.old.id) }
-    ensures ended { seat.new.me ≡ (knows seat.old.me.0.start book.entries seat.old.me.0.parts Idle seat.old.me.0.told, []) }
+    ensures ended { seat.new.me
+        ≡ (knows seat.old.me.0.start book.entries seat.old.me.0.parts Idle seat.old.me.0.told, []) }
 {
     put(board, seat, book);
     end(board, seat, ticket.wrapping_add(1));

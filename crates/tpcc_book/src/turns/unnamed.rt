@@ -33,7 +33,10 @@ impl<N: Naming> Model for UnnamedTurns<N> {
 
     ghost view = { λ t. record { opening = t.table.shared.key; table = t.table.shared.table_id } };
 
-    ghost invariant = { λ t. (t.seat.table_id ≡ t.table.shared.table_id) × (t.table.shared.table_id.words ≡ 2) × (t.table.shared.table_id.slots ≡ 1) × (t.seat.me ≡ (first t.table.shared.key, [])) × (t.purse ≡ record { terminal = 0; entries = 0; paid = pos 0; room = 10000 }) };
+    ghost invariant = { λ t. (t.seat.table_id ≡ t.table.shared.table_id)
+        × (t.table.shared.table_id.words ≡ 2) × (t.table.shared.table_id.slots ≡ 1)
+        × (t.seat.me ≡ (first t.table.shared.key, []))
+        × (t.purse ≡ record { terminal = 0; entries = 0; paid = pos 0; room = 10000 }) };
 }
 
 impl<N: Naming> UnnamedTurns<N> {
@@ -59,7 +62,12 @@ impl<N: Naming> UnnamedTurns<N> {
     pub fn named<T: Seating>(self) -> (Turns<N, T>, SeatedPurse<N, T>)
         requires name { self.table ≡ T.table }
         ensures turns { result.0 ≡ self.opening }
-        ensures purse { result.1 ≡ record { purse = record { terminal = 0; entries = 0; paid = pos 0; room = 10000 }; start = self.opening; front = [] } }
+        ensures purse { result.1
+            ≡ record {
+              purse = record { terminal = 0; entries = 0; paid = pos 0; room = 10000 };
+              start = self.opening;
+              front = [];
+            } }
     {
         let UnnamedTurns { table, seat, purse } = self;
         (Turns::of(table), SeatedPurse::of(purse, seat.into_badge()))
