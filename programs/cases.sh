@@ -157,7 +157,7 @@ seen() {
 }
 
 order='new-order 1 1 1 0 20:1:10 26:1:8 12:1:10 21:1:5 11:1:10\n'
-seen 'the balance after a payment' "status 1 1 1\n${first}status 1 1 1\n" '^order-status.* C_BALANCE=\(.*\)' '-10.00\n-11.00\n'
+seen 'the balance after a payment' "status 1 1 1\n${first}status 1 1 1\n" '^order-status.* \(C_BALANCE=.*\)' 'C_BALANCE=-10.00\nC_BALANCE=-11.00\n'
 seen 'the last order after an order' "status 1 1 1\n${order}status 1 1 1\n" '^order O_ID=\([0-9]*\) .*' '1\n11\n'
 seen 'low stock after an order' "stock 1 1 20\n${order}stock 1 1 20\n" '^stock-level.* low_stock=\(.*\)' '9\n11\n'
 seen 'the number of the next order' "$order$order" '^new-order.* O_ID=\([0-9]*\) .*' '11\n12\n'

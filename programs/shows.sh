@@ -25,6 +25,7 @@ same_parts() {
     part journal > journal
     [ -s journal ] || differs "$1" journal
     adds_up "$1"
+    cp shown stdout.wanted
     timeout "$seconds" "$tpcc" script $2 $every_part < journal > stdout 2> stderr
     echo $? > status
     compare "$1" 0
