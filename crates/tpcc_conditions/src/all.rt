@@ -56,7 +56,8 @@ pub fn check_at_once(tables: &Tables, alloc: Global) -> Result<(), Broken>
 /// orders as customers are delivered. The transactions do not keep that one.
 pub fn check_opening(tables: &Tables, scale: Scale) -> Result<(), Broken>
     ensures held { OnOk result (first_broken_opening scale.customers tables.now.rows ≡ None) }
-    ensures broken { IfErr result (λ b. first_broken_opening scale.customers tables.now.rows ≡ Some (as_model b)) }
+    ensures broken { IfErr result
+        (λ b. first_broken_opening scale.customers tables.now.rows ≡ Some (as_model b)) }
 {
     let totals = Totals::unknown();
     test_all(tables, &totals)?;

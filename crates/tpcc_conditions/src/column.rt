@@ -133,7 +133,8 @@ fn delivered_to(
     district: u32,
     customer: u32,
 ) -> i64
-    ensures { result ≡ of_row (is_order_of warehouse district customer) (delivered_amount tables.now.rows) row.now }
+    ensures { result ≡ of_row
+        (is_order_of warehouse district customer) (delivered_amount tables.now.rows) row.now }
 {
     if row.warehouse == warehouse && row.district == district && row.customer == customer {
         delivered::amount(tables, row)
@@ -180,8 +181,8 @@ fn order_term(tables: &Tables, column: Column, position: usize) -> i64
     }
 }
 
-#[tactic(auto, unfolding(crate::specs::Columns::term_of))]
 /// The number of the row at a place, 0 behind the last row.
+#[tactic(auto, unfolding(crate::specs::Columns::term_of))]
 pub fn term(tables: &Tables, column: Column, position: usize) -> i64
     ensures { result ≡ term_of column tables.now.rows position }
 {

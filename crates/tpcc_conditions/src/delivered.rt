@@ -8,8 +8,8 @@ ghost use Rattle.tpcc_conditions.specs.Delivered.{line_amount, found_amount};
 use tpcc_rows::rows::*;
 use tpcc_tables::tables::Tables;
 
-#[tactic(auto, using(crate::proofs::DeliveredLemmas::amount_least, crate::proofs::DeliveredLemmas::amount_most))]
 /// OL_AMOUNT of a delivered line, 0 of another.
+#[tactic(auto, using(crate::proofs::DeliveredLemmas::amount_least, crate::proofs::DeliveredLemmas::amount_most))]
 fn amount_of_line(row: &OrderLineRow) -> i64
     requires { is_order_line_row row.now ≡ true }
     ensures amount { result ≡ line_amount row.now }
@@ -23,10 +23,11 @@ fn amount_of_line(row: &OrderLineRow) -> i64
     }
 }
 
-#[tactic(auto, using(crate::proofs::DeliveredLemmas::found_in_range))]
 /// OL_AMOUNT of the line of a number, 0 where it is not delivered or not there.
+#[tactic(auto, using(crate::proofs::DeliveredLemmas::found_in_range))]
 fn amount_of_number(tables: &Tables, row: &OrderRow, number: u32) -> i64
-    ensures amount { result ≡ found_amount (find_order_line tables.now.rows row.now.warehouse row.now.district row.now.id number) }
+    ensures amount { result ≡ found_amount
+        (find_order_line tables.now.rows row.now.warehouse row.now.district row.now.id number) }
     ensures least { pos 0 ≤ℤ result }
     ensures most { result ≤ℤ pos 999999 }
 {

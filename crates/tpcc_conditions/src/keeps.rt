@@ -13,8 +13,8 @@ use tpcc_money::Cents;
 use tpcc_rows::rows::*;
 use tpcc_tables::tables::Tables;
 
-#[tactic(auto, unfolding(tpcc_rows::specs::Conditions::keeps_1))]
 /// Condition 1: W_YTD is the sum of D_YTD.
+#[tactic(auto, unfolding(tpcc_rows::specs::Conditions::keeps_1))]
 pub fn totals_of_districts(tables: &Tables, row: &WarehouseRow) -> bool
     ensures { result ≡ keeps_1 tables.now.rows row.now }
 {
@@ -36,8 +36,8 @@ fn is_next(row: &DistrictRow, number: u32) -> bool
     u64::from(row.next_order) == u64::from(number) + 1
 }
 
-#[tactic(auto, unfolding(tpcc_rows::specs::Conditions::keeps_2))]
 /// Condition 2: D_NEXT_O_ID follows the largest O_ID and the largest NO_O_ID.
+#[tactic(auto, unfolding(tpcc_rows::specs::Conditions::keeps_2))]
 pub fn next_number(tables: &Tables, row: &DistrictRow) -> bool
     ensures { result ≡ keeps_2 tables.now.rows row.now }
 {
@@ -46,19 +46,20 @@ pub fn next_number(tables: &Tables, row: &DistrictRow) -> bool
     is_next(row, order) && (has_no_new_order(tables, row) || is_next(row, new_order))
 }
 
-#[tactic(auto, using(crate::proofs::NumberLemmas::span, crate::proofs::NumberLemmas::length_map))]
 /// Whether the NO_O_IDs of a district are as many as from the oldest one to the newest.
+#[tactic(auto, using(crate::proofs::NumberLemmas::span, crate::proofs::NumberLemmas::length_map))]
 fn is_span(tables: &Tables, totals: &Totals, row: &DistrictRow, oldest: u32) -> bool
     requires known { AreTotals ⟦<Column as PartialEq>⟧.eq totals.now tables.now.rows }
-    ensures { result ≡ (unwrap_or (largest (new_order_numbers tables.now.rows row.now)) 0 + 1 == oldest + length (new_order_numbers tables.now.rows row.now)) }
+    ensures { result ≡ (unwrap_or (largest (new_order_numbers tables.now.rows row.now)) 0 + 1
+        == oldest + length (new_order_numbers tables.now.rows row.now)) }
 {
     let newest = numbers::largest_new(tables, row.warehouse, row.id);
     i128::from(newest) + 1 - i128::from(oldest)
         == sums::new_orders(tables, totals, row.warehouse, row.id)
 }
 
-#[tactic(auto, unfolding(tpcc_rows::specs::Conditions::keeps_3), using(crate::proofs::NumberLemmas::none_length))]
 /// Condition 3: the NO_O_IDs have no gap.
+#[tactic(auto, unfolding(tpcc_rows::specs::Conditions::keeps_3), using(crate::proofs::NumberLemmas::none_length))]
 pub fn no_gap(tables: &Tables, totals: &Totals, row: &DistrictRow) -> bool
     requires known { AreTotals ⟦<Column as PartialEq>⟧.eq totals.now tables.now.rows }
     ensures { result ≡ keeps_3 tables.now.rows row.now }
@@ -69,8 +70,8 @@ pub fn no_gap(tables: &Tables, totals: &Totals, row: &DistrictRow) -> bool
     }
 }
 
-#[tactic(auto, unfolding(tpcc_rows::specs::Conditions::keeps_11), using(crate::proofs::NumberLemmas::more_by))]
 /// Condition 11, of an opening: 7/10 as many orders as customers are delivered.
+#[tactic(auto, unfolding(tpcc_rows::specs::Conditions::keeps_11), using(crate::proofs::NumberLemmas::more_by))]
 pub fn delivered_orders(tables: &Tables, totals: &Totals, row: &DistrictRow, customers: u32) -> bool
     requires known { AreTotals ⟦<Column as PartialEq>⟧.eq totals.now tables.now.rows }
     ensures { result ≡ keeps_11 customers tables.now.rows row.now }
@@ -81,8 +82,8 @@ pub fn delivered_orders(tables: &Tables, totals: &Totals, row: &DistrictRow, cus
         == i128::from(delivered)
 }
 
-#[tactic(auto, unfolding(tpcc_rows::specs::Conditions::keeps_4), using(crate::proofs::SumLemmas::pos_eq))]
 /// Condition 4: the sum of O_OL_CNT is the number of ORDER-LINE rows.
+#[tactic(auto, unfolding(tpcc_rows::specs::Conditions::keeps_4), using(crate::proofs::SumLemmas::pos_eq))]
 pub fn lines_of_district(tables: &Tables, totals: &Totals, row: &DistrictRow) -> bool
     requires known { AreTotals ⟦<Column as PartialEq>⟧.eq totals.now tables.now.rows }
     ensures { result ≡ keeps_4 tables.now.rows row.now }
@@ -91,8 +92,8 @@ pub fn lines_of_district(tables: &Tables, totals: &Totals, row: &DistrictRow) ->
         == sums::lines(tables, totals, row.warehouse, row.id)
 }
 
-#[tactic(auto, unfolding(tpcc_rows::specs::Conditions::keeps_5))]
 /// Condition 5: O_CARRIER_ID is null exactly if there is a NEW-ORDER row.
+#[tactic(auto, unfolding(tpcc_rows::specs::Conditions::keeps_5))]
 pub fn carrier(tables: &Tables, row: &OrderRow) -> bool
     ensures { result ≡ keeps_5 tables.now.rows row.now }
 {
@@ -102,8 +103,8 @@ pub fn carrier(tables: &Tables, row: &OrderRow) -> bool
             .is_some()
 }
 
-#[tactic(auto, unfolding(tpcc_rows::specs::Conditions::keeps_6), using(crate::proofs::SumLemmas::pos_eq))]
 /// Condition 6: O_OL_CNT is the number of the order's ORDER-LINE rows.
+#[tactic(auto, unfolding(tpcc_rows::specs::Conditions::keeps_6), using(crate::proofs::SumLemmas::pos_eq))]
 pub fn lines_of_order(tables: &Tables, totals: &Totals, row: &OrderRow) -> bool
     requires known { AreTotals ⟦<Column as PartialEq>⟧.eq totals.now tables.now.rows }
     ensures { result ≡ keeps_6 tables.now.rows row.now }
@@ -122,16 +123,16 @@ fn waits(tables: &Tables, warehouse: u32, district: u32, order: u32) -> bool
     }
 }
 
-#[tactic(auto, unfolding(tpcc_rows::specs::Conditions::keeps_7))]
 /// Condition 7: OL_DELIVERY_D is null exactly if the order's O_CARRIER_ID is.
+#[tactic(auto, unfolding(tpcc_rows::specs::Conditions::keeps_7))]
 pub fn delivery_date(tables: &Tables, row: &OrderLineRow) -> bool
     ensures { result ≡ keeps_7 tables.now.rows row.now }
 {
     row.delivered.is_none() == waits(tables, row.warehouse, row.district, row.order)
 }
 
-#[tactic(auto, unfolding(tpcc_rows::specs::Conditions::keeps_8))]
 /// Condition 8: W_YTD is the sum of H_AMOUNT paid into the warehouse.
+#[tactic(auto, unfolding(tpcc_rows::specs::Conditions::keeps_8))]
 pub fn payments_of_warehouse(tables: &Tables, totals: &Totals, row: &WarehouseRow) -> bool
     requires known { AreTotals ⟦<Column as PartialEq>⟧.eq totals.now tables.now.rows }
     ensures { result ≡ keeps_8 tables.now.rows row.now }
@@ -139,8 +140,8 @@ pub fn payments_of_warehouse(tables: &Tables, totals: &Totals, row: &WarehouseRo
     i128::from(row.ytd.value()) == sums::paid_into_warehouse(tables, totals, row.id)
 }
 
-#[tactic(auto, unfolding(tpcc_rows::specs::Conditions::keeps_9))]
 /// Condition 9: D_YTD is the sum of H_AMOUNT paid into the district.
+#[tactic(auto, unfolding(tpcc_rows::specs::Conditions::keeps_9))]
 pub fn payments_of_district(tables: &Tables, totals: &Totals, row: &DistrictRow) -> bool
     requires known { AreTotals ⟦<Column as PartialEq>⟧.eq totals.now tables.now.rows }
     ensures { result ≡ keeps_9 tables.now.rows row.now }
@@ -158,8 +159,8 @@ fn is_difference(balance: Cents, delivered: i128, paid: i128) -> bool
     }
 }
 
-#[tactic(auto, unfolding(tpcc_rows::specs::Conditions::keeps_10))]
 /// Condition 10: C_BALANCE is the sum of the delivered OL_AMOUNT less the sum of H_AMOUNT.
+#[tactic(auto, unfolding(tpcc_rows::specs::Conditions::keeps_10))]
 pub fn balance(tables: &Tables, totals: &Totals, row: &CustomerRow) -> bool
     requires known { AreTotals ⟦<Column as PartialEq>⟧.eq totals.now tables.now.rows }
     ensures { result ≡ keeps_10 tables.now.rows row.now }
@@ -176,8 +177,8 @@ fn both(a: Cents, b: Cents) -> i128
     i128::from(a.value()) + i128::from(b.value())
 }
 
-#[tactic(auto, unfolding(tpcc_rows::specs::Conditions::keeps_12))]
 /// Condition 12: C_BALANCE and C_YTD_PAYMENT together are the sum of the delivered OL_AMOUNT.
+#[tactic(auto, unfolding(tpcc_rows::specs::Conditions::keeps_12))]
 pub fn balance_and_payments(tables: &Tables, totals: &Totals, row: &CustomerRow) -> bool
     requires known { AreTotals ⟦<Column as PartialEq>⟧.eq totals.now tables.now.rows }
     ensures { result ≡ keeps_12 tables.now.rows row.now }

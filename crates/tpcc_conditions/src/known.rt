@@ -38,7 +38,8 @@ fn add(sums: &mut Sums, column: Column, term: i64) -> Option<()>
 
 /// Adds what the row at a place adds to its column.
 fn add_row(tables: &Tables, measure: Measure, position: usize, sums: &mut Sums) -> Option<()>
-    ensures added { OnSome result (AddsRow ⟦<Column as PartialEq>⟧.eq sums.old sums.new measure tables.now.rows position) }
+    ensures added { OnSome result
+        (AddsRow ⟦<Column as PartialEq>⟧.eq sums.old sums.new measure tables.now.rows position) }
 {
     if let Some(column) = column_at(tables, measure, position) {
         add(sums, column, term(tables, column, position))?;

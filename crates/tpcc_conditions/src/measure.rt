@@ -23,6 +23,7 @@ pub enum Measure {
     DeliveredTo,
 }
 
+/// The measure of a column.
 pub fn of(column: Column) -> Measure
     ensures { result ≡ measure_of column }
 {

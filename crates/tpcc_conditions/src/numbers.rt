@@ -39,8 +39,8 @@ fn new_order(row: NewOrderRow, warehouse: u32, district: u32) -> u32
     }
 }
 
-#[tactic(auto, unfolding(crate::specs::Numbers::number_of))]
 /// The number of the row at a place, 0 where it is of another district or behind the last row.
+#[tactic(auto, unfolding(crate::specs::Numbers::number_of))]
 fn number(tables: &Tables, numbers: Numbers, position: usize) -> u32
     ensures { result ≡ number_of numbers tables.now.rows position }
 {
@@ -67,7 +67,8 @@ fn table(numbers: Numbers) -> Table
 
 #[tactic(auto, using(crate::proofs::NumberLemmas::next_number, crate::proofs::NumberLemmas::no_number))]
 fn greatest(tables: &Tables, numbers: Numbers) -> u32
-    ensures { result ≡ greatest_to numbers tables.now.rows (count_of tables.now.rows (numbered_table numbers)) }
+    ensures { result
+        ≡ greatest_to numbers tables.now.rows (count_of tables.now.rows (numbered_table numbers)) }
 {
     let mut greatest = 0;
     for position in 0..tables.count(table(numbers)) {
@@ -76,18 +77,20 @@ fn greatest(tables: &Tables, numbers: Numbers) -> u32
     greatest
 }
 
-#[tactic(auto, using(crate::proofs::NumberLemmas::largest_order_is))]
 /// The largest O_ID of a district, or 0.
+#[tactic(auto, using(crate::proofs::NumberLemmas::largest_order_is))]
 pub fn largest_order(tables: &Tables, warehouse: u32, district: u32) -> u32
-    ensures { result ≡ unwrap_or (largest (map (λ o. o.id) (orders_in tables.now.rows warehouse district))) 0 }
+    ensures { result
+        ≡ unwrap_or (largest (map (λ o. o.id) (orders_in tables.now.rows warehouse district))) 0 }
 {
     greatest(tables, Numbers::Orders(warehouse, district))
 }
 
-#[tactic(auto, using(crate::proofs::NumberLemmas::largest_new_is))]
 /// The largest NO_O_ID of a district, or 0.
+#[tactic(auto, using(crate::proofs::NumberLemmas::largest_new_is))]
 pub fn largest_new(tables: &Tables, warehouse: u32, district: u32) -> u32
-    ensures { result ≡ unwrap_or (largest (map (λ n. n.order) (new_orders_in tables.now.rows warehouse district))) 0 }
+    ensures { result ≡ unwrap_or
+        (largest (map (λ n. n.order) (new_orders_in tables.now.rows warehouse district))) 0 }
 {
     greatest(tables, Numbers::NewOrders(warehouse, district))
 }

@@ -6,6 +6,7 @@ use tpcc_rows::row::{RowRef, Table};
 use tpcc_rows::rows::*;
 use tpcc_tables::tables::Tables;
 
+/// The WAREHOUSE row at a place, counted from 0.
 #[tactic(auto, unfolding(tpcc_tables::specs::Positions::row_at))]
 pub fn warehouse(tables: &Tables, position: usize) -> Option<&WarehouseRow>
     ensures { option_copied result ≡ slice_get tables.now.rows.warehouses position }
@@ -16,6 +17,7 @@ pub fn warehouse(tables: &Tables, position: usize) -> Option<&WarehouseRow>
     }
 }
 
+/// The DISTRICT row at a place.
 #[tactic(auto, unfolding(tpcc_tables::specs::Positions::row_at))]
 pub fn district(tables: &Tables, position: usize) -> Option<&DistrictRow>
     ensures { option_copied result ≡ slice_get tables.now.rows.districts position }
@@ -26,6 +28,7 @@ pub fn district(tables: &Tables, position: usize) -> Option<&DistrictRow>
     }
 }
 
+/// The CUSTOMER row at a place.
 #[tactic(auto, unfolding(tpcc_tables::specs::Positions::row_at))]
 pub fn customer(tables: &Tables, position: usize) -> Option<&CustomerRow>
     ensures { option_copied result ≡ slice_get tables.now.rows.customers position }
@@ -36,6 +39,7 @@ pub fn customer(tables: &Tables, position: usize) -> Option<&CustomerRow>
     }
 }
 
+/// The HISTORY row at a place.
 #[tactic(auto, unfolding(tpcc_tables::specs::Positions::row_at))]
 pub fn history(tables: &Tables, position: usize) -> Option<&HistoryRow>
     ensures { option_copied result ≡ slice_get tables.now.rows.histories position }
@@ -46,6 +50,7 @@ pub fn history(tables: &Tables, position: usize) -> Option<&HistoryRow>
     }
 }
 
+/// The ORDER row at a place.
 #[tactic(auto, unfolding(tpcc_tables::specs::Positions::row_at))]
 pub fn order(tables: &Tables, position: usize) -> Option<&OrderRow>
     ensures { option_copied result ≡ slice_get tables.now.rows.orders position }
@@ -56,6 +61,7 @@ pub fn order(tables: &Tables, position: usize) -> Option<&OrderRow>
     }
 }
 
+/// The ORDER-LINE row at a place.
 #[tactic(auto, unfolding(tpcc_tables::specs::Positions::row_at))]
 pub fn line(tables: &Tables, position: usize) -> Option<&OrderLineRow>
     ensures { option_copied result ≡ slice_get tables.now.rows.order_lines position }
@@ -66,6 +72,7 @@ pub fn line(tables: &Tables, position: usize) -> Option<&OrderLineRow>
     }
 }
 
+/// The NEW-ORDER row at a place.
 #[tactic(auto, unfolding(tpcc_tables::specs::Positions::row_at))]
 pub fn new_order(tables: &Tables, position: usize) -> Option<NewOrderRow>
     ensures { result ≡ slice_get tables.now.rows.new_orders position }

@@ -25,7 +25,8 @@ fn item(tables: &Tables, position: usize) -> Option<&ItemRow>
 
 /// Whether a warehouse has a STOCK row for the item at a place; so it has behind the last one.
 fn has_item(tables: &Tables, warehouse: u32, position: usize) -> bool
-    ensures { result ≡ passes_at (λ i. is_some (find_stock tables.now.rows warehouse i.id)) tables.now.rows.items position }
+    ensures { result ≡ passes_at
+        (λ i. is_some (find_stock tables.now.rows warehouse i.id)) tables.now.rows.items position }
 {
     match item(tables, position) {
         Some(row) => tables.stock(warehouse, row.id).is_some(),
@@ -47,7 +48,8 @@ fn has_each_item(tables: &Tables, warehouse: u32) -> bool
 
 /// Whether the warehouse at a place has a STOCK row for each item; so it is behind the last one.
 fn is_stocked_at(tables: &Tables, position: usize) -> bool
-    ensures { result ≡ passes_at (λ w. has_items tables.now.rows w.id) tables.now.rows.warehouses position }
+    ensures { result
+        ≡ passes_at (λ w. has_items tables.now.rows w.id) tables.now.rows.warehouses position }
 {
     match places::warehouse(tables, position) {
         Some(row) => has_each_item(tables, row.id),

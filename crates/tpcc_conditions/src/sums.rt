@@ -26,7 +26,8 @@ fn scan_sum(tables: &Tables, column: Column) -> i128
 
 /// The sum of a column, by what is known of its measure.
 fn sum(tables: &Tables, known: &Option<Sums>, column: Column) -> i128
-    requires known { Knows ⟦<Column as PartialEq>⟧.eq (measure_of column) tables.now.rows known.now }
+    requires known { Knows ⟦<Column as PartialEq>⟧.eq
+        (measure_of column) tables.now.rows known.now }
     ensures { result ≡ whole column tables.now.rows }
 {
     match known {
@@ -35,6 +36,7 @@ fn sum(tables: &Tables, known: &Option<Sums>, column: Column) -> i128
     }
 }
 
+/// The sum of D_YTD over a warehouse's districts, in cents.
 #[tactic(auto, using(crate::proofs::SumLemmas::district_totals_are))]
 pub fn district_totals(tables: &Tables, warehouse: u32) -> i128
     ensures { result ≡ total (λ d. d.ytd) (districts_of tables.now.rows warehouse) }
@@ -42,6 +44,7 @@ pub fn district_totals(tables: &Tables, warehouse: u32) -> i128
     scan_sum(tables, Column::DistrictTotals(warehouse))
 }
 
+/// The sum of H_AMOUNT over a warehouse's HISTORY rows, in cents.
 #[tactic(auto, using(crate::proofs::SumLemmas::paid_into_warehouse_is))]
 pub fn paid_into_warehouse(tables: &Tables, totals: &Totals, warehouse: u32) -> i128
     requires known { AreTotals ⟦<Column as PartialEq>⟧.eq totals.now tables.now.rows }
@@ -54,10 +57,12 @@ pub fn paid_into_warehouse(tables: &Tables, totals: &Totals, warehouse: u32) -> 
     )
 }
 
+/// The sum of H_AMOUNT over a district's HISTORY rows, in cents.
 #[tactic(auto, using(crate::proofs::SumLemmas::paid_into_district_is))]
 pub fn paid_into_district(tables: &Tables, totals: &Totals, warehouse: u32, district: u32) -> i128
     requires known { AreTotals ⟦<Column as PartialEq>⟧.eq totals.now tables.now.rows }
-    ensures { result ≡ total (λ h. h.amount) (paid_into_district tables.now.rows warehouse district) }
+    ensures { result
+        ≡ total (λ h. h.amount) (paid_into_district tables.now.rows warehouse district) }
 {
     sum(
         tables,
@@ -66,6 +71,7 @@ pub fn paid_into_district(tables: &Tables, totals: &Totals, warehouse: u32, dist
     )
 }
 
+/// The sum of H_AMOUNT over a customer's HISTORY rows, in cents.
 #[tactic(auto, using(crate::proofs::SumLemmas::paid_by_is))]
 pub fn paid_by(
     tables: &Tables,
@@ -84,11 +90,12 @@ pub fn paid_by(
     )
 }
 
-#[tactic(auto, using(crate::proofs::SumLemmas::line_counts_are))]
 /// The sum of O_OL_CNT of a district.
+#[tactic(auto, using(crate::proofs::SumLemmas::line_counts_are))]
 pub fn line_counts(tables: &Tables, totals: &Totals, warehouse: u32, district: u32) -> i128
     requires known { AreTotals ⟦<Column as PartialEq>⟧.eq totals.now tables.now.rows }
-    ensures { result ≡ pos (sum_by (λ o. o.line_count) (orders_in tables.now.rows warehouse district)) }
+    ensures { result
+        ≡ pos (sum_by (λ o. o.line_count) (orders_in tables.now.rows warehouse district)) }
 {
     sum(
         tables,
@@ -97,8 +104,8 @@ pub fn line_counts(tables: &Tables, totals: &Totals, warehouse: u32, district: u
     )
 }
 
-#[tactic(auto, using(crate::proofs::SumLemmas::orders_are))]
 /// How many ORDER rows a district has.
+#[tactic(auto, using(crate::proofs::SumLemmas::orders_are))]
 pub fn orders(tables: &Tables, totals: &Totals, warehouse: u32, district: u32) -> i128
     requires known { AreTotals ⟦<Column as PartialEq>⟧.eq totals.now tables.now.rows }
     ensures { result ≡ pos (length (orders_in tables.now.rows warehouse district)) }
@@ -106,8 +113,8 @@ pub fn orders(tables: &Tables, totals: &Totals, warehouse: u32, district: u32) -
     sum(tables, &totals.orders, Column::Orders(warehouse, district))
 }
 
-#[tactic(auto, using(crate::proofs::SumLemmas::lines_are))]
 /// How many ORDER-LINE rows a district has.
+#[tactic(auto, using(crate::proofs::SumLemmas::lines_are))]
 pub fn lines(tables: &Tables, totals: &Totals, warehouse: u32, district: u32) -> i128
     requires known { AreTotals ⟦<Column as PartialEq>⟧.eq totals.now tables.now.rows }
     ensures { result ≡ pos (length (order_lines_in tables.now.rows warehouse district)) }
@@ -115,8 +122,8 @@ pub fn lines(tables: &Tables, totals: &Totals, warehouse: u32, district: u32) ->
     sum(tables, &totals.lines, Column::Lines(warehouse, district))
 }
 
-#[tactic(auto, using(crate::proofs::SumLemmas::lines_of_are))]
 /// How many ORDER-LINE rows an order has.
+#[tactic(auto, using(crate::proofs::SumLemmas::lines_of_are))]
 pub fn lines_of(tables: &Tables, totals: &Totals, warehouse: u32, district: u32, order: u32) -> i128
     requires known { AreTotals ⟦<Column as PartialEq>⟧.eq totals.now tables.now.rows }
     ensures { result ≡ pos (length (lines_of tables.now.rows warehouse district order)) }
@@ -128,8 +135,8 @@ pub fn lines_of(tables: &Tables, totals: &Totals, warehouse: u32, district: u32,
     )
 }
 
-#[tactic(auto, using(crate::proofs::SumLemmas::new_orders_are))]
 /// How many NEW-ORDER rows a district has.
+#[tactic(auto, using(crate::proofs::SumLemmas::new_orders_are))]
 pub fn new_orders(tables: &Tables, totals: &Totals, warehouse: u32, district: u32) -> i128
     requires known { AreTotals ⟦<Column as PartialEq>⟧.eq totals.now tables.now.rows }
     ensures { result ≡ pos (length (new_orders_in tables.now.rows warehouse district)) }
@@ -141,8 +148,8 @@ pub fn new_orders(tables: &Tables, totals: &Totals, warehouse: u32, district: u3
     )
 }
 
-#[tactic(auto, using(crate::proofs::SumLemmas::delivered_to_is))]
 /// The sum of OL_AMOUNT of all delivered lines of a customer.
+#[tactic(auto, using(crate::proofs::SumLemmas::delivered_to_is))]
 pub fn delivered_to(tables: &Tables, totals: &Totals, row: &CustomerRow) -> i128
     requires known { AreTotals ⟦<Column as PartialEq>⟧.eq totals.now tables.now.rows }
     ensures { result ≡ delivered_to tables.now.rows row.now }

@@ -231,9 +231,9 @@ impl<N: Naming> Desk<N> {
         }
     }
 
-    #[tactic(auto, using(crate::proofs::Running::passes_more, crate::proofs::Running::stops))]
     /// The events in their order; one that is not ready is passed over. At the first want of memory, which a ready Post
     /// alone meets, it ends with the number of events before that one.
+    #[tactic(auto, using(crate::proofs::Running::passes_more, crate::proofs::Running::stops))]
     pub fn run(&mut self, events: Vec<Event>) -> Result<(), u64>
         ensures all { OnOk result (Passes self.old events.items self.new) }
         ensures first { IfErr result (λ count. Passes self.old (take count events.items) self.new) }

@@ -67,8 +67,8 @@ fn delivery_count_of(tables: &Tables, warehouse: u32, district: u32, customer: u
     }
 }
 
-#[tactic(auto, unfolding(crate::specs::Runs::charge_tests))]
 /// Why the delivery of an order is refused.
+#[tactic(auto, unfolding(crate::specs::Runs::charge_tests))]
 fn order_refusal(tables: &Tables, warehouse: u32, district: u32, order: u32) -> Option<Refusal>
     ensures refusal { result ≡ district_refusal tables.now.rows warehouse district (Some order) }
 {

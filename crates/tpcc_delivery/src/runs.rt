@@ -25,7 +25,8 @@ pub struct PreparedRun {
 pub fn prepare_run(tables: &Tables, queue: &Queue, at: Moment) -> Result<PreparedRun, Refusal>
     ensures accepted { OnOk result (run_refusal tables.now.rows queue.now.tickets ≡ None) }
     ensures ready { IfOk result (IsPreparedRun tables.now.rows queue.now.tickets at) }
-    ensures refused { IfErr result (λ refusal. run_refusal tables.now.rows queue.now.tickets ≡ Some refusal) }
+    ensures refused { IfErr result
+        (λ refusal. run_refusal tables.now.rows queue.now.tickets ≡ Some refusal) }
 {
     let Some(first) = queue.first() else {
         return Ok(PreparedRun {
@@ -55,7 +56,8 @@ pub fn prepare_run(tables: &Tables, queue: &Queue, at: Moment) -> Result<Prepare
 pub fn finish_run(tables: &mut Tables, queue: &mut Queue, run: PreparedRun) -> Delivery
     requires ready { (at : ℕ) × IsPreparedRun tables.old.rows queue.old.tickets at run }
     ensures state { (at : ℕ) → IsPreparedRun tables.old.rows queue.old.tickets at run → record { rows = tables.new.rows; queue = queue.new.tickets } ≡ state_after_run tables.old.rows queue.old.tickets at }
-    ensures reply { (at : ℕ) → IsPreparedRun tables.old.rows queue.old.tickets at run → result ≡ run_reply tables.old.rows queue.old.tickets at }
+    ensures reply { (at : ℕ) → IsPreparedRun tables.old.rows queue.old.tickets at run
+        → result ≡ run_reply tables.old.rows queue.old.tickets at }
 {
     let reply = run.reply;
     match reply {
@@ -72,10 +74,13 @@ pub fn finish_run(tables: &mut Tables, queue: &mut Queue, run: PreparedRun) -> D
 
 /// Delivers the order of a run, if it has one.
 fn deliver_district(tables: &mut Tables, delivery: DistrictDelivery)
-    requires oldest { oldest_new_order tables.old.rows delivery.ticket.warehouse delivery.district ≡ delivery.order }
+    requires oldest { oldest_new_order tables.old.rows delivery.ticket.warehouse delivery.district
+        ≡ delivery.order }
     requires carrier { is_carrier delivery.ticket.carrier ≡ true }
-    requires accepted { district_refusal tables.old.rows delivery.ticket.warehouse delivery.district delivery.order ≡ None }
-    ensures rows { tables.new.rows ≡ rows_after_district tables.old.rows delivery.ticket.warehouse delivery.district delivery.ticket.carrier delivery.at delivery.order }
+    requires accepted { district_refusal
+        tables.old.rows delivery.ticket.warehouse delivery.district delivery.order ≡ None }
+    ensures rows { tables.new.rows ≡ rows_after_district tables.old.rows delivery.ticket.warehouse
+        delivery.district delivery.ticket.carrier delivery.at delivery.order }
 {
     if let Some(order) = delivery.order {
         tables.deliver(
@@ -93,8 +98,10 @@ pub fn deliver_next(tables: &mut Tables, queue: &mut Queue, at: Moment) -> Resul
     ensures state { OnOk result (record { rows = tables.new.rows; queue = queue.new.tickets } ≡ state_after_run tables.old.rows queue.old.tickets at) }
     ensures reply { IfOk result (λ reply. reply ≡ run_reply tables.old.rows queue.old.tickets at) }
     ensures accepted { OnOk result (run_refusal tables.old.rows queue.old.tickets ≡ None) }
-    ensures refused { IfErr result (λ refusal. run_refusal tables.old.rows queue.old.tickets ≡ Some refusal) }
-    ensures same { OnErr result ((tables.new.rows ≡ tables.old.rows) × (queue.new.tickets ≡ queue.old.tickets)) }
+    ensures refused { IfErr result
+        (λ refusal. run_refusal tables.old.rows queue.old.tickets ≡ Some refusal) }
+    ensures same { OnErr result
+        ((tables.new.rows ≡ tables.old.rows) × (queue.new.tickets ≡ queue.old.tickets)) }
 {
     let run = prepare_run(tables, queue, at)?;
     Ok(finish_run(tables, queue, run))

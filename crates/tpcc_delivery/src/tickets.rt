@@ -31,11 +31,13 @@ fn ticket_refusal(tables: &Tables, queue: &Queue, ticket: Ticket) -> Option<Refu
 ///
 /// Refuses NoWarehouse, Carrier (not 1 to 10), QueueFull (1,000 tickets wait), in this order, and NoMemory last.
 pub fn prepare_ticket(tables: &Tables, queue: &mut Queue, ticket: Ticket) -> Result<(), Refusal>
-    ensures accepted { OnOk result (ticket_refusal tables.now.rows queue.old.tickets ticket ≡ None) }
+    ensures accepted { OnOk result
+        (ticket_refusal tables.now.rows queue.old.tickets ticket ≡ None) }
     ensures carrier { OnOk result (is_carrier ticket.carrier ≡ true) }
     ensures room { OnOk result (0 < queue.new.room) }
     ensures same { queue.new.tickets ≡ queue.old.tickets }
-    ensures refused { IfErr result (λ refusal. option_or (ticket_refusal tables.now.rows queue.old.tickets ticket) (Some Refusal.NoMemory) ≡ Some refusal) }
+    ensures refused { IfErr result (λ refusal. option_or (ticket_refusal
+        tables.now.rows queue.old.tickets ticket) (Some Refusal.NoMemory) ≡ Some refusal) }
 {
     if let Some(refusal) = ticket_refusal(tables, queue, ticket) {
         return Err(refusal);
@@ -58,8 +60,10 @@ pub fn finish_ticket(queue: &mut Queue, ticket: Ticket)
 /// Queues a ticket, or tells why not with the queue as it was.
 pub fn queue(tables: &Tables, queue: &mut Queue, ticket: Ticket) -> Result<(), Refusal>
     ensures queued { OnOk result (queue.new.tickets ≡ queue_with queue.old.tickets ticket) }
-    ensures accepted { OnOk result (ticket_refusal tables.now.rows queue.old.tickets ticket ≡ None) }
-    ensures refused { IfErr result (λ refusal. option_or (ticket_refusal tables.now.rows queue.old.tickets ticket) (Some Refusal.NoMemory) ≡ Some refusal) }
+    ensures accepted { OnOk result
+        (ticket_refusal tables.now.rows queue.old.tickets ticket ≡ None) }
+    ensures refused { IfErr result (λ refusal. option_or (ticket_refusal
+        tables.now.rows queue.old.tickets ticket) (Some Refusal.NoMemory) ≡ Some refusal) }
     ensures same { OnErr result (queue.new.tickets ≡ queue.old.tickets) }
 {
     let queued = ticket;

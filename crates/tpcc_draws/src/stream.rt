@@ -62,7 +62,8 @@ impl Stream {
         requires constant { constant ≤ 1000000 }
         ensures least { low ≤ result }
         ensures most { result ≤ high }
-        ensures drawn { (result, answers self.new) ≡ nurand reach constant low high (answers self.old) }
+        ensures drawn { (result, answers self.new)
+            ≡ nurand reach constant low high (answers self.old) }
     {
         let a = self.between(0, reach);
         let b = self.between(low, high);
@@ -106,7 +107,8 @@ impl Stream {
         requires some { 0 < length alphabet.now }
         requires few { length alphabet.now ≤ 1000 }
         requires printable { list_all is_printable alphabet.now ≡ true }
-        ensures drawn { (result, answers self.new) ≡ drawn_text alphabet.now least most (answers self.old) }
+        ensures drawn { (result, answers self.new)
+            ≡ drawn_text alphabet.now least most (answers self.old) }
         ensures least { least ≤ length result }
         ensures most { length result ≤ most }
     {
@@ -124,7 +126,8 @@ impl Stream {
     #[tactic(auto, unfolding(crate::specs::Draws::permutation))]
     pub fn permutation<A: Allocator>(&mut self, alloc: A, n: u32) -> Result<Vec<u32, A>, NoMemory>
         requires small { n ≤ 1000000 }
-        ensures drawn { IfOk result (λ v. (v.items, answers self.new) ≡ permutation n (answers self.old)) }
+        ensures drawn { IfOk result
+            (λ v. (v.items, answers self.new) ≡ permutation n (answers self.old)) }
         ensures order { IfOk result (λ v. IsPermutation (range_with_len 1 n) v.items) }
         ensures err { OnErr result (self.new ≡ self.old) }
     {

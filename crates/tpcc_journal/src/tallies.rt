@@ -29,7 +29,8 @@ fn place_of(tallies: &[Tally], terminal: u32) -> Option<usize>
 pub(crate) fn add_one(tallies: &mut Vec<Tally>, terminal: u32)
     requires room { vec_len tallies.old < vec_capacity tallies.old }
     requires small { tally_of terminal tallies.old.items + 1 < 2 ^ 64 }
-    ensures counted { (t : ℕ) → tally_of t tallies.new.items ≡ tally_of t tallies.old.items + (if t == terminal then 1 else 0) }
+    ensures counted { (t : ℕ) → tally_of t tallies.new.items
+        ≡ tally_of t tallies.old.items + (if t == terminal then 1 else 0) }
 {
     match place_of(tallies.as_slice(), terminal) {
         Some(place) => tallies[place].count += 1,

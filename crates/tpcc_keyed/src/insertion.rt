@@ -9,7 +9,8 @@ use tpcc_money::NoMemory;
 /// Whether no row comes after a new one, as is so of the next number.
 fn goes_last<T: Keyed>(rows: &[T], added: &T) -> bool
     requires keyed { is_ascending T.key rows.now ≡ true }
-    ensures { IsTrue result → length rows.now ≡ prefix_len (λ row. not (by_key T.key added.now row)) rows.now }
+    ensures { IsTrue result
+        → length rows.now ≡ prefix_len (λ row. not (by_key T.key added.now row)) rows.now }
 {
     match rows.last() {
         Some(last) => !added.comes_before(last),
@@ -80,7 +81,8 @@ pub fn insert_one<T: Keyed>(rows: &mut Vec<T>, added: T)
 
 /// Puts new rows at their places, one after another; there is room for them.
 pub fn insert_all<T: Keyed>(rows: &mut Vec<T>, added: &[T])
-    requires keyed { is_ascending T.key (inserted_all (by_key T.key) added.now rows.old.items) ≡ true }
+    requires keyed { is_ascending T.key (inserted_all (by_key T.key) added.now rows.old.items)
+        ≡ true }
     requires room { vec_len rows.old + length added.now ≤ vec_capacity rows.old }
     ensures { rows.new.items ≡ inserted_all (by_key T.key) added.now rows.old.items }
 {

@@ -130,7 +130,8 @@ fn insert(names: &mut Vec<CustomerName>, added: CustomerName) -> Result<(), NoMe
 fn start_of(names: &[CustomerName], warehouse: u32, district: u32, last: &[u8]) -> usize
     requires order { is_in_order name_before names.now ≡ true }
     ensures within { result ≤ length names.now }
-    ensures start { result ≡ prefix_len (λ name. is_lt (last_cmp name warehouse district last.now)) names.now }
+    ensures start { result
+        ≡ prefix_len (λ name. is_lt (last_cmp name warehouse district last.now)) names.now }
 {
     names.partition_point(
         |name: &CustomerName| -> bool
@@ -143,7 +144,8 @@ fn start_of(names: &[CustomerName], warehouse: u32, district: u32, last: &[u8]) 
 fn end_of(names: &[CustomerName], warehouse: u32, district: u32, last: &[u8]) -> usize
     requires order { is_in_order name_before names.now ≡ true }
     ensures within { result ≤ length names.now }
-    ensures end { result ≡ prefix_len (λ name. not (is_gt (last_cmp name warehouse district last.now))) names.now }
+    ensures end { result
+        ≡ prefix_len (λ name. not (is_gt (last_cmp name warehouse district last.now))) names.now }
 {
     names.partition_point(
         |name: &CustomerName| -> bool
@@ -157,8 +159,10 @@ fn place_of(names: &[CustomerName], warehouse: u32, district: u32, last: &[u8]) 
     requires order { is_in_order name_before names.now ≡ true }
     ensures order { result.0 ≤ result.1 }
     ensures within { result.1 ≤ length names.now }
-    ensures start { result.0 ≡ prefix_len (λ name. is_lt (last_cmp name warehouse district last.now)) names.now }
-    ensures end { result.1 ≡ prefix_len (λ name. not (is_gt (last_cmp name warehouse district last.now))) names.now }
+    ensures start { result.0
+        ≡ prefix_len (λ name. is_lt (last_cmp name warehouse district last.now)) names.now }
+    ensures end { result.1
+        ≡ prefix_len (λ name. not (is_gt (last_cmp name warehouse district last.now))) names.now }
 {
     let start = start_of(names, warehouse, district, last);
     let end = end_of(names, warehouse, district, last);

@@ -44,7 +44,8 @@ impl Parts<OrderLineRow> {
     ) -> &[OrderLineRow]
         requires keyed { is_ascending order_line_key self.now.rows ≡ true }
         requires order { first ≤ next }
-        ensures { result.now ≡ filter (is_line_between warehouse district first next) self.now.rows }
+        ensures { result.now
+            ≡ filter (is_line_between warehouse district first next) self.now.rows }
     {
         let part = self.part(DistrictKey {
             warehouse,

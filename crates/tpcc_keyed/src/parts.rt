@@ -117,7 +117,8 @@ impl<T: Owned> Parts<T> {
     /// The row of a key.
     pub fn find(&self, key: &T::Key) -> Option<&T>
         requires keyed { is_ascending T.key self.now.rows ≡ true }
-        ensures { option_copied result ≡ find (λ row. is_same_key (T.key row) (T.numbers key.now)) self.now.rows }
+        ensures { option_copied result
+            ≡ find (λ row. is_same_key (T.key row) (T.numbers key.now)) self.now.rows }
     {
         let place = place_of(self.parts.as_slice(), T::owner_of(key))?;
         find(self.parts[place].rows.as_slice(), key)
@@ -127,7 +128,8 @@ impl<T: Owned> Parts<T> {
     pub fn open(&mut self, owner: DistrictKey) -> Result<(), NoMemory>
         ensures rows { self.new.rows ≡ self.old.rows }
         ensures room { self.new.room ≡ self.old.room }
-        ensures kept { (k : List ℕ) → has_owner self.old.owners k ≡ true → has_owner self.new.owners k ≡ true }
+        ensures kept { (k : List ℕ)
+            → has_owner self.old.owners k ≡ true → has_owner self.new.owners k ≡ true }
         ensures opened { OnOk result (has_owner self.new.owners (district_numbers owner) ≡ true) }
     {
         if place_of(self.parts.as_slice(), owner).is_some() {
@@ -161,7 +163,8 @@ impl<T: Owned> Parts<T> {
         ensures loaded { OnOk result (self.new.rows ≡ inserted (by_key T.key) row self.old.rows) }
         ensures same { OnErr result (self.new.rows ≡ self.old.rows) }
         ensures room { OnErr result (self.new.room ≡ self.old.room) }
-        ensures kept { (k : List ℕ) → has_owner self.old.owners k ≡ true → has_owner self.new.owners k ≡ true }
+        ensures kept { (k : List ℕ)
+            → has_owner self.old.owners k ≡ true → has_owner self.new.owners k ≡ true }
     {
         if self.len == usize::MAX {
             return Err(NoMemory);
@@ -191,7 +194,8 @@ impl<T: Owned> Parts<T> {
 
     /// Puts rows at their places, one after another. Takes no memory.
     pub fn append_all(&mut self, rows: &[T])
-        requires keyed { is_ascending T.key (inserted_all (by_key T.key) rows.now self.old.rows) ≡ true }
+        requires keyed { is_ascending T.key (inserted_all (by_key T.key) rows.now self.old.rows)
+            ≡ true }
         requires owners { list_all (λ row. has_owner self.old.owners (T.key row)) rows.now ≡ true }
         requires room { length rows.now ≤ self.old.room }
         ensures rows { self.new.rows ≡ inserted_all (by_key T.key) rows.now self.old.rows }
@@ -207,7 +211,8 @@ impl<T: Owned> Parts<T> {
     pub fn replace(&mut self, key: &T::Key, row: T)
         requires keyed { is_ascending T.key self.old.rows ≡ true }
         requires key { T.key row ≡ T.numbers key.now }
-        ensures rows { self.new.rows ≡ updated (λ old. is_same_key (T.key old) (T.numbers key.now)) (λ old. row) self.old.rows }
+        ensures rows { self.new.rows ≡ updated
+            (λ old. is_same_key (T.key old) (T.numbers key.now)) (λ old. row) self.old.rows }
         ensures owners { self.new.owners ≡ self.old.owners }
         ensures room { self.new.room ≡ self.old.room }
     {
@@ -223,7 +228,8 @@ impl<T: Owned> Parts<T> {
     /// The row of a key taken out, where there is one.
     pub fn remove(&mut self, key: &T::Key)
         requires keyed { is_ascending T.key self.old.rows ≡ true }
-        ensures rows { self.new.rows ≡ filter (λ row. not (is_same_key (T.key row) (T.numbers key.now))) self.old.rows }
+        ensures rows { self.new.rows
+            ≡ filter (λ row. not (is_same_key (T.key row) (T.numbers key.now))) self.old.rows }
         ensures owners { self.new.owners ≡ self.old.owners }
         ensures room { self.new.room ≡ self.old.room }
     {

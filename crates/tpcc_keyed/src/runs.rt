@@ -25,11 +25,13 @@ fn is_after(row: &OrderLineRow, warehouse: u32, district: u32, order: u32) -> bo
 fn start_of(rows: &[OrderLineRow], warehouse: u32, district: u32, order: u32) -> usize
     requires keyed { is_ascending order_line_key rows.now ≡ true }
     ensures within { result ≤ length rows.now }
-    ensures start { result ≡ prefix_len (λ row. key_before (order_line_key row) (warehouse ∷ district ∷ order ∷ [])) rows.now }
+    ensures start { result ≡ prefix_len
+        (λ row. key_before (order_line_key row) (warehouse ∷ district ∷ order ∷ [])) rows.now }
 {
     rows.partition_point(
         |row: &OrderLineRow| -> bool
-            ensures { result ≡ key_before (order_line_key row.now) (warehouse ∷ district ∷ order ∷ []) }
+            ensures { result
+                ≡ key_before (order_line_key row.now) (warehouse ∷ district ∷ order ∷ []) }
         { is_before(row, warehouse, district, order) },
     )
 }
@@ -38,11 +40,13 @@ fn start_of(rows: &[OrderLineRow], warehouse: u32, district: u32, order: u32) ->
 fn end_of(rows: &[OrderLineRow], warehouse: u32, district: u32, order: u32) -> usize
     requires keyed { is_ascending order_line_key rows.now ≡ true }
     ensures within { result ≤ length rows.now }
-    ensures end { result ≡ prefix_len (λ row. not (key_before (warehouse ∷ district ∷ order ∷ []) (order_line_key row))) rows.now }
+    ensures end { result ≡ prefix_len (λ row.
+        not (key_before (warehouse ∷ district ∷ order ∷ []) (order_line_key row))) rows.now }
 {
     rows.partition_point(
         |row: &OrderLineRow| -> bool
-            ensures { result ≡ not (key_before (warehouse ∷ district ∷ order ∷ []) (order_line_key row.now)) }
+            ensures { result
+                ≡ not (key_before (warehouse ∷ district ∷ order ∷ []) (order_line_key row.now)) }
         { !is_after(row, warehouse, district, order) },
     )
 }
@@ -52,8 +56,10 @@ fn place_of(rows: &[OrderLineRow], warehouse: u32, district: u32, order: u32) ->
     requires keyed { is_ascending order_line_key rows.now ≡ true }
     ensures order { result.0 ≤ result.1 }
     ensures within { result.1 ≤ length rows.now }
-    ensures start { result.0 ≡ prefix_len (λ row. key_before (order_line_key row) (warehouse ∷ district ∷ order ∷ [])) rows.now }
-    ensures end { result.1 ≡ prefix_len (λ row. not (key_before (warehouse ∷ district ∷ order ∷ []) (order_line_key row))) rows.now }
+    ensures start { result.0 ≡ prefix_len
+        (λ row. key_before (order_line_key row) (warehouse ∷ district ∷ order ∷ [])) rows.now }
+    ensures end { result.1 ≡ prefix_len (λ row.
+        not (key_before (warehouse ∷ district ∷ order ∷ []) (order_line_key row))) rows.now }
 {
     let start = start_of(rows, warehouse, district, order);
     let end = end_of(rows, warehouse, district, order);
@@ -81,8 +87,10 @@ fn span_of(
     requires order { first ≤ next }
     ensures order { result.0 ≤ result.1 }
     ensures within { result.1 ≤ length rows.now }
-    ensures start { result.0 ≡ prefix_len (λ row. key_before (order_line_key row) (warehouse ∷ district ∷ first ∷ [])) rows.now }
-    ensures end { result.1 ≡ prefix_len (λ row. key_before (order_line_key row) (warehouse ∷ district ∷ next ∷ [])) rows.now }
+    ensures start { result.0 ≡ prefix_len
+        (λ row. key_before (order_line_key row) (warehouse ∷ district ∷ first ∷ [])) rows.now }
+    ensures end { result.1 ≡ prefix_len
+        (λ row. key_before (order_line_key row) (warehouse ∷ district ∷ next ∷ [])) rows.now }
 {
     let start = start_of(rows, warehouse, district, first);
     let end = start_of(rows, warehouse, district, next);

@@ -9,7 +9,8 @@ use crate::keyed::Keyed;
 /// The place of the row of a key, where it stands at the place that its key tells.
 fn try_likely_place<T: Keyed>(rows: &[T], key: &T::Key) -> Option<usize>
     requires keyed { is_ascending T.key rows.now ≡ true }
-    ensures { IfSome result (λ place. Some place ≡ position (λ row. is_same_key (T.key row) (T.numbers key.now)) rows.now) }
+    ensures { IfSome result (λ place. Some place
+        ≡ position (λ row. is_same_key (T.key row) (T.numbers key.now)) rows.now) }
 {
     let place = T::likely_place(rows, key);
     let row = rows.get(place)?;
@@ -50,7 +51,8 @@ pub fn place_of<T: Keyed>(rows: &[T], key: &T::Key) -> Option<usize>
 /// The row of a key.
 pub fn find<'a, T: Keyed>(rows: &'a [T], key: &T::Key) -> Option<&'a T>
     requires keyed { is_ascending T.key rows.now ≡ true }
-    ensures { option_copied result ≡ find (λ row. is_same_key (T.key row) (T.numbers key.now)) rows.now }
+    ensures { option_copied result
+        ≡ find (λ row. is_same_key (T.key row) (T.numbers key.now)) rows.now }
 {
     let place = place_of(rows, key)?;
     Some(&rows[place])

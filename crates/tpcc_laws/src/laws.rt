@@ -22,8 +22,10 @@ pub fn turn_keeps()
 pub fn turn_pays()
     ensures rises { (s : State) (request : Request) → refusal s request ≡ None → IsWellKeyed s.rows
         → total (λ w. w.ytd) (state_after s request).rows.warehouses ≡ total (λ w. w.ytd) s.rows.warehouses +ℤ paid_by_request request }
-    ensures least { (s : State) (request : Request) → refusal s request ≡ None → pos 0 ≤ℤ paid_by_request request }
-    ensures most { (s : State) (request : Request) → refusal s request ≡ None → paid_by_request request ≤ℤ pos 500000 }
+    ensures least { (s : State) (request : Request)
+        → refusal s request ≡ None → pos 0 ≤ℤ paid_by_request request }
+    ensures most { (s : State) (request : Request)
+        → refusal s request ≡ None → paid_by_request request ≤ℤ pos 500000 }
 {}
 
 /// One more entry is one more transaction, and a journal stays faithful by an entry that is what

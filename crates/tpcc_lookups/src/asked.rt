@@ -10,10 +10,11 @@ use tpcc_rows::requests::{StatusQuery, StockQuery, Who};
 use tpcc_rows::rows::{CustomerRow, DistrictRow};
 use tpcc_tables::tables::Tables;
 
-#[tactic(auto, unfolding(tpcc_rows::specs::ChosenCustomer::chosen_customer))]
 /// The customer whom a query names.
+#[tactic(auto, unfolding(tpcc_rows::specs::ChosenCustomer::chosen_customer))]
 fn choose_customer<'a>(tables: &'a Tables, query: &StatusQuery) -> Option<&'a CustomerRow>
-    ensures { option_copied result ≡ chosen_customer tables.now.rows query.now.warehouse query.now.district query.now.who }
+    ensures { option_copied result
+        ≡ chosen_customer tables.now.rows query.now.warehouse query.now.district query.now.who }
 {
     match &query.who {
         Who::Number(customer) => tables.customer(query.warehouse, query.district, *customer),
@@ -21,15 +22,17 @@ fn choose_customer<'a>(tables: &'a Tables, query: &StatusQuery) -> Option<&'a Cu
     }
 }
 
-#[tactic(auto, unfolding(tpcc_rows::specs::Lookups::status_tests))]
 /// The customer of an Order-Status that nothing refuses.
+#[tactic(auto, unfolding(tpcc_rows::specs::Lookups::status_tests))]
 pub fn asking_customer<'a>(
     tables: &'a Tables,
     query: &StatusQuery,
 ) -> Result<&'a CustomerRow, Refusal>
-    ensures customer { IfOk result (λ customer. chosen_customer tables.now.rows query.now.warehouse query.now.district query.now.who ≡ Some customer.now) }
+    ensures customer { IfOk result (λ customer. chosen_customer
+        tables.now.rows query.now.warehouse query.now.district query.now.who ≡ Some customer.now) }
     ensures accepted { OnOk result (status_refusal tables.now.rows query.now ≡ None) }
-    ensures refused { IfErr result (λ refusal. status_refusal tables.now.rows query.now ≡ Some refusal) }
+    ensures refused { IfErr result
+        (λ refusal. status_refusal tables.now.rows query.now ≡ Some refusal) }
 {
     if tables.warehouse(query.warehouse).is_none() {
         return Err(Refusal::NoWarehouse);
@@ -43,15 +46,17 @@ pub fn asking_customer<'a>(
     }
 }
 
-#[tactic(auto, unfolding(tpcc_rows::specs::Lookups::stock_tests))]
 /// The district of a Stock-Level that nothing refuses.
+#[tactic(auto, unfolding(tpcc_rows::specs::Lookups::stock_tests))]
 pub fn asked_district<'a>(
     tables: &'a Tables,
     query: &StockQuery,
 ) -> Result<&'a DistrictRow, Refusal>
-    ensures district { IfOk result (λ district. find_district tables.now.rows query.now.warehouse query.now.district ≡ Some district.now) }
+    ensures district { IfOk result (λ district.
+        find_district tables.now.rows query.now.warehouse query.now.district ≡ Some district.now) }
     ensures accepted { OnOk result (stock_refusal tables.now.rows query.now ≡ None) }
-    ensures refused { IfErr result (λ refusal. stock_refusal tables.now.rows query.now ≡ Some refusal) }
+    ensures refused { IfErr result
+        (λ refusal. stock_refusal tables.now.rows query.now ≡ Some refusal) }
 {
     if tables.warehouse(query.warehouse).is_none() {
         return Err(Refusal::NoWarehouse);

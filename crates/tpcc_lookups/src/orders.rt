@@ -27,10 +27,11 @@ fn show_order(tables: &Tables, warehouse: u32, district: u32, order: u32) -> Las
     }
 }
 
-#[tactic(auto, using(crate::proofs::LowLemmas::last_is_there))]
 /// A customer's last order, if there is one.
+#[tactic(auto, using(crate::proofs::LowLemmas::last_is_there))]
 fn last_order(tables: &Tables, warehouse: u32, district: u32, customer: u32) -> Option<LastOrder>
-    ensures { result ≡ option_map (shown_order tables.now.rows warehouse district) (last_order_number tables.now.rows warehouse district customer) }
+    ensures { result ≡ option_map (shown_order tables.now.rows warehouse district)
+        (last_order_number tables.now.rows warehouse district customer) }
 {
     match tables.last_order(warehouse, district, customer) {
         Some(order) => Some(show_order(tables, warehouse, district, order)),
@@ -38,10 +39,11 @@ fn last_order(tables: &Tables, warehouse: u32, district: u32, customer: u32) -> 
     }
 }
 
-#[tactic(auto, unfolding(tpcc_rows::specs::Lookups::status_reply))]
 /// What the terminal shows of a customer.
+#[tactic(auto, unfolding(tpcc_rows::specs::Lookups::status_reply))]
 fn status(tables: &Tables, query: &StatusQuery, customer: &CustomerRow) -> Status
-    requires { chosen_customer tables.now.rows query.now.warehouse query.now.district query.now.who ≡ Some customer.now }
+    requires { chosen_customer tables.now.rows query.now.warehouse query.now.district query.now.who
+        ≡ Some customer.now }
     ensures { result ≡ status_reply tables.now.rows query.now }
 {
     Status {
@@ -61,7 +63,8 @@ fn status(tables: &Tables, query: &StatusQuery, customer: &CustomerRow) -> Statu
 pub fn order_status(tables: &Tables, query: &StatusQuery) -> Result<Status, Refusal>
     ensures accepted { OnOk result (status_refusal tables.now.rows query.now ≡ None) }
     ensures reply { IfOk result (λ status. status ≡ status_reply tables.now.rows query.now) }
-    ensures refused { IfErr result (λ refusal. status_refusal tables.now.rows query.now ≡ Some refusal) }
+    ensures refused { IfErr result
+        (λ refusal. status_refusal tables.now.rows query.now ≡ Some refusal) }
 {
     let customer = asking_customer(tables, query)?;
     Ok(status(tables, query, customer))

@@ -13,7 +13,8 @@ use tpcc_tables::tables::Tables;
 pub fn stock_level(tables: &Tables, query: &StockQuery) -> Result<Level, Refusal>
     ensures accepted { OnOk result (stock_refusal tables.now.rows query.now ≡ None) }
     ensures reply { IfOk result (λ level. level ≡ stock_reply tables.now.rows query.now) }
-    ensures refused { IfErr result (λ refusal. stock_refusal tables.now.rows query.now ≡ Some refusal) }
+    ensures refused { IfErr result
+        (λ refusal. stock_refusal tables.now.rows query.now ≡ Some refusal) }
 {
     let StockQuery {
         warehouse,

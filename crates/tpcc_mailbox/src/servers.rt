@@ -57,7 +57,8 @@ impl<J, A: Answers<J>> Mailboxes<J, A> {
         ensures free { serving_hand serving.new ≡ None }
         ensures closed { serving_saw_closed serving.new ≡ serving_saw_closed serving.old }
         ensures splits { serving_splits serving.new ≡ serving_splits serving.old }
-        ensures answered { serving_answered serving.new ≡ serving_answered serving.old ++ taken_mailbox taken ∷ [] }
+        ensures answered { serving_answered serving.new
+            ≡ serving_answered serving.old ++ taken_mailbox taken ∷ [] }
     {
         let Taken { mailbox, letter: _ } = taken;
         let shared = &self.table.shared;

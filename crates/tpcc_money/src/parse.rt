@@ -75,8 +75,8 @@ fn value_up_to(start: u64, digits: &[u8], most: u64) -> Option<u64>
     Some(value)
 }
 
-#[tactic(auto, unfolding(crate::specs::Numerals::number_up_to))]
 /// The number that decimal digits without a needless leading zero spell, at most so large.
+#[tactic(auto, unfolding(crate::specs::Numerals::number_up_to))]
 pub fn parse_number(bytes: &[u8], most: u64) -> Option<u64>
     requires { most < 2 ^ 59 }
     ensures value { result ≡ number_up_to most bytes.now }
@@ -106,8 +106,8 @@ fn amount_of_parts(whole: &[u8], cents: &[u8]) -> Result<Cents, AmountFault>
     }
 }
 
-#[tactic(auto, unfolding(crate::specs::Numerals::amount_of))]
 /// An amount: a number, a point and two digits.
+#[tactic(auto, unfolding(crate::specs::Numerals::amount_of))]
 pub fn parse_amount(bytes: &[u8]) -> Result<Cents, AmountFault>
     ensures { result ≡ amount_of bytes.now }
 {

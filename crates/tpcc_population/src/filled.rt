@@ -78,10 +78,14 @@ fn plain_order_lists(alloc: Global, scale: Scale) -> Result<OrderLists, NoMemory
 
 #[tactic(auto, unfolding(tpcc_rows::specs::Opening::plain_rows))]
 fn plain_home_lists(alloc: Global, scale: Scale) -> Result<HomeLists, NoMemory>
-    ensures warehouses { IfOk result (λ lists. lists.warehouses.items ≡ (plain_rows scale).warehouses) }
-    ensures districts { IfOk result (λ lists. lists.districts.items ≡ (plain_rows scale).districts) }
-    ensures customers { IfOk result (λ lists. lists.customers.items ≡ (plain_rows scale).customers) }
-    ensures histories { IfOk result (λ lists. lists.histories.items ≡ (plain_rows scale).histories) }
+    ensures warehouses { IfOk result
+        (λ lists. lists.warehouses.items ≡ (plain_rows scale).warehouses) }
+    ensures districts { IfOk result
+        (λ lists. lists.districts.items ≡ (plain_rows scale).districts) }
+    ensures customers { IfOk result
+        (λ lists. lists.customers.items ≡ (plain_rows scale).customers) }
+    ensures histories { IfOk result
+        (λ lists. lists.histories.items ≡ (plain_rows scale).histories) }
 {
     Ok(HomeLists {
         warehouses: plain_warehouses(alloc, scale)?,
@@ -131,10 +135,14 @@ fn seeded_order_lists(alloc: Global, seed: Seed) -> Result<OrderLists, NoMemory>
 
 #[tactic(auto, unfolding(crate::specs::Opening::seeded_rows))]
 fn seeded_home_lists(alloc: Global, seed: Seed) -> Result<HomeLists, NoMemory>
-    ensures warehouses { IfOk result (λ lists. lists.warehouses.items ≡ (seeded_rows seed).warehouses) }
-    ensures districts { IfOk result (λ lists. lists.districts.items ≡ (seeded_rows seed).districts) }
-    ensures customers { IfOk result (λ lists. lists.customers.items ≡ (seeded_rows seed).customers) }
-    ensures histories { IfOk result (λ lists. lists.histories.items ≡ (seeded_rows seed).histories) }
+    ensures warehouses { IfOk result
+        (λ lists. lists.warehouses.items ≡ (seeded_rows seed).warehouses) }
+    ensures districts { IfOk result
+        (λ lists. lists.districts.items ≡ (seeded_rows seed).districts) }
+    ensures customers { IfOk result
+        (λ lists. lists.customers.items ≡ (seeded_rows seed).customers) }
+    ensures histories { IfOk result
+        (λ lists. lists.histories.items ≡ (seeded_rows seed).histories) }
 {
     Ok(HomeLists {
         warehouses: seeded_warehouses(alloc, seed)?,

@@ -57,7 +57,8 @@ fn append_each<T: TableRows>(
     requires least { 1 ≤ low }
     requires small { low + count ≤ 1000000 }
     requires most { low + count ≤ T.most + 1 }
-    ensures { IfOk result (λ _. rows.new.items ≡ rows.old.items ++ each low count (T.rows_of table.now warehouse district)) }
+    ensures { IfOk result (λ _. rows.new.items
+        ≡ rows.old.items ++ each low count (T.rows_of table.now warehouse district)) }
 {
     for number in low..low + count {
         table.append(rows, warehouse, district, number)?;
@@ -90,7 +91,8 @@ pub(crate) fn fill_by_warehouse<T: TableRows>(
     requires warehouses { warehouses ≤ 100 }
     requires small { count ≤ 100000 }
     requires most { count ≤ T.most }
-    ensures { IfOk result (λ v. v.items ≡ each 1 warehouses (λ w. each 1 count (T.rows_of table.now w 1))) }
+    ensures { IfOk result
+        (λ v. v.items ≡ each 1 warehouses (λ w. each 1 count (T.rows_of table.now w 1))) }
 {
     let mut rows = Vec::new(alloc);
     for warehouse in 1..warehouses + 1 {
@@ -112,7 +114,8 @@ fn append_districts<T: TableRows>(
     requires least { 1 ≤ low }
     requires small { low + count ≤ 1000000 }
     requires most { low + count ≤ T.most + 1 }
-    ensures { IfOk result (λ _. rows.new.items ≡ rows.old.items ++ each 1 10 (λ d. each low count (T.rows_of table.now warehouse d))) }
+    ensures { IfOk result (λ _. rows.new.items
+        ≡ rows.old.items ++ each 1 10 (λ d. each low count (T.rows_of table.now warehouse d))) }
 {
     for district in 1..11 {
         append_each(table, rows, warehouse, district, low, count)?;
@@ -132,7 +135,8 @@ pub(crate) fn fill_by_district<T: TableRows>(
     requires least { 1 ≤ low }
     requires small { low + count ≤ 1000000 }
     requires most { low + count ≤ T.most + 1 }
-    ensures { IfOk result (λ v. v.items ≡ each 1 warehouses (λ w. each 1 10 (λ d. each low count (T.rows_of table.now w d)))) }
+    ensures { IfOk result (λ v. v.items
+        ≡ each 1 warehouses (λ w. each 1 10 (λ d. each low count (T.rows_of table.now w d)))) }
 {
     let mut rows = Vec::new(alloc);
     for warehouse in 1..warehouses + 1 {

@@ -46,9 +46,12 @@ impl Scale {
     /// A scale of 1 to 100 warehouses, 10 to 3,000 customers by tens, 100 to 100,000 items.
     pub fn new(warehouses: u32, customers: u32, items: u32) -> Result<Scale, ScaleFault>
         ensures ok { IfOk result (λ s. s ≡ record { warehouses = warehouses; customers = customers; items = items }) }
-        ensures warehouses { IsErrOf result ScaleFault.Warehouses ↔ (is_within 1 100 warehouses ≡ false) }
-        ensures customers { IsErrOf result ScaleFault.Customers ↔ ((is_within 1 100 warehouses ≡ true) × (are_customers customers ≡ false)) }
-        ensures items { IsErrOf result ScaleFault.Items ↔ ((is_within 1 100 warehouses ≡ true) × (are_customers customers ≡ true) × (is_within 100 100000 items ≡ false)) }
+        ensures warehouses { IsErrOf result ScaleFault.Warehouses
+            ↔ (is_within 1 100 warehouses ≡ false) }
+        ensures customers { IsErrOf result ScaleFault.Customers
+            ↔ ((is_within 1 100 warehouses ≡ true) × (are_customers customers ≡ false)) }
+        ensures items { IsErrOf result ScaleFault.Items ↔ ((is_within 1 100 warehouses ≡ true)
+            × (are_customers customers ≡ true) × (is_within 100 100000 items ≡ false)) }
     {
         if warehouses < 1 || warehouses > 100 {
             return Err(ScaleFault::Warehouses);

@@ -61,7 +61,8 @@ pub fn are_plain(bytes: &[u8]) -> bool
 // The bytes at `start`, in place of as many others.
 fn write_at(cells: &mut [u8], start: usize, bytes: &[u8])
     requires { start + length bytes.now ≤ length cells.old }
-    ensures { cells.new ≡ (take start cells.old ++ bytes.now) ++ drop (start + length bytes.now) cells.old }
+    ensures { cells.new
+        ≡ (take start cells.old ++ bytes.now) ++ drop (start + length bytes.now) cells.old }
 {
     cells[start..start + bytes.len()].copy_from_slice(bytes);
 }
@@ -72,7 +73,8 @@ impl<const N: usize> Text<N> {
         requires short { N ≤ 65535 }
         ensures ok { IfOk result (λ t. t ≡ bytes.now) }
         ensures too_long { IsErrOf result TextFault.TooLong ↔ (N < length bytes.now) }
-        ensures not_ascii { IsErrOf result TextFault.NotAscii ↔ ((length bytes.now ≤ N) × (list_all is_printable bytes.now ≡ false)) }
+        ensures not_ascii { IsErrOf result TextFault.NotAscii
+            ↔ ((length bytes.now ≤ N) × (list_all is_printable bytes.now ≡ false)) }
     {
         if N < bytes.len() {
             return Err(TextFault::TooLong);

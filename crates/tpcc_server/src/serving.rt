@@ -100,7 +100,8 @@ fn serve_some<N: Naming, T: Seating, C: Turning, G: Gate, R: Wait>(
     ensures served { result.0 ≤ mailbox_count mailboxes.now }
     ensures most { result.0 ≤ most }
     ensures keeper { keeper_in result.1 ≡ keeper_in stand }
-    ensures answered { HasAnsweredInTurn (serving_answered serving.old) (serving_answered serving.new) result.0 (mailbox_count mailboxes.now) }
+    ensures answered { HasAnsweredInTurn (serving_answered serving.old)
+        (serving_answered serving.new) result.0 (mailbox_count mailboxes.now) }
 {
     let mut stand = stand;
     let mut served = 0u64;

@@ -17,7 +17,8 @@ use tpcc_rows::rows::*;
 /// The customer of an order, or 0, which no customer has, where there is no such order.
 pub fn customer_of(rows: &Parts<OrderRow>, warehouse: u32, district: u32, order: u32) -> u32
     requires keyed { is_ascending order_key rows.now.rows ≡ true }
-    ensures { result ≡ (unwrap_or (find (is_order warehouse district order) rows.now.rows) no_order).customer }
+    ensures { result
+        ≡ (unwrap_or (find (is_order warehouse district order) rows.now.rows) no_order).customer }
 {
     match find::order(rows, warehouse, district, order) {
         Some(row) => row.customer,
@@ -40,7 +41,8 @@ pub fn amount(lines: &[OrderLineRow]) -> Cents
 /// The NEW-ORDER row of an order, removed.
 pub fn remove_new_order(rows: &mut Parts<NewOrderRow>, warehouse: u32, district: u32, order: u32)
     requires keyed { is_ascending new_order_key rows.old.rows ≡ true }
-    ensures removed { rows.new.rows ≡ filter (λ n. not (is_new_order warehouse district order n)) rows.old.rows }
+    ensures removed { rows.new.rows
+        ≡ filter (λ n. not (is_new_order warehouse district order n)) rows.old.rows }
     ensures owners { rows.new.owners ≡ rows.old.owners }
     ensures room { rows.new.room ≡ rows.old.room }
 {
@@ -88,9 +90,12 @@ pub fn charge(
     amount: Cents,
 )
     requires keyed { is_ascending customer_key rows.old.items ≡ true }
-    requires balance { (c : CustomerRow) → find (is_customer warehouse district customer) rows.old.items ≡ Some c → FitsSigned w64 (c.balance +ℤ amount) }
-    requires count { (c : CustomerRow) → find (is_customer warehouse district customer) rows.old.items ≡ Some c → c.delivery_count + 1 < 2 ^ 32 }
-    ensures { rows.new.items ≡ updated (is_customer warehouse district customer) (delivered_customer amount) rows.old.items }
+    requires balance { (c : CustomerRow) → find (is_customer warehouse district customer)
+        rows.old.items ≡ Some c → FitsSigned w64 (c.balance +ℤ amount) }
+    requires count { (c : CustomerRow) → find (is_customer warehouse district customer)
+        rows.old.items ≡ Some c → c.delivery_count + 1 < 2 ^ 32 }
+    ensures { rows.new.items ≡ updated
+        (is_customer warehouse district customer) (delivered_customer amount) rows.old.items }
 {
     if let Some(place) = place_of_customer(rows.as_slice(), warehouse, district, customer) {
         credit(&mut rows[place], amount);

@@ -48,7 +48,8 @@ pub fn last_order(
 /// The smallest NO_O_ID of a district.
 pub fn oldest_new(rows: &Parts<NewOrderRow>, warehouse: u32, district: u32) -> Option<u32>
     requires keyed { is_ascending new_order_key rows.now.rows ≡ true }
-    ensures { result ≡ smallest (map (λ n. n.order) (filter (λ n. (n.warehouse == warehouse) && (n.district == district)) rows.now.rows)) }
+    ensures { result ≡ smallest (map (λ n. n.order)
+        (filter (λ n. (n.warehouse == warehouse) && (n.district == district)) rows.now.rows)) }
 {
     let waiting = rows.part(DistrictKey {
         warehouse,

@@ -41,6 +41,7 @@ fn first_fault(in_range: bool, has_parents: bool, is_taken: bool) -> Option<Load
     }
 }
 
+/// Why a row can't be loaded into WAREHOUSE, if it can't.
 pub fn of_warehouse(tables: &Tables, row: &WarehouseRow) -> Option<LoadFault>
     ensures { result ≡ loads.warehouse_fault tables.now.rows row.now }
 {
@@ -51,6 +52,7 @@ pub fn of_warehouse(tables: &Tables, row: &WarehouseRow) -> Option<LoadFault>
     )
 }
 
+/// Why a row can't be loaded into DISTRICT, if it can't.
 pub fn of_district(tables: &Tables, row: &DistrictRow) -> Option<LoadFault>
     ensures { result ≡ loads.district_fault tables.now.rows row.now }
 {
@@ -61,6 +63,7 @@ pub fn of_district(tables: &Tables, row: &DistrictRow) -> Option<LoadFault>
     )
 }
 
+/// Why a row can't be loaded into CUSTOMER, if it can't.
 pub fn of_customer(tables: &Tables, row: &CustomerRow) -> Option<LoadFault>
     ensures { result ≡ loads.customer_fault tables.now.rows row.now }
 {
@@ -82,6 +85,7 @@ fn has_payer(tables: &Tables, row: &HistoryRow) -> bool
         && tables.district(row.warehouse, row.district).is_some()
 }
 
+/// Why a row can't be loaded into HISTORY, if it can't.
 pub fn of_history(tables: &Tables, row: &HistoryRow) -> Option<LoadFault>
     ensures { result ≡ loads.history_fault tables.now.rows row.now }
 {
@@ -90,7 +94,9 @@ pub fn of_history(tables: &Tables, row: &HistoryRow) -> Option<LoadFault>
 
 /// Whether the order's number is below the next one of its district, where there is that district.
 fn is_numbered(tables: &Tables, row: &OrderRow) -> bool
-    ensures { result ≡ (not (is_some (find_district tables.now.rows row.now.warehouse row.now.district)) || is_numbered_below_next tables.now.rows row.now) }
+    ensures { result
+        ≡ (not (is_some (find_district tables.now.rows row.now.warehouse row.now.district))
+        || is_numbered_below_next tables.now.rows row.now) }
 {
     match tables.district(row.warehouse, row.district) {
         Some(district) => row.id < district.next_order,
@@ -98,6 +104,7 @@ fn is_numbered(tables: &Tables, row: &OrderRow) -> bool
     }
 }
 
+/// Why a row can't be loaded into ORDER, if it can't.
 pub fn of_order(tables: &Tables, row: &OrderRow) -> Option<LoadFault>
     ensures { result ≡ loads.order_fault tables.now.rows row.now }
 {
@@ -119,6 +126,7 @@ fn has_order_and_stock(tables: &Tables, row: &OrderLineRow) -> bool
         && tables.stock(row.supply, row.item).is_some()
 }
 
+/// Why a row can't be loaded into ORDER-LINE, if it can't.
 pub fn of_order_line(tables: &Tables, row: &OrderLineRow) -> Option<LoadFault>
     ensures { result ≡ loads.order_line_fault tables.now.rows row.now }
 {
@@ -131,6 +139,7 @@ pub fn of_order_line(tables: &Tables, row: &OrderLineRow) -> Option<LoadFault>
     )
 }
 
+/// Why a row can't be loaded into NEW-ORDER, if it can't.
 pub fn of_new_order(tables: &Tables, row: &NewOrderRow) -> Option<LoadFault>
     ensures { result ≡ loads.new_order_fault tables.now.rows row.now }
 {
@@ -145,6 +154,7 @@ pub fn of_new_order(tables: &Tables, row: &NewOrderRow) -> Option<LoadFault>
     )
 }
 
+/// Why a row can't be loaded into ITEM, if it can't.
 pub fn of_item(tables: &Tables, row: &ItemRow) -> Option<LoadFault>
     ensures { result ≡ loads.item_fault tables.now.rows row.now }
 {
@@ -157,6 +167,7 @@ fn has_warehouse_and_item(tables: &Tables, row: &StockRow) -> bool
     tables.warehouse(row.warehouse).is_some() && tables.item(row.item).is_some()
 }
 
+/// Why a row can't be loaded into STOCK, if it can't.
 pub fn of_stock(tables: &Tables, row: &StockRow) -> Option<LoadFault>
     ensures { result ≡ loads.stock_fault tables.now.rows row.now }
 {

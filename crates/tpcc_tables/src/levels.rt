@@ -10,7 +10,8 @@ use tpcc_rows::rows::{OrderLineRow, StockRow};
 /// Whether an item's stock in a warehouse is below a threshold.
 fn is_short(stocks: &[StockRow], warehouse: u32, threshold: u32, item: u32) -> bool
     requires keyed { is_ascending stock_key stocks.now ≡ true }
-    ensures { result ≡ list_any (λ s. is_stock warehouse item s && nat_lt s.quantity threshold) stocks.now }
+    ensures { result
+        ≡ list_any (λ s. is_stock warehouse item s && nat_lt s.quantity threshold) stocks.now }
 {
     match find::stock(stocks, warehouse, item) {
         Some(row) => row.quantity < threshold,
@@ -43,7 +44,8 @@ fn is_counted(
     later: &[OrderLineRow],
 ) -> bool
     requires keyed { is_ascending stock_key stocks.now ≡ true }
-    ensures { result ≡ list_any (λ s. is_stock warehouse item s && nat_lt s.quantity threshold) stocks.now && not (list_any (λ l. l.item == item) later.now) }
+    ensures { result ≡ list_any (λ s. is_stock warehouse item s && nat_lt s.quantity threshold)
+        stocks.now && not (list_any (λ l. l.item == item) later.now) }
 {
     is_short(stocks, warehouse, threshold, item) && !has_item(later, item)
 }
@@ -57,7 +59,8 @@ pub fn count_short(
 ) -> u32
     requires keyed { is_ascending stock_key stocks.now ≡ true }
     requires few { length lines.now ≤ 300 }
-    ensures { result ≡ length (filter (λ item. list_any (λ s. is_stock warehouse item s && nat_lt s.quantity threshold) stocks.now) (distinct (map (λ l. l.item) lines.now))) }
+    ensures { result ≡ length (filter (λ item. list_any (λ s. is_stock warehouse item s
+        && nat_lt s.quantity threshold) stocks.now) (distinct (map (λ l. l.item) lines.now))) }
 {
     let mut count = 0;
     for position in 0..lines.len() {

@@ -124,6 +124,7 @@ fn is_address(address: &Address) -> bool
         && is_text(9, &address.zip)
 }
 
+/// Whether each column of a row of WAREHOUSE is in its range.
 #[tactic(auto, unfolding(tpcc_rows::specs::Ranges::is_warehouse_row))]
 pub fn is_warehouse_row(row: &WarehouseRow) -> bool
     ensures { result ≡ ranges.is_warehouse_row row.now }
@@ -135,6 +136,7 @@ pub fn is_warehouse_row(row: &WarehouseRow) -> bool
         && is_total(row.ytd)
 }
 
+/// Whether each column of a row of DISTRICT is in its range.
 #[tactic(auto, unfolding(tpcc_rows::specs::Ranges::is_district_row))]
 pub fn is_district_row(row: &DistrictRow) -> bool
     ensures { result ≡ ranges.is_district_row row.now }
@@ -148,6 +150,7 @@ pub fn is_district_row(row: &DistrictRow) -> bool
         && is_order_id(row.next_order)
 }
 
+/// Whether each column of a row of CUSTOMER is in its range.
 #[tactic(auto, unfolding(tpcc_rows::specs::Ranges::is_customer_row))]
 pub fn is_customer_row(row: &CustomerRow) -> bool
     ensures { result ≡ ranges.is_customer_row row.now }
@@ -171,6 +174,7 @@ pub fn is_customer_row(row: &CustomerRow) -> bool
         && is_text(500, &row.information)
 }
 
+/// Whether each column of a row of HISTORY is in its range.
 #[tactic(auto, unfolding(tpcc_rows::specs::Ranges::is_history_row))]
 pub fn is_history_row(row: &HistoryRow) -> bool
     ensures { result ≡ ranges.is_history_row row.now }
@@ -185,6 +189,7 @@ pub fn is_history_row(row: &HistoryRow) -> bool
         && is_text(24, &row.information)
 }
 
+/// Whether each column of a row of ORDER is in its range.
 #[tactic(auto, unfolding(tpcc_rows::specs::Ranges::is_order_row))]
 pub fn is_order_row(row: &OrderRow) -> bool
     ensures { result ≡ ranges.is_order_row row.now }
@@ -198,6 +203,7 @@ pub fn is_order_row(row: &OrderRow) -> bool
         && is_within(5, 15, row.line_count)
 }
 
+/// Whether each column of a row of ORDER-LINE is in its range.
 #[tactic(auto, unfolding(tpcc_rows::specs::Ranges::is_order_line_row))]
 pub fn is_order_line_row(row: &OrderLineRow) -> bool
     ensures { result ≡ ranges.is_order_line_row row.now }
@@ -214,6 +220,7 @@ pub fn is_order_line_row(row: &OrderLineRow) -> bool
         && is_exact_text(24, &row.district_information)
 }
 
+/// Whether each column of a row of NEW-ORDER is in its range.
 #[tactic(auto, unfolding(tpcc_rows::specs::Ranges::is_new_order_row))]
 pub fn is_new_order_row(row: &NewOrderRow) -> bool
     ensures { result ≡ ranges.is_new_order_row row.now }
@@ -221,6 +228,7 @@ pub fn is_new_order_row(row: &NewOrderRow) -> bool
     is_order_id(row.order) && is_district_id(row.district) && is_warehouse_id(row.warehouse)
 }
 
+/// Whether each column of a row of ITEM is in its range.
 #[tactic(auto, unfolding(tpcc_rows::specs::Ranges::is_item_row))]
 pub fn is_item_row(row: &ItemRow) -> bool
     ensures { result ≡ ranges.is_item_row row.now }
@@ -238,6 +246,7 @@ fn are_district_texts(texts: &[Text<24>]) -> bool
     texts.iter().all(|text| is_exact_text(24, text))
 }
 
+/// Whether each column of a row of STOCK is in its range.
 #[tactic(auto, unfolding(tpcc_rows::specs::Ranges::is_stock_row))]
 pub fn is_stock_row(row: &StockRow) -> bool
     ensures { result ≡ ranges.is_stock_row row.now }

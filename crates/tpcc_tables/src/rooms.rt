@@ -12,7 +12,8 @@ use tpcc_rows::rows::DistrictRow;
 pub fn open_all<T: Owned>(parts: &mut Parts<T>, districts: &[DistrictRow]) -> Result<(), NoMemory>
     ensures rows { parts.new.rows ≡ parts.old.rows }
     ensures room { parts.new.room ≡ parts.old.room }
-    ensures kept { (k : List ℕ) → has_owner parts.old.owners k ≡ true → has_owner parts.new.owners k ≡ true }
+    ensures kept { (k : List ℕ)
+        → has_owner parts.old.owners k ≡ true → has_owner parts.new.owners k ≡ true }
     ensures opened { OnOk result (is_open parts.new.owners districts.now ≡ true) }
 {
     for district in districts {

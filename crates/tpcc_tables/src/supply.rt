@@ -55,8 +55,10 @@ fn place_of_supply(rows: &[StockRow], line: &OrderLineRow) -> Option<usize>
 fn supply_line(rows: &mut Vec<StockRow>, home: u32, line: &OrderLineRow)
     requires keyed { is_ascending stock_key rows.old.items ≡ true }
     requires quantity { line.now.quantity ≤ 10 }
-    requires room { (s : StockRow) → find (is_supplied_by (line_of line.now)) rows.old.items ≡ Some s → HasRoomFor line.now.quantity s }
-    ensures { rows.new.items ≡ updated (is_supplied_by (line_of line.now)) (λ s. stock_after_line home s (line_of line.now)) rows.old.items }
+    requires room { (s : StockRow) → find (is_supplied_by (line_of line.now)) rows.old.items
+        ≡ Some s → HasRoomFor line.now.quantity s }
+    ensures { rows.new.items ≡ updated (is_supplied_by (line_of line.now))
+        (λ s. stock_after_line home s (line_of line.now)) rows.old.items }
 {
     if let Some(place) = place_of_supply(rows.as_slice(), line) {
         take_line(&mut rows[place], home, line);

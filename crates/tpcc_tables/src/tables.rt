@@ -115,7 +115,8 @@ impl Tables {
         district: u32,
         last: &[u8],
     ) -> Option<&CustomerRow>
-        ensures { option_copied result ≡ chosen_customer self.now.rows warehouse district (Name last.now) }
+        ensures { option_copied result
+            ≡ chosen_customer self.now.rows warehouse district (Name last.now) }
     {
         match self.names.middle(warehouse, district, last) {
             Some(customer) => self.customer(warehouse, district, customer),
@@ -138,7 +139,8 @@ impl Tables {
         order: u32,
         number: u32,
     ) -> Option<&OrderLineRow>
-        ensures { option_copied result ≡ find_order_line self.now.rows warehouse district order number }
+        ensures { option_copied result
+            ≡ find_order_line self.now.rows warehouse district order number }
     {
         find::line(&self.order_lines, warehouse, district, order, number)
     }
@@ -161,7 +163,9 @@ impl Tables {
     /// How many distinct items of a district's 20 orders before number `next` have less stock in
     /// the warehouse than the threshold (2.8.2.2).
     pub fn low_stock(&self, warehouse: u32, district: u32, threshold: u32, next: u32) -> u32
-        ensures count { result ≡ length (filter (is_low self.now.rows warehouse threshold) (distinct (map (λ l. l.item) (filter (λ l. nat_le (next - 20) l.order && nat_lt l.order next) (order_lines_in self.now.rows warehouse district))))) }
+        ensures count { result ≡ length (filter (is_low self.now.rows warehouse threshold)
+            (distinct (map (λ l. l.item) (filter (λ l. nat_le (next - 20) l.order
+            && nat_lt l.order next) (order_lines_in self.now.rows warehouse district))))) }
     {
         let first = next.saturating_sub(20);
         let lines = self

@@ -46,8 +46,8 @@ pub fn refusal_screen(alloc: Global, refusal: Refusal) -> Result<Screen, NoMemor
     Ok(screen)
 }
 
-#[tactic(auto, unfolding(crate::specs::Screens::check_screen))]
 /// The screen of a check that found no broken condition; refused only for want of memory.
+#[tactic(auto, unfolding(crate::specs::Screens::check_screen))]
 pub fn consistent_screen(alloc: Global) -> Result<Screen, NoMemory>
     ensures { IfOk result (λ screen. screen ≡ screens.check_screen None) }
 {

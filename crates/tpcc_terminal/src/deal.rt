@@ -9,9 +9,11 @@ use tpcc_money::NoMemory;
 #[tactic(auto, using(crate::proofs::Decks::some_cards))]
 // Shuffles a new deck where no card is left.
 fn renew(cards: &mut Vec<Card>, stream: &mut Stream) -> Result<(), NoMemory>
-    ensures renewed { OnOk result ((cards.new.items, answers stream.new) ≡ undealt cards.old.items (answers stream.old)) }
+    ensures renewed { OnOk result
+        ((cards.new.items, answers stream.new) ≡ undealt cards.old.items (answers stream.old)) }
     ensures some { OnOk result (0 < length cards.new.items) }
-    ensures refused { OnErr result ((cards.new.items ≡ cards.old.items) × (stream.new ≡ stream.old)) }
+    ensures refused { OnErr result
+        ((cards.new.items ≡ cards.old.items) × (stream.new ≡ stream.old)) }
 {
     if !cards.is_empty() {
         return Ok(());
@@ -28,8 +30,10 @@ fn renew(cards: &mut Vec<Card>, stream: &mut Stream) -> Result<(), NoMemory>
 /// The next card of the deck, or the first one of a new deck. Refused only for want of memory,
 /// with cards and stream as they were.
 pub fn deal(cards: &mut Vec<Card>, stream: &mut Stream) -> Result<Card, NoMemory>
-    ensures dealt { IfOk result (λ card. (card, cards.new.items, answers stream.new) ≡ dealt cards.old.items (answers stream.old)) }
-    ensures refused { OnErr result ((cards.new.items ≡ cards.old.items) × (stream.new ≡ stream.old)) }
+    ensures dealt { IfOk result (λ card. (card, cards.new.items, answers stream.new)
+        ≡ dealt cards.old.items (answers stream.old)) }
+    ensures refused { OnErr result
+        ((cards.new.items ≡ cards.old.items) × (stream.new ≡ stream.old)) }
 {
     renew(cards, stream)?;
     Ok(cards.remove(0))

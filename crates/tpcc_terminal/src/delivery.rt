@@ -17,8 +17,8 @@ pub fn put_queued(screen: &mut Screen, ticket: Ticket) -> Result<(), NoMemory>
     screen.put(b" Delivery has been queued\n")
 }
 
-#[tactic(auto, using(crate::proofs::Chains::behind))]
 /// The screen of one run of the first ticket (2.7.4), or of an empty queue.
+#[tactic(auto, using(crate::proofs::Chains::behind))]
 pub fn put_delivery(screen: &mut Screen, delivery: Delivery) -> Result<(), NoMemory>
     ensures { OnOk result (Adds screen.old screen.new (screens.delivery_screen delivery)) }
 {

@@ -35,7 +35,8 @@ fn supplier(stream: &mut Stream, home: &Home) -> u32
 
 #[tactic(auto, unfolding(crate::specs::Cards::drawn_line))]
 fn line(stream: &mut Stream, home: &Home, is_unused: bool) -> Line
-    ensures drawn { (result, answers stream.new) ≡ drawn_line home.now is_unused (answers stream.old) }
+    ensures drawn { (result, answers stream.new)
+        ≡ drawn_line home.now is_unused (answers stream.old) }
 {
     let items = home.scale.items();
     let item = stream.nurand(8191, 7911, 1, items);
@@ -58,7 +59,8 @@ fn is_last(number: u32, count: u32, is_unused: bool) -> bool
 
 fn lines(stream: &mut Stream, home: &Home, count: u32, is_unused: bool) -> Few<Line, 15>
     requires few { count ≤ 15 }
-    ensures drawn { (result, answers stream.new) ≡ drawn_lines home.now count is_unused count (answers stream.old) }
+    ensures drawn { (result, answers stream.new)
+        ≡ drawn_lines home.now count is_unused count (answers stream.old) }
 {
     let mut lines = Few::empty();
     for number in 0..count {

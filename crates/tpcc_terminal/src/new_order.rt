@@ -7,8 +7,8 @@ use crate::lines::Screen;
 use tpcc_money::NoMemory;
 use tpcc_rows::{AcceptedOrder, Brand, Entered, EnteredLine, RolledBackOrder};
 
-#[tactic(auto, using(crate::proofs::Chains::behind))]
 /// The screen of a New-Order, accepted (2.4.3.3) or rolled back (2.4.3.4).
+#[tactic(auto, using(crate::proofs::Chains::behind))]
 pub fn put_entered(screen: &mut Screen, entered: &Entered) -> Result<(), NoMemory>
     ensures { OnOk result (Adds screen.old screen.new (screens.entered_screen entered.now)) }
 {

@@ -7,8 +7,8 @@ use crate::lines::Screen;
 use tpcc_money::{Moment, NoMemory};
 use tpcc_rows::{LastOrder, Status, StatusLine};
 
-#[tactic(auto, using(crate::proofs::Chains::behind))]
 /// The screen of an Order-Status (2.6.3.3).
+#[tactic(auto, using(crate::proofs::Chains::behind))]
 pub fn put_status(screen: &mut Screen, status: &Status) -> Result<(), NoMemory>
     ensures { OnOk result (Adds screen.old screen.new (screens.status_screen status.now)) }
 {

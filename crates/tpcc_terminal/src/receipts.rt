@@ -67,7 +67,8 @@ pub(crate) fn keep<P: Numbered>(
     receipts: &mut Vec<Receipt>,
     answer: &Answer<P>,
 ) -> Result<(), NoMemory>
-    ensures kept { OnOk result (receipts.new.items ≡ receipts.old.items ++ receipts_of P.held answer.now) }
+    ensures kept { OnOk result
+        (receipts.new.items ≡ receipts.old.items ++ receipts_of P.held answer.now) }
     ensures refused { OnErr result (receipts.new.items ≡ receipts.old.items) }
 {
     let (Ok(reply), Some(place)) = (answer.outcome(), answer.place()) else {

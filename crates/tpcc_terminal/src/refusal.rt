@@ -7,8 +7,8 @@ use crate::lines::Screen;
 use tpcc_money::NoMemory;
 use tpcc_rows::{Field, Refusal};
 
-#[tactic(auto, using(crate::proofs::Chains::behind), unfolding(crate::specs::Screens::refused_screen))]
 /// The screen of a refused request: its number, its name, and the number seen or the field.
+#[tactic(auto, using(crate::proofs::Chains::behind), unfolding(crate::specs::Screens::refused_screen))]
 pub fn put_refusal(screen: &mut Screen, refusal: Refusal) -> Result<(), NoMemory>
     ensures { OnOk result (Adds screen.old screen.new (screens.refused_screen refusal)) }
 {

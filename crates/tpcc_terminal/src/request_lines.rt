@@ -57,7 +57,8 @@ fn put_order_line(screen: &mut Screen, line: &Line) -> Result<(), NoMemory>
 }
 
 fn put_order_lines(screen: &mut Screen, order: &[Line]) -> Result<(), NoMemory>
-    ensures { OnOk result (Adds screen.old screen.new (flat_map (λ line. 32 ∷ lines.order_line_word line) order.now)) }
+    ensures { OnOk result (Adds screen.old screen.new
+        (flat_map (λ line. 32 ∷ lines.order_line_word line) order.now)) }
 {
     for line in order {
         put_order_line(screen, line)?;

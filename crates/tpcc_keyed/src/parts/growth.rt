@@ -22,7 +22,8 @@ fn grow<T: Owned>(part: &mut Part<T>, room: usize) -> Result<(), NoMemory>
 /// Room for so many more rows in each part. A refused growth leaves all rows and the room there was.
 pub fn grow_all<T: Owned>(parts: &mut Vec<Part<T>>, room: usize) -> Result<(), NoMemory>
     ensures same { map shown parts.new.items ≡ map shown parts.old.items }
-    ensures kept { (less : ℕ) → All (HasRoom less) parts.old.items → All (HasRoom less) parts.new.items }
+    ensures kept { (less : ℕ)
+        → All (HasRoom less) parts.old.items → All (HasRoom less) parts.new.items }
     ensures grown { OnOk result (All (HasRoom room) parts.new.items) }
 {
     for place in 0..parts.len() {

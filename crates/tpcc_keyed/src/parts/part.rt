@@ -21,7 +21,8 @@ pub struct Part<T> {
 pub fn put<T: Owned>(part: &mut Part<T>, row: T) -> Result<(), NoMemory>
     requires keyed { is_ascending T.key part.old.rows.items ≡ true }
     ensures owner { part.new.owner ≡ part.old.owner }
-    ensures put { OnOk result (part.new.rows.items ≡ inserted (by_key T.key) row part.old.rows.items) }
+    ensures put { OnOk result
+        (part.new.rows.items ≡ inserted (by_key T.key) row part.old.rows.items) }
     ensures same { OnErr result (part.new.rows.items ≡ part.old.rows.items) }
     ensures capacity { vec_capacity part.old.rows ≤ vec_capacity part.new.rows }
 {

@@ -29,7 +29,8 @@ fn is_same(key: DistrictKey, other: DistrictKey) -> bool
 /// The place of a district's part, where it stands at the place that the district's numbers tell.
 fn try_likely_place<T>(parts: &[Part<T>], owner: DistrictKey) -> Option<usize>
     requires rising { is_ascending part_numbers parts.now ≡ true }
-    ensures { IfSome result (λ place. Some place ≡ position (is_part (district_numbers owner)) parts.now) }
+    ensures { IfSome result
+        (λ place. Some place ≡ position (is_part (district_numbers owner)) parts.now) }
 {
     let place = places::of_district(owner.warehouse, owner.district);
     let part = parts.get(place)?;
@@ -70,7 +71,8 @@ pub fn place_of<T>(parts: &[Part<T>], owner: DistrictKey) -> Option<usize>
 /// How many parts stand before the first one of a later district.
 fn place_for<T>(parts: &[Part<T>], owner: DistrictKey) -> usize
     requires rising { is_ascending part_numbers parts.now ≡ true }
-    ensures { result ≡ prefix_len (λ part. not (key_before (district_numbers owner) (part_numbers part))) parts.now }
+    ensures { result ≡ prefix_len
+        (λ part. not (key_before (district_numbers owner) (part_numbers part))) parts.now }
 {
     parts.partition_point(
         |part: &Part<T>| -> bool

@@ -15,7 +15,8 @@ use tpcc_rows::DistrictKey;
 /// How many rows at the front are not of a later district.
 fn run_len<T: Owned>(rows: &[T], owner: DistrictKey) -> usize
     requires keyed { is_ascending T.key rows.now ≡ true }
-    ensures { result ≡ prefix_len (λ row. not (key_before (district_numbers owner) (take 2 (T.key row)))) rows.now }
+    ensures { result ≡ prefix_len
+        (λ row. not (key_before (district_numbers owner) (take 2 (T.key row)))) rows.now }
 {
     rows.partition_point(
         |row: &T| -> bool

@@ -56,7 +56,8 @@ fn append_lines(
     requires district { district ≤ 10 }
     requires order { 1 ≤ order }
     requires orders { order ≤ 3000 }
-    ensures { IfOk result (λ _. rows.new.items ≡ rows.old.items ++ one_each 1 5 (plain_order_line scale.now warehouse district order)) }
+    ensures { IfOk result (λ _. rows.new.items
+        ≡ rows.old.items ++ one_each 1 5 (plain_order_line scale.now warehouse district order)) }
 {
     for number in 1..6 {
         push(

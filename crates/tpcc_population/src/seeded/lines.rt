@@ -78,7 +78,9 @@ fn append_lines(
     requires district { district ≤ 10 }
     requires order { 1 ≤ order }
     requires orders { order ≤ 3000 }
-    ensures { IfOk result (λ _. rows.new.items ≡ rows.old.items ++ one_each 1 (seeded_order seed.now warehouse district order).line_count (seeded_order_line seed.now warehouse district order)) }
+    ensures { IfOk result (λ _. rows.new.items
+        ≡ rows.old.items ++ one_each 1 (seeded_order seed.now warehouse district order).line_count
+        (seeded_order_line seed.now warehouse district order)) }
 {
     let (_, line_count) = carrier_and_lines(seed, warehouse, district, order);
     for number in 1..line_count + 1 {

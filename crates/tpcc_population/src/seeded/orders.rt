@@ -108,7 +108,8 @@ fn append_orders(
     requires warehouse { warehouse ≤ 100 }
     requires district_least { 1 ≤ district }
     requires district { district ≤ 10 }
-    ensures { IfOk result (λ _. rows.new.items ≡ rows.old.items ++ one_each 1 seed.now.scale.customers (seeded_order seed.now warehouse district)) }
+    ensures { IfOk result (λ _. rows.new.items ≡ rows.old.items
+        ++ one_each 1 seed.now.scale.customers (seeded_order seed.now warehouse district)) }
 {
     let customers = drawn_customers(alloc, seed, warehouse, district)?;
     for number in 1..seed.scale.customers() + 1 {

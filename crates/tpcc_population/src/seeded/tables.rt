@@ -20,14 +20,16 @@ use tpcc_rows::rows::{
 
 /// WAREHOUSE.
 pub(crate) fn seeded_warehouses(alloc: Global, seed: Seed) -> Result<Vec<WarehouseRow>, NoMemory>
-    ensures rows { IfOk result (λ v. v.items ≡ (laid_out seed.scale (seeded_rules seed)).warehouses) }
+    ensures rows { IfOk result
+        (λ v. v.items ≡ (laid_out seed.scale (seeded_rules seed)).warehouses) }
 {
     fill_by_number(alloc, &SeededWarehouses { seed }, seed.scale.warehouses())
 }
 
 /// DISTRICT.
 pub(crate) fn seeded_districts(alloc: Global, seed: Seed) -> Result<Vec<DistrictRow>, NoMemory>
-    ensures rows { IfOk result (λ v. v.items ≡ (laid_out seed.scale (seeded_rules seed)).districts) }
+    ensures rows { IfOk result
+        (λ v. v.items ≡ (laid_out seed.scale (seeded_rules seed)).districts) }
 {
     fill_by_warehouse(
         alloc,
@@ -39,7 +41,8 @@ pub(crate) fn seeded_districts(alloc: Global, seed: Seed) -> Result<Vec<District
 
 /// CUSTOMER.
 pub(crate) fn seeded_customers(alloc: Global, seed: Seed) -> Result<Vec<CustomerRow>, NoMemory>
-    ensures rows { IfOk result (λ v. v.items ≡ (laid_out seed.scale (seeded_rules seed)).customers) }
+    ensures rows { IfOk result
+        (λ v. v.items ≡ (laid_out seed.scale (seeded_rules seed)).customers) }
 {
     fill_by_district(
         alloc,
@@ -52,7 +55,8 @@ pub(crate) fn seeded_customers(alloc: Global, seed: Seed) -> Result<Vec<Customer
 
 /// HISTORY.
 pub(crate) fn seeded_histories(alloc: Global, seed: Seed) -> Result<Vec<HistoryRow>, NoMemory>
-    ensures rows { IfOk result (λ v. v.items ≡ (laid_out seed.scale (seeded_rules seed)).histories) }
+    ensures rows { IfOk result
+        (λ v. v.items ≡ (laid_out seed.scale (seeded_rules seed)).histories) }
 {
     fill_by_district(
         alloc,
@@ -77,7 +81,8 @@ pub(crate) fn seeded_orders(alloc: Global, seed: Seed) -> Result<Vec<OrderRow>, 
 
 /// ORDER-LINE.
 pub(crate) fn seeded_order_lines(alloc: Global, seed: Seed) -> Result<Vec<OrderLineRow>, NoMemory>
-    ensures rows { IfOk result (λ v. v.items ≡ (laid_out seed.scale (seeded_rules seed)).order_lines) }
+    ensures rows { IfOk result
+        (λ v. v.items ≡ (laid_out seed.scale (seeded_rules seed)).order_lines) }
 {
     fill_by_district(
         alloc,
@@ -90,7 +95,8 @@ pub(crate) fn seeded_order_lines(alloc: Global, seed: Seed) -> Result<Vec<OrderL
 
 /// NEW-ORDER.
 pub(crate) fn seeded_new_orders(alloc: Global, seed: Seed) -> Result<Vec<NewOrderRow>, NoMemory>
-    ensures rows { IfOk result (λ v. v.items ≡ (laid_out seed.scale (seeded_rules seed)).new_orders) }
+    ensures rows { IfOk result
+        (λ v. v.items ≡ (laid_out seed.scale (seeded_rules seed)).new_orders) }
 {
     let scale = seed.scale;
     fill_by_district(

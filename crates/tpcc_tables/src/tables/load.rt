@@ -16,7 +16,8 @@ impl Tables {
     pub fn load(&mut self, row: Row) -> Result<(), (Row, LoadFault)>
         ensures loaded { OnOk result (self.new.rows ≡ loads.with_row self.old.rows row) }
         ensures accepted { OnOk result (loads.load_fault self.old.rows row ≡ None) }
-        ensures refused { IfErr result (λ e. option_or (loads.load_fault self.old.rows row) (Some LoadFault.NoMemory) ≡ Some e.1) }
+        ensures refused { IfErr result (λ e.
+            option_or (loads.load_fault self.old.rows row) (Some LoadFault.NoMemory) ≡ Some e.1) }
         ensures given_back { IfErr result (λ e. e.0 ≡ row) }
         ensures same { OnErr result (self.new ≡ self.old) }
     {
@@ -31,7 +32,8 @@ impl Tables {
     fn load_row(&mut self, row: Row) -> Result<(), LoadFault>
         ensures loaded { OnOk result (self.new.rows ≡ loads.with_row self.old.rows row) }
         ensures accepted { OnOk result (loads.load_fault self.old.rows row ≡ None) }
-        ensures refused { IfErr result (λ fault. option_or (loads.load_fault self.old.rows row) (Some LoadFault.NoMemory) ≡ Some fault) }
+        ensures refused { IfErr result (λ fault.
+            option_or (loads.load_fault self.old.rows row) (Some LoadFault.NoMemory) ≡ Some fault) }
         ensures same { OnErr result (self.new ≡ self.old) }
     {
         match row {
@@ -50,7 +52,8 @@ impl Tables {
     fn load_warehouse(&mut self, row: WarehouseRow) -> Result<(), LoadFault>
         ensures loaded { OnOk result (self.new.rows ≡ loads.with_warehouse self.old.rows row) }
         ensures accepted { OnOk result (loads.warehouse_fault self.old.rows row ≡ None) }
-        ensures refused { IfErr result (λ fault. option_or (loads.warehouse_fault self.old.rows row) (Some LoadFault.NoMemory) ≡ Some fault) }
+        ensures refused { IfErr result (λ fault. option_or
+            (loads.warehouse_fault self.old.rows row) (Some LoadFault.NoMemory) ≡ Some fault) }
         ensures same { OnErr result (self.new ≡ self.old) }
     {
         if let Some(fault) = faults::of_warehouse(self, &row) {
@@ -65,7 +68,8 @@ impl Tables {
     fn load_district(&mut self, row: DistrictRow) -> Result<(), LoadFault>
         ensures loaded { OnOk result (self.new.rows ≡ loads.with_district self.old.rows row) }
         ensures accepted { OnOk result (loads.district_fault self.old.rows row ≡ None) }
-        ensures refused { IfErr result (λ fault. option_or (loads.district_fault self.old.rows row) (Some LoadFault.NoMemory) ≡ Some fault) }
+        ensures refused { IfErr result (λ fault. option_or
+            (loads.district_fault self.old.rows row) (Some LoadFault.NoMemory) ≡ Some fault) }
         ensures same { OnErr result (self.new ≡ self.old) }
     {
         if let Some(fault) = faults::of_district(self, &row) {
@@ -82,7 +86,8 @@ impl Tables {
     fn load_customer(&mut self, row: CustomerRow) -> Result<(), LoadFault>
         ensures loaded { OnOk result (self.new.rows ≡ loads.with_customer self.old.rows row) }
         ensures accepted { OnOk result (loads.customer_fault self.old.rows row ≡ None) }
-        ensures refused { IfErr result (λ fault. option_or (loads.customer_fault self.old.rows row) (Some LoadFault.NoMemory) ≡ Some fault) }
+        ensures refused { IfErr result (λ fault. option_or
+            (loads.customer_fault self.old.rows row) (Some LoadFault.NoMemory) ≡ Some fault) }
         ensures same { OnErr result (self.new ≡ self.old) }
     {
         if let Some(fault) = faults::of_customer(self, &row) {
@@ -101,7 +106,8 @@ impl Tables {
     fn load_history(&mut self, row: HistoryRow) -> Result<(), LoadFault>
         ensures loaded { OnOk result (self.new.rows ≡ loads.with_history self.old.rows row) }
         ensures accepted { OnOk result (loads.history_fault self.old.rows row ≡ None) }
-        ensures refused { IfErr result (λ fault. option_or (loads.history_fault self.old.rows row) (Some LoadFault.NoMemory) ≡ Some fault) }
+        ensures refused { IfErr result (λ fault. option_or
+            (loads.history_fault self.old.rows row) (Some LoadFault.NoMemory) ≡ Some fault) }
         ensures same { OnErr result (self.new ≡ self.old) }
     {
         if let Some(fault) = faults::of_history(self, &row) {
@@ -117,7 +123,8 @@ impl Tables {
     fn load_order(&mut self, row: OrderRow) -> Result<(), LoadFault>
         ensures loaded { OnOk result (self.new.rows ≡ loads.with_order self.old.rows row) }
         ensures accepted { OnOk result (loads.order_fault self.old.rows row ≡ None) }
-        ensures refused { IfErr result (λ fault. option_or (loads.order_fault self.old.rows row) (Some LoadFault.NoMemory) ≡ Some fault) }
+        ensures refused { IfErr result (λ fault. option_or
+            (loads.order_fault self.old.rows row) (Some LoadFault.NoMemory) ≡ Some fault) }
         ensures same { OnErr result (self.new ≡ self.old) }
     {
         if let Some(fault) = faults::of_order(self, &row) {
@@ -133,7 +140,8 @@ impl Tables {
     fn load_order_line(&mut self, row: OrderLineRow) -> Result<(), LoadFault>
         ensures loaded { OnOk result (self.new.rows ≡ loads.with_order_line self.old.rows row) }
         ensures accepted { OnOk result (loads.order_line_fault self.old.rows row ≡ None) }
-        ensures refused { IfErr result (λ fault. option_or (loads.order_line_fault self.old.rows row) (Some LoadFault.NoMemory) ≡ Some fault) }
+        ensures refused { IfErr result (λ fault. option_or
+            (loads.order_line_fault self.old.rows row) (Some LoadFault.NoMemory) ≡ Some fault) }
         ensures same { OnErr result (self.new ≡ self.old) }
     {
         if let Some(fault) = faults::of_order_line(self, &row) {
@@ -149,7 +157,8 @@ impl Tables {
     fn load_new_order(&mut self, row: NewOrderRow) -> Result<(), LoadFault>
         ensures loaded { OnOk result (self.new.rows ≡ loads.with_new_order self.old.rows row) }
         ensures accepted { OnOk result (loads.new_order_fault self.old.rows row ≡ None) }
-        ensures refused { IfErr result (λ fault. option_or (loads.new_order_fault self.old.rows row) (Some LoadFault.NoMemory) ≡ Some fault) }
+        ensures refused { IfErr result (λ fault. option_or
+            (loads.new_order_fault self.old.rows row) (Some LoadFault.NoMemory) ≡ Some fault) }
         ensures same { OnErr result (self.new ≡ self.old) }
     {
         if let Some(fault) = faults::of_new_order(self, &row) {
@@ -165,7 +174,8 @@ impl Tables {
     fn load_item(&mut self, row: ItemRow) -> Result<(), LoadFault>
         ensures loaded { OnOk result (self.new.rows ≡ loads.with_item self.old.rows row) }
         ensures accepted { OnOk result (loads.item_fault self.old.rows row ≡ None) }
-        ensures refused { IfErr result (λ fault. option_or (loads.item_fault self.old.rows row) (Some LoadFault.NoMemory) ≡ Some fault) }
+        ensures refused { IfErr result (λ fault.
+            option_or (loads.item_fault self.old.rows row) (Some LoadFault.NoMemory) ≡ Some fault) }
         ensures same { OnErr result (self.new ≡ self.old) }
     {
         if let Some(fault) = faults::of_item(self, &row) {
@@ -180,7 +190,8 @@ impl Tables {
     fn load_stock(&mut self, row: StockRow) -> Result<(), LoadFault>
         ensures loaded { OnOk result (self.new.rows ≡ loads.with_stock self.old.rows row) }
         ensures accepted { OnOk result (loads.stock_fault self.old.rows row ≡ None) }
-        ensures refused { IfErr result (λ fault. option_or (loads.stock_fault self.old.rows row) (Some LoadFault.NoMemory) ≡ Some fault) }
+        ensures refused { IfErr result (λ fault. option_or
+            (loads.stock_fault self.old.rows row) (Some LoadFault.NoMemory) ≡ Some fault) }
         ensures same { OnErr result (self.new ≡ self.old) }
     {
         if let Some(fault) = faults::of_stock(self, &row) {

@@ -107,7 +107,8 @@ impl Tables {
         requires oldest { oldest_new_order self.old.rows warehouse district ≡ Some order }
         requires carrier { is_carrier carrier ≡ true }
         requires accepted { district_refusal self.old.rows warehouse district (Some order) ≡ None }
-        ensures { self.new.rows ≡ after_delivery self.old.rows warehouse district order carrier moment }
+        ensures { self.new.rows
+            ≡ after_delivery self.old.rows warehouse district order carrier moment }
     {
         let _seconds = moment.seconds();
         let amount = delivery::amount(self.order_lines.lines_of(warehouse, district, order));
