@@ -6,7 +6,7 @@
 #
 # Each time is that of the whole process less that of the same process with no card, so the opening is left out; a request
 # is an entry of the journal. TERMINALS are the rows (1 2 4 8 16 64), CARDS is how many cards a terminal asks (1000), RUNS
-# of how many runs the quickest counts (3). BUILT names a crates/ folder where the product and its serial program are
+# of how many runs the quickest counts (3), SCALE the warehouses, customers and items ("4 300 10000"). BUILT names a crates/ folder where the product and its serial program are
 # built already.
 set -eu -o pipefail
 serial_too=yes # read by built.sh
@@ -26,10 +26,10 @@ measure() {
 
 # The requests a second of a program: its words with no card, then its words with the cards.
 rate() {
-    local words=$1
-    measure $words 0
+    local words=$1 behind=${2:-}
+    measure $words 0 $behind
     local start=$seconds
-    measure $words "$cards"
+    measure $words "$cards" $behind
     echo "$entries $seconds $start" | awk '{ printf "%.0f", $1 / ($2 - $3) }'
 }
 
@@ -38,11 +38,12 @@ beside() {
     echo "$(rate "$1") $alone" | awk '{ printf "%.2f", $1 / $2 }'
 }
 
-scale="--seeded --warehouses 4 --customers 300 --items 10000"
+read -r warehouses customers items <<< "${SCALE:-4 300 10000}"
+scale="--seeded --warehouses $warehouses --customers $customers --items $items"
 echo "| Terminals | Serial, requests/s | Direct | 1 server | 2 servers | 4 servers | Plain, one thread | Plain, mutex |"
 echo "|---|---|---|---|---|---|---|---|"
 for terminals in ${TERMINALS:-1 2 4 8 16 64}; do
-    alone=$(rate "$BUILT/tpcc_serial/out/tpcc_serial $terminals")
+    alone=$(rate "$BUILT/tpcc_serial/out/tpcc_serial $terminals" "$warehouses $customers $items")
     row="| $terminals | $alone | $(beside "$product run $scale --terminals $terminals --direct --cards") |"
     for servers in 1 2 4; do
         row+=" $(beside "$product run $scale --terminals $terminals --servers $servers --cards") |"
