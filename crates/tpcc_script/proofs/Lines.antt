@@ -5,16 +5,19 @@ use Rattle.std.proofs.lemmas.List.{length-append}
 use Rattle.std.proofs.lemmas.Grind.{common_steps}
 use Rattle.std.proofs.lemmas.Option.{none-some}
 use Rattle.std.proofs.lemmas.Bool.{lt-ltb, le-ltb}
-use Rattle.std.specs.Prelude.{Ok, Err}
+use Rattle.std.specs.Prelude.{Ok}
 use Rattle.tpcc_script.specs.declared.call.Call.{Call}
 use Rattle.tpcc_script.specs.declared.fault.ScriptFault.{ScriptFault}
 use Rattle.tpcc_script.specs.declared.fault.ScriptFault.TheVariants.{Bad, Cut, LongLine, TooManyLines, Read, Write, NoMemory}
 use Rattle.tpcc_script.specs.Book.{Book}
 use Rattle.tpcc_script.specs.Run.{Shows, HasServed}
 use Rattle.tpcc_script.specs.Script.{parts_of, onto, lines_say, rest_says, then_says, call_of, ends, fails}
-use Rattle.tpcc_script.specs.Steps.{says, IsLine, IsRead, IsFaultOf, IsStep, IsLineServed, IsLineWritten, IsLineBroken}
-use Rattle.tpcc_script.specs.Part.{AppendsPart}
+use Rattle.tpcc_script.specs.Steps.{says, IsLine, IsRead, IsFaultOf, IsLineServed, IsLineUnshown, IsLineHeld, IsAnswered, IsStopped, IsEnd, IsFault}
+use Rattle.tpcc_script.specs.Attempts.{HasGivenUp, IsNoWorse}
+use Rattle.tpcc_script.specs.Part.{AppendsPart, Passes}
+use Rattle.tpcc_script.specs.declared.watch.Watch.{Watch}
 use Rattle.std.specs.Io.KnownBytes.{Appends}
+use Rattle.tpcc_script.proofs.Parts.{part_of_more}
 
 -- bytes put before the first part
 abbrev pub onto_all : List ℕ → List (List ℕ) → List (List ℕ)
@@ -160,25 +163,24 @@ read_none view number bytes (Some line) left e h = absurd (none-some line (sym e
 pub read_some : {L : Type 0} (view : L → List ℕ) (number : ℕ) (bytes : List ℕ) (line : L) (o : Option L) (left : Option (List ℕ)) → o ≡ Some line → IsRead view number bytes (Ok o) left → IsLine number bytes (view line) left
 read_some view number bytes line o left e h = rw e at h
 
-pub broken_so : (number : ℕ) (bytes : List ℕ) (old : Book) (left held : Option (List ℕ)) (f : ScriptFault)
-    → IsFaultOf (says number bytes) f → IsStep number bytes old old left held held (Err f)
-broken_so number bytes old left held (Bad n) h = (h, record { book = refl; sink = refl })
-broken_so number bytes old left held (Cut n) h = (h, record { book = refl; sink = refl })
-broken_so number bytes old left held (LongLine n) h = (h, record { book = refl; sink = refl })
-broken_so number bytes old left held TooManyLines h = (h, record { book = refl; sink = refl })
-broken_so number bytes old left held Read h = record { book = refl; sink = refl }
-broken_so number bytes old left held NoMemory h = record { book = inl refl; sink = refl }
-broken_so number bytes old left held Write h = absurd h
+pub stops_so : (number : ℕ) (bytes : List ℕ) (old : Book) (left : Option (List ℕ)) (f : ScriptFault)
+    → IsFaultOf (says number bytes) f → IsStopped number bytes old old left f
+stops_so number bytes old left (Bad n) h = record { says_is = h; book = refl }
+stops_so number bytes old left (Cut n) h = record { says_is = h; book = refl }
+stops_so number bytes old left (LongLine n) h = record { says_is = h; book = refl }
+stops_so number bytes old left TooManyLines h = record { says_is = h; book = refl }
+stops_so number bytes old left Read h = refl
+stops_so number bytes old left NoMemory h = inl refl
+stops_so number bytes old left Write h = absurd h
 
--- the line as the parser saw it, and its screen as the writer saw it
+-- the line as the parser saw it
 pub bad_line : (number : ℕ) (bytes line seen : List ℕ) (left : Option (List ℕ)) → IsLine number bytes line left → seen ≡ line → None ≡ call_of seen → says number bytes ≡ fails (Bad number)
 bad_line number bytes line seen left h same e = h.says_is ∙ ap (λ o. then_says number o (says (number + 1) h.rest)) (sym (e ∙ ap call_of same))
 
-served_line : (number : ℕ) (bytes line seen : List ℕ) (left : Option (List ℕ)) (call : Call) (old new : Book) (screen : List ℕ)
-    → IsLine number bytes line left → seen ≡ line → Some call ≡ call_of seen → Shows old call screen new → IsLineServed number bytes old new left
+pub served_line : (number : ℕ) (bytes line seen : List ℕ) (left : Option (List ℕ)) (call : Call) (old new : Book) (screen : List ℕ)
+    → IsLine number bytes line left → seen ≡ line → Some call ≡ call_of seen → Shows old call screen new → IsLineServed number bytes old screen new left
 served_line number bytes line seen left call old new screen h same e shows = record {
   call = call;
-  screen = screen;
   rest = h.rest;
   left_is = h.left_is;
   number_fits = h.number_fits;
@@ -186,26 +188,58 @@ served_line number bytes line seen left call old new screen h same e shows = rec
   shows = shows;
 }
 
-pub written_line : (number : ℕ) (bytes line seen screen shown : List ℕ) (left held now : Option (List ℕ)) (call : Call) (old new : Book)
-    → IsLine number bytes line left → seen ≡ line → Some call ≡ call_of seen → Shows old call screen new → shown ≡ screen → Appends held now shown
-    → IsLineWritten number bytes old new left held now
-unfolding served_line
-written_line number bytes line seen screen shown left held now call old new h same e shows whole added =
-    record { served = served_line number bytes line seen left call old new screen h same e shows; added = rw whole at added }
-
-pub broken_line : (number : ℕ) (bytes line seen screen shown : List ℕ) (left held now : Option (List ℕ)) (call : Call) (old new : Book)
-    → IsLine number bytes line left → seen ≡ line → Some call ≡ call_of seen → Shows old call screen new → shown ≡ screen → AppendsPart held now shown
-    → IsLineBroken number bytes old new left held now
-unfolding served_line
-broken_line number bytes line seen screen shown left held now call old new h same e shows whole part =
-    let p = rw whole at part in
-    record { served = served_line number bytes line seen left call old new screen h same e shows; count = p.count; within = p.within; added = p.added }
-
-pub unshown_line : (number : ℕ) (bytes line seen : List ℕ) (left held : Option (List ℕ)) (call : Call) (old new : Book)
+pub unshown_line : (number : ℕ) (bytes line seen : List ℕ) (left : Option (List ℕ)) (call : Call) (old new : Book)
     → IsLine number bytes line left → seen ≡ line → Some call ≡ call_of seen → HasServed old call new
-    → IsStep number bytes old new left held held (Err NoMemory)
-unfolding served_line
-unshown_line number bytes line seen left held call old new h same e served = record {
-  book = inr (served_line number bytes line seen left call old new served.screen h same e served.shows);
-  sink = refl;
-}
+    → IsStopped number bytes old new left NoMemory
+unshown_line number bytes line seen left call old new h same e served =
+    inr (record { screen = served.screen; served = served_line number bytes line seen left call old new served.screen h same e served.shows })
+
+-- what is written of a line's screen, or of what waited before it
+pub held_line : (number : ℕ) (bytes screen : List ℕ) (o : Option (List ℕ)) (old new : Book) (left held now : Option (List ℕ)) (waits more : List ℕ) → o ≡ Some screen
+    → IsAnswered number bytes old new left (Ok o) → Passes held now (waits ++ screen) more → IsLineHeld number bytes old new left held now waits more
+held_line number bytes screen o old new left held now waits more e h passed = record { screen = screen; served = rw e at h; passed = passed }
+
+pub broken_line : (number : ℕ) (bytes screen : List ℕ) (o : Option (List ℕ)) (old new : Book) (left held now : Option (List ℕ)) (waits : List ℕ) → o ≡ Some screen
+    → IsAnswered number bytes old new left (Ok o) → AppendsPart held now (waits ++ screen) → IsFault number bytes old new left held now waits Write
+broken_line number bytes screen o old new left held now waits e h part = inr (record { screen = screen; served = rw e at h; part = part })
+
+pub ended_line : (number : ℕ) (bytes : List ℕ) (o : Option (List ℕ)) (old new : Book) (left : Option (List ℕ)) → o ≡ None
+    → IsAnswered number bytes old new left (Ok o) → IsEnd number bytes ends old new
+ended_line number bytes o old new left e h = rw e at h
+
+pub fault_line : (number : ℕ) (bytes : List ℕ) (old new : Book) (left held now : Option (List ℕ)) (waits : List ℕ) (f : ScriptFault)
+    → IsStopped number bytes old new left f → Appends held now waits → IsFault number bytes old new left held now waits f
+fault_line number bytes old new left held now waits (Bad n) h added = record { stopped = h; added = added }
+fault_line number bytes old new left held now waits (Cut n) h added = record { stopped = h; added = added }
+fault_line number bytes old new left held now waits (LongLine n) h added = record { stopped = h; added = added }
+fault_line number bytes old new left held now waits TooManyLines h added = record { stopped = h; added = added }
+fault_line number bytes old new left held now waits Read h added = record { stopped = h; added = added }
+fault_line number bytes old new left held now waits NoMemory h added = record { stopped = h; added = added }
+fault_line number bytes old new left held now waits Write h added = absurd h
+
+unshown-broken : (number : ℕ) (bytes : List ℕ) (old new : Book) (left held now : Option (List ℕ)) (waits : List ℕ)
+    → (new ≡ old) ⊎ IsLineUnshown number bytes old new left → AppendsPart held now waits → IsFault number bytes old new left held now waits Write
+unshown-broken number bytes old new left held now waits (inl same) part = inl (record { book = same; part = part })
+unshown-broken number bytes old new left held now waits (inr line) part =
+    inr (record { screen = line.screen; served = line.served; part = part_of_more held now waits line.screen part })
+
+-- where the sink was given up behind a fault
+pub fault_broken : (number : ℕ) (bytes : List ℕ) (old new : Book) (left held now : Option (List ℕ)) (waits : List ℕ) (f : ScriptFault)
+    → IsStopped number bytes old new left f → AppendsPart held now waits → IsFault number bytes old new left held now waits Write
+fault_broken number bytes old new left held now waits (Bad n) h part = inl (record { book = h.book; part = part })
+fault_broken number bytes old new left held now waits (Cut n) h part = inl (record { book = h.book; part = part })
+fault_broken number bytes old new left held now waits (LongLine n) h part = inl (record { book = h.book; part = part })
+fault_broken number bytes old new left held now waits TooManyLines h part = inl (record { book = h.book; part = part })
+fault_broken number bytes old new left held now waits Read h part = inl (record { book = h; part = part })
+fault_broken number bytes old new left held now waits NoMemory h part = unshown-broken number bytes old new left held now waits h part
+fault_broken number bytes old new left held now waits Write h part = absurd h
+
+-- what was given up stays so where no more is
+pub still_given_up : (old new : Watch) (f : ScriptFault) → IsNoWorse old new → HasGivenUp old f → HasGivenUp new f
+still_given_up old new (Bad n) same h = tt
+still_given_up old new (Cut n) same h = tt
+still_given_up old new (LongLine n) same h = tt
+still_given_up old new TooManyLines same h = tt
+still_given_up old new Read same h = same.reader ∙ h
+still_given_up old new NoMemory same h = tt
+still_given_up old new Write same h = same.writer ∙ h

@@ -1,6 +1,6 @@
 -- Numbers and amounts are read as they are written.
-use Rattle.std.proofs.Common.{◌≡◌, refl, ap, sym, ◌∙◌, ℕ, suc, ◌+◌, ◌-◌, ◌*◌, ◌/◌, ◌%◌, ◌≤◌, ◌<◌, ◌^◌, Bool, true, false, List, [], ◌∷◌, ◌++◌, length, take, drop, Option, Some, None, arith}
-use Rattle.std.specs.Prelude.{nat_le, nat_lt, ◌==◌, ◌&&◌, ◌||◌, not, if◌then◌else◌, decimal, ℤ, pos, negsuc, ◌≤ℤ◌, Result, Ok, Err}
+use Rattle.std.proofs.Common.{◌≡◌, refl, ap, sym, ◌∙◌, ℕ, ◌+◌, ◌-◌, ◌*◌, ◌/◌, ◌%◌, ◌≤◌, ◌<◌, ◌^◌, Bool, true, false, List, [], ◌∷◌, ◌++◌, length, take, drop, Some, arith}
+use Rattle.std.specs.Prelude.{◌==◌, ◌&&◌, ◌||◌, not, decimal, pos, Ok}
 use Rattle.std.specs.List.{list_all}
 use Rattle.std.proofs.Common.{length-append}
 use Rattle.std.proofs.Math.Seq.{take-append_seam, drop-append_seam}
@@ -8,7 +8,7 @@ use Rattle.std.proofs.lemmas.List.Folds.{list_all-append}
 use Rattle.std.proofs.lemmas.Fmt.{decimal_by_steps}
 use Rattle.std.proofs.lemmas.Bool.Decides.{nat_tests}
 use Rattle.tpcc_money.specs.Numerals.{is_digit, value_from, value_of, is_decimal, at_most, number_up_to, is_cents, amount_of, amount_of_parts, amount_by, greatest_amount}
-use Rattle.tpcc_money.specs.Texts.{amount_text, padded}
+use Rattle.tpcc_money.specs.Texts.{amount_text}
 use Rattle.tpcc_money.proofs.Values.{value_from-append, within}
 use Rattle.tpcc_money.proofs.DigitLemmas.{padded_two}
 use Rattle.tpcc_rows.proofs.Booleans.{both_true}

@@ -1,8 +1,7 @@
 -- The line of a request is read as this request, and a journal's lines as the requests of its entries.
-use Rattle.std.proofs.Common.{◌≡◌, refl, ap, sym, ◌∙◌, ℕ, ◌+◌, ◌*◌, ◌≤◌, ◌<◌, Bool, true, false, List, [], ◌∷◌, ◌++◌, append_assoc, append-nil, length, length-append, Some, None, arith}
-use Rattle.std.specs.Prelude.{nat_le, nat_lt, ◌==◌, if◌then◌else◌, ◌&&◌, decimal, codes, map, flat_map, option_map, Option}
+use Rattle.std.proofs.Common.{◌≡◌, refl, ap, sym, ◌∙◌, ℕ, ◌+◌, ◌≤◌, Bool, true, false, List, [], ◌∷◌, ◌++◌, append_assoc, append-nil, length, Some, None, arith}
+use Rattle.std.specs.Prelude.{nat_le, nat_lt, ◌==◌, if◌then◌else◌, decimal, codes, map}
 use Rattle.std.specs.List.{list_all}
-use Rattle.std.specs.Str.{bytes_eq}
 use Rattle.std.proofs.lemmas.List.{length-map}
 use Rattle.std.proofs.lemmas.Bool.Decides.{nat_tests}
 use Rattle.tpcc_money.specs.Texts.{amount_text}
@@ -19,9 +18,9 @@ use Rattle.tpcc_rows.proofs.Booleans.{split, both_true}
 use Rattle.tpcc_terminal.specs.Screens.{line}
 use Rattle.tpcc_terminal.specs.RequestLines.{customer_word, order_line_word, order_line, payment_line, status_line, stock_line, delivery_line, deliver_line, request_line, journal_lines}
 use Rattle.tpcc_script.specs.declared.call.Call.TheVariants.{Ask}
-use Rattle.tpcc_script.specs.Script.{call_of, call_of_words, call_named, later_named, order_of, order_lines_of, payment_of, status_of, stock_of, delivery_of, deliver_of, parts_of, Script, script_of, lines_say, then_says, with_call, onto}
-use Rattle.tpcc_script.specs.Sayable.{is_number, is_moment, is_amount, is_customer_word, is_order_line, has_words, fits_line, is_sayable}
-use Rattle.tpcc_script.proofs.PartLaws.{is_free_of, is_word, is_brief, words, words_length, line_is, words_apart, words_free, word_free, line_free, part_before}
+use Rattle.tpcc_script.specs.Script.{call_of, call_of_words, call_named, later_named, order_of, order_lines_of, payment_of, status_of, stock_of, delivery_of, deliver_of, parts_of, script_of, lines_say, then_says, with_call, onto}
+use Rattle.tpcc_script.specs.Sayable.{is_amount, is_order_line, has_words, fits_line, is_sayable}
+use Rattle.tpcc_script.proofs.PartLaws.{is_word, is_brief, words, words_length, line_is, words_apart, words_free, word_free, line_free, part_before}
 use Rattle.tpcc_script.proofs.WordLaws.{bound, number_word, number_read, number_brief, moment_word, moment_read, moment_brief, who_word, who_read, who_brief, amount_word, amount_read, amount_brief, line_word, line_read, line_brief}
 
 -- the name and the words of a request's line

@@ -1,39 +1,84 @@
--- The screen of a call, by what the engine answered.
-use Rattle.std.proofs.Common.{◌≡◌, ◌∙◌, sym, refl, ap, ℕ, List, Some, None, inl, inr}
-use Rattle.std.specs.Prelude.{◌⊎◌, Ok, Err}
+-- The screen of a call, by what the book answered.
+use Rattle.std.proofs.Common.{◌≡◌, ◌∙◌, sym, refl, ap, ap₂, ℕ, List, Option, Some, None, inl, inr}
+use Rattle.std.specs.Prelude.{Result, Ok, Err}
+use Rattle.std.specs.Option.{option_or}
 use Rattle.tpcc_rows.specs.declared.requests.Request.{Request}
 use Rattle.tpcc_rows.specs.declared.refusals.Refusal.{Refusal}
 use Rattle.tpcc_rows.specs.declared.refusals.Refusal.TheVariants as refused
 use Rattle.tpcc_rows.specs.declared.replies.Reply.{Reply}
 use Rattle.tpcc_rows.specs.Conditions.{first_broken}
-use Rattle.tpcc_rows.specs.Replay.{results_of}
-use Rattle.tpcc_terminal.specs.Screens.{reply_screen, refused_screen, check_screen, results_screen}
+use Rattle.tpcc_rows.specs.Replay.{count_of, results_of}
+use Rattle.tpcc_rows.specs.Turn.{reply_to}
+use Rattle.tpcc_book.specs.Past.{Past}
+use Rattle.tpcc_book.specs.Purses.{Held}
+use Rattle.tpcc_book.specs.Serve.{IsServed}
+use Rattle.tpcc_book.specs.Told.{Told}
+use Rattle.tpcc_book.specs.Turn.{after, turn_refusal}
+use Rattle.tpcc_terminal.specs.Screens.{answer_screen, reply_screen, refused_screen, check_screen, results_screen}
 use Rattle.tpcc_script.specs.declared.call.Call.TheVariants.{Ask, Check, Results}
-use Rattle.tpcc_script.specs.Book.{Book, screen_of, book_after, screen_by, book_by, request_refusal}
+use Rattle.tpcc_script.specs.Book.{Book, terminal, screen_of, book_after, screen_by, book_by, accepting, request_refusal}
 use Rattle.tpcc_script.specs.Run.{HasServed, Shows}
-use Rattle.tpcc_script.specs.Steps.{IsTurn}
+use Rattle.tpcc_script.specs.Session.{IsAtHand, seen}
 
-pub shows_reply : (old new : Book) (request : Request) (reply : Reply) (screen : List ℕ)
-    → IsTurn old request (Ok reply) new → screen ≡ reply_screen reply → Shows old (Ask request) screen new
+shows-reply : (old new : Book) (request : Request) (reply : Reply) (screen : List ℕ)
+    → request_refusal old request ≡ None → reply ≡ reply_to old.state request → new ≡ accepting old request → screen ≡ reply_screen reply
+    → Shows old (Ask request) screen new
 unfolding screen_of book_after
-shows_reply old new request reply screen h e = inl (record {
-  shown = e ∙ ap reply_screen h.1 ∙ sym (ap (screen_by old request) h.0);
-  left = h.2 ∙ sym (ap (book_by old request) h.0);
+shows-reply old new request reply screen free is left e = inl (record {
+  shown = e ∙ ap reply_screen is ∙ sym (ap (screen_by old request) free);
+  left = left ∙ sym (ap (book_by old request) free);
 })
 
-refused-so : (old new : Book) (request : Request) (r : Refusal) (screen : List ℕ)
-    → (request_refusal old request ≡ Some r) ⊎ ((request_refusal old request ≡ None) × (r ≡ refused.NoMemory)) → new ≡ old
-    → screen ≡ refused_screen r → Shows old (Ask request) screen new
-unfolding screen_of book_after
-refused-so old new request r screen (inl h) same e = inl (record {
-  shown = e ∙ sym (ap (screen_by old request) h);
-  left = same ∙ sym (ap (book_by old request) h);
-})
-refused-so old new request r screen (inr h) same e = inr (record { request = refl; free = h.0; shown = e ∙ ap refused_screen h.1; left = same })
+same-refusal : (a b : Refusal) → Some a ≡ Some b → a ≡ b
+same-refusal a b h = cc
 
-pub shows_refusal : (old new : Book) (request : Request) (r : Refusal) (screen : List ℕ)
-    → IsTurn old request (Err r) new → screen ≡ refused_screen r → Shows old (Ask request) screen new
-shows_refusal old new request r screen h e = refused-so old new request r screen h.0 h.1 e
+-- the first refusal, or want of memory where there is none
+shows-refusal : (old new : Book) (request : Request) (first : Option Refusal) (r : Refusal) (screen : List ℕ)
+    → request_refusal old request ≡ first → option_or first (Some refused.NoMemory) ≡ Some r → new ≡ old → screen ≡ refused_screen r
+    → Shows old (Ask request) screen new
+unfolding screen_of book_after
+shows-refusal old new request (Some first) r screen is told same e =
+    let first_is = is ∙ told in
+    inl (record {
+      shown = e ∙ sym (ap (screen_by old request) first_is);
+      left = same ∙ sym (ap (book_by old request) first_is);
+    })
+shows-refusal old new request None r screen is told same e =
+    inr (record { request = refl; free = is; shown = e ∙ ap refused_screen (sym (same-refusal refused.NoMemory r told)); left = same })
+
+shows-answer : (old new : Past) (purse : Held) (request asked : Request) (o : Result Reply Refusal) (place : Option ℕ) (later : Held) (screen : List ℕ)
+    → purse.terminal ≡ terminal → purse.entries ≡ count_of terminal old.entries
+    → IsServed old request purse (record { request = asked; outcome = o; place = place; purse = later }) new → screen ≡ answer_screen o
+    → Shows (seen old) (Ask request) screen (seen new)
+shows-answer old new purse request asked (Ok reply) place later screen own all served e =
+    let accepts = served.turn.accepts reply refl in
+    let by = ap₂ (λ t n. turn_refusal old.state old.entries t n request) own all in
+    let grown = ap₂ (λ t n. seen (after old t n request)) own all in
+    shows-reply (seen old) (seen new) request reply screen (sym by ∙ accepts.none_applies) accepts.reply_is (ap seen accepts.new_is ∙ grown) e
+shows-answer old new purse request asked (Err r) place later screen own all served e =
+    let refuses = served.turn.refuses r refl in
+    let by = ap₂ (λ t n. turn_refusal old.state old.entries t n request) own all in
+    shows-refusal (seen old) (seen new) request (turn_refusal old.state old.entries purse.terminal purse.entries request) r screen (sym by) refuses.first (ap seen refuses.same) e
+
+same-held : (a b : Held) → Some a ≡ Some b → a ≡ b
+same-held a b h = cc
+
+-- the screen of what a session's book answered the purse that was taken out
+pub shows_answer : (old new : Past) (held taken : Option Held) (purse : Held) (request : Request) (answer : Told Held) (screen : List ℕ)
+    → (at : IsAtHand old held) → taken ≡ held → taken ≡ Some purse
+    → IsServed old request purse answer new → screen ≡ answer_screen answer.outcome → Shows (seen old) (Ask request) screen (seen new)
+shows_answer old new held taken purse request answer screen at out is served e =
+    let same = same-held purse at.purse (sym is ∙ out ∙ at.held_is) in
+    shows-answer old new purse request answer.request answer.outcome answer.place answer.purse screen
+    (ap (λ (p : Held). p.terminal) same ∙ at.terminal_is) (ap (λ (p : Held). p.entries) same ∙ at.entries) served e
+
+pub served_answer : (old new : Past) (held taken : Option Held) (purse : Held) (request : Request) (answer : Told Held)
+    → (at : IsAtHand old held) → taken ≡ held → taken ≡ Some purse
+    → IsServed old request purse answer new → HasServed (seen old) (Ask request) (seen new)
+served_answer old new held taken purse request answer at out is served = record {
+  screen = answer_screen answer.outcome;
+  shows = shows_answer old new held taken purse request answer (answer_screen answer.outcome) at out is served refl;
+}
 
 pub shows_check : (old : Book) (screen : List ℕ) → screen ≡ check_screen (first_broken old.state.rows) → Shows old Check screen old
 unfolding screen_of book_after
@@ -44,12 +89,6 @@ unfolding screen_of book_after
 shows_results old screen e = inl (record { shown = e; left = refl })
 
 -- a served call has a screen
-pub served_reply : (old new : Book) (request : Request) (reply : Reply) → IsTurn old request (Ok reply) new → HasServed old (Ask request) new
-served_reply old new request reply h = record { screen = reply_screen reply; shows = shows_reply old new request reply (reply_screen reply) h refl }
-
-pub served_refusal : (old new : Book) (request : Request) (r : Refusal) → IsTurn old request (Err r) new → HasServed old (Ask request) new
-served_refusal old new request r h = record { screen = refused_screen r; shows = shows_refusal old new request r (refused_screen r) h refl }
-
 pub served_check : (old : Book) → HasServed old Check old
 served_check old = record { screen = check_screen (first_broken old.state.rows); shows = shows_check old (check_screen (first_broken old.state.rows)) refl }
 

@@ -1,13 +1,13 @@
 -- The words of a request: each is one word, and is read as what it was written from.
-use Rattle.std.proofs.Common.{◌≡◌, refl, ap, sym, ◌∙◌, ℕ, ◌+◌, ◌≤◌, ◌<◌, ◌^◌, ◌/◌, ◌%◌, Bool, true, false, List, [], ◌∷◌, ◌++◌, length, length-append, Some, None, arith}
-use Rattle.std.specs.Prelude.{nat_le, nat_lt, ◌==◌, ◌&&◌, ◌||◌, not, decimal, ℤ, pos, negsuc, option_map}
+use Rattle.std.proofs.Common.{◌≡◌, refl, ap, ◌∙◌, ℕ, ◌+◌, ◌≤◌, ◌<◌, ◌^◌, ◌/◌, ◌%◌, Bool, true, false, List, [], ◌∷◌, ◌++◌, length, length-append, Some, arith}
+use Rattle.std.specs.Prelude.{nat_le, nat_lt, ◌==◌, ◌&&◌, not, decimal, ℤ, pos, negsuc, option_map}
 use Rattle.std.specs.List.{list_all}
 use Rattle.std.specs.Result.{result_ok}
 use Rattle.std.proofs.lemmas.Fmt.{length-decimal-le}
 use Rattle.std.proofs.lemmas.List.Folds.{list_all-append}
 use Rattle.std.proofs.lemmas.Bool.Decides.{nat_tests}
 use Rattle.tpcc_money.specs.Numerals.{is_digit}
-use Rattle.tpcc_money.specs.Texts.{amount_text, padded}
+use Rattle.tpcc_money.specs.Texts.{amount_text}
 use Rattle.tpcc_money.proofs.DigitLemmas.{padded_two}
 use Rattle.tpcc_rows.specs.declared.requests.Who.{Who}
 use Rattle.tpcc_rows.specs.declared.requests.Who.TheVariants.{Number, Name}

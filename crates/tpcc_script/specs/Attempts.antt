@@ -26,6 +26,16 @@ abbrev pub HasWritten : Watch → Watch → Option (List ℕ) → Option (List �
 HasWritten old new held now bytes (Done count) = HasTaken held now bytes count × (new.retries ≡ 1000)
 HasWritten old new held now bytes Again = Keeps held now × (new.retries < old.retries)
 
+-- the writer was flushed, or the call was interrupted and one retry less is left
+abbrev pub HasFlushed : Watch → Watch → Attempt (Unit {0}) → Type 0
+HasFlushed old new (Done done) = ⊤
+HasFlushed old new Again = new.retries < old.retries
+
+-- no more of the two was given up
+pub record IsNoWorse (old new : Watch) : Type 0 where
+  pub reader : new.reader_failed ≡ old.reader_failed
+  pub writer : new.writer_failed ≡ old.writer_failed
+
 -- Read only where the reader was given up, Write only where the writer was
 abbrev pub HasGivenUp : Watch → ScriptFault → Type 0
 HasGivenUp watch Read = watch.reader_failed ≡ true

@@ -1,16 +1,12 @@
 -- One line of a run.
-use Rattle.std.specs.Prelude.{◌≡◌, ◌⊎◌, ℕ, ◌+◌, ◌≤◌, List, length, take, Bool, true, false, Option, Some, None, Result, Ok, Err}
+use Rattle.std.specs.Prelude.{◌≡◌, ◌⊎◌, ℕ, ◌+◌, ◌≤◌, List, ◌++◌, Bool, true, false, Option, Some, None, Result, Ok, Err}
 use Rattle.std.specs.Io.KnownBytes.{Appends}
-use Rattle.tpcc_rows.specs.declared.requests.Request.{Request}
-use Rattle.tpcc_rows.specs.declared.refusals.Refusal.{Refusal}
-use Rattle.tpcc_rows.specs.declared.refusals.Refusal.TheVariants as refused
-use Rattle.tpcc_rows.specs.declared.replies.Reply.{Reply}
-use Rattle.tpcc_rows.specs.Turn.{reply_to}
 use Rattle.tpcc_script.specs.declared.call.Call.{Call}
 use Rattle.tpcc_script.specs.declared.fault.ScriptFault.{ScriptFault}
 use Rattle.tpcc_script.specs.declared.fault.ScriptFault.TheVariants.{Bad, Cut, LongLine, TooManyLines, Read, Write, NoMemory}
 use Rattle.tpcc_script.specs.Script.{Script, call_of, lines_say, parts_of, then_says, with_call, ends, fails}
-use Rattle.tpcc_script.specs.Book.{Book, accepting, request_refusal}
+use Rattle.tpcc_script.specs.Book.{Book}
+use Rattle.tpcc_script.specs.Part.{AppendsPart, Passes}
 use Rattle.tpcc_script.specs.Run.{Shows}
 
 -- what the bytes say, from a line on
@@ -39,48 +35,74 @@ IsRead view number bytes (Ok (Some line)) left = IsLine number bytes (view line)
 IsRead view number bytes (Ok None) left = says number bytes ≡ ends
 IsRead view number bytes (Err fault) left = IsFaultOf (says number bytes) fault
 
--- what a turn answers
-abbrev pub IsTurn : Book → Request → Result Reply Refusal → Book → Type 0
-IsTurn old request (Ok reply) new = (request_refusal old request ≡ None) × (reply ≡ reply_to old.state request) × (new ≡ accepting old request)
-IsTurn old request (Err r) new = ((request_refusal old request ≡ Some r) ⊎ ((request_refusal old request ≡ None) × (r ≡ refused.NoMemory))) × (new ≡ old)
-
--- a line was served, its screen written
-pub record IsLineServed (number : ℕ) (bytes : List ℕ) (old : Book) (new : Book) (left : Option (List ℕ)) : Type 0 where
+-- a line was served, and has a screen
+pub record IsLineServed (number : ℕ) (bytes : List ℕ) (old : Book) (screen : List ℕ) (new : Book) (left : Option (List ℕ)) : Type 0 where
   pub call : Call
-  pub screen : List ℕ
   pub rest : List ℕ
   pub left_is : left ≡ Some rest
   pub number_fits : number ≤ 1000000
   pub says_is : says number bytes ≡ with_call call (says (number + 1) rest)
   pub shows : Shows old call screen new
 
-pub record IsLineWritten (number : ℕ) (bytes : List ℕ) (old : Book) (new : Book) (left : Option (List ℕ)) (held now : Option (List ℕ)) : Type 0 where
-  pub served : IsLineServed number bytes old new left
-  pub added : Appends held now served.screen
+-- the same, where the screen is not given
+pub record IsLineUnshown (number : ℕ) (bytes : List ℕ) (old new : Book) (left : Option (List ℕ)) : Type 0 where
+  pub screen : List ℕ
+  pub served : IsLineServed number bytes old screen new left
 
-pub record IsLineBroken (number : ℕ) (bytes : List ℕ) (old : Book) (new : Book) (left : Option (List ℕ)) (held now : Option (List ℕ)) : Type 0 where
-  pub served : IsLineServed number bytes old new left
-  pub count : ℕ
-  pub within : count ≤ length served.screen
-  pub added : Appends held now (take count served.screen)
-
--- nothing was written, and the book is the same
-pub record IsStill (old new : Book) (held now : Option (List ℕ)) : Type 0 where
+-- the text ends so, and the book is the same
+pub record IsEnd (number : ℕ) (bytes : List ℕ) (script : Script) (old new : Book) : Type 0 where
+  pub says_is : says number bytes ≡ script
   pub book : new ≡ old
-  pub sink : now ≡ held
 
--- nothing was written; the book is the same, or has served the line, whose screen was refused memory
-pub record IsUnshown (number : ℕ) (bytes : List ℕ) (old new : Book) (left held now : Option (List ℕ)) : Type 0 where
-  pub book : (new ≡ old) ⊎ IsLineServed number bytes old new left
-  pub sink : now ≡ held
+-- why no screen is given: the book is the same, or memory was refused for the screen of a line that it has served
+abbrev pub IsStopped : ℕ → List ℕ → Book → Book → Option (List ℕ) → ScriptFault → Type 0
+IsStopped number bytes old new left (Bad n) = IsEnd number bytes (fails (Bad n)) old new
+IsStopped number bytes old new left (Cut n) = IsEnd number bytes (fails (Cut n)) old new
+IsStopped number bytes old new left (LongLine n) = IsEnd number bytes (fails (LongLine n)) old new
+IsStopped number bytes old new left TooManyLines = IsEnd number bytes (fails TooManyLines) old new
+IsStopped number bytes old new left Read = new ≡ old
+IsStopped number bytes old new left NoMemory = (new ≡ old) ⊎ IsLineUnshown number bytes old new left
+IsStopped number bytes old new left Write = ⊥
 
-abbrev pub IsStep : ℕ → List ℕ → Book → Book → Option (List ℕ) → Option (List ℕ) → Option (List ℕ) → Result Bool ScriptFault → Type 0
-IsStep number bytes old new left held now (Ok true) = IsLineWritten number bytes old new left held now
-IsStep number bytes old new left held now (Ok false) = (says number bytes ≡ ends) × IsStill old new held now
-IsStep number bytes old new left held now (Err Write) = IsLineBroken number bytes old new left held now
-IsStep number bytes old new left held now (Err (Bad n)) = (says number bytes ≡ fails (Bad n)) × IsStill old new held now
-IsStep number bytes old new left held now (Err (Cut n)) = (says number bytes ≡ fails (Cut n)) × IsStill old new held now
-IsStep number bytes old new left held now (Err (LongLine n)) = (says number bytes ≡ fails (LongLine n)) × IsStill old new held now
-IsStep number bytes old new left held now (Err TooManyLines) = (says number bytes ≡ fails TooManyLines) × IsStill old new held now
-IsStep number bytes old new left held now (Err Read) = IsStill old new held now
-IsStep number bytes old new left held now (Err NoMemory) = IsUnshown number bytes old new left held now
+-- what became of a line: its screen, the end, or a fault
+abbrev pub IsAnswered : ℕ → List ℕ → Book → Book → Option (List ℕ) → Result (Option (List ℕ)) ScriptFault → Type 0
+IsAnswered number bytes old new left (Ok (Some screen)) = IsLineServed number bytes old screen new left
+IsAnswered number bytes old new left (Ok None) = IsEnd number bytes ends old new
+IsAnswered number bytes old new left (Err fault) = IsStopped number bytes old new left fault
+
+-- a line was served; of what waited and its screen the sink got some first bytes, and the others wait
+pub record IsLineHeld (number : ℕ) (bytes : List ℕ) (old new : Book) (left held now : Option (List ℕ)) (waits more : List ℕ) : Type 0 where
+  pub screen : List ℕ
+  pub served : IsLineServed number bytes old screen new left
+  pub passed : Passes held now (waits ++ screen) more
+
+-- the sink was given up at some first bytes of what waited and of a line's screen
+pub record IsLineBroken (number : ℕ) (bytes : List ℕ) (old new : Book) (left held now : Option (List ℕ)) (waits : List ℕ) : Type 0 where
+  pub screen : List ℕ
+  pub served : IsLineServed number bytes old screen new left
+  pub part : AppendsPart held now (waits ++ screen)
+
+-- or of what waited alone, where no line was served
+pub record IsStillBroken (old new : Book) (held now : Option (List ℕ)) (waits : List ℕ) : Type 0 where
+  pub book : new ≡ old
+  pub part : AppendsPart held now waits
+
+-- there is no more to be served, and all that waited is written
+pub record IsStill (number : ℕ) (bytes : List ℕ) (old new : Book) (left held now : Option (List ℕ)) (waits : List ℕ) (fault : ScriptFault) : Type 0 where
+  pub stopped : IsStopped number bytes old new left fault
+  pub added : Appends held now waits
+
+abbrev pub IsFault : ℕ → List ℕ → Book → Book → Option (List ℕ) → Option (List ℕ) → Option (List ℕ) → List ℕ → ScriptFault → Type 0
+IsFault number bytes old new left held now waits Write = IsStillBroken old new held now waits ⊎ IsLineBroken number bytes old new left held now waits
+IsFault number bytes old new left held now waits (Bad n) = IsStill number bytes old new left held now waits (Bad n)
+IsFault number bytes old new left held now waits (Cut n) = IsStill number bytes old new left held now waits (Cut n)
+IsFault number bytes old new left held now waits (LongLine n) = IsStill number bytes old new left held now waits (LongLine n)
+IsFault number bytes old new left held now waits TooManyLines = IsStill number bytes old new left held now waits TooManyLines
+IsFault number bytes old new left held now waits Read = IsStill number bytes old new left held now waits Read
+IsFault number bytes old new left held now waits NoMemory = IsStill number bytes old new left held now waits NoMemory
+
+-- what became of a line and of its screen: `waits` is what had not been written before it, and `more` what has not been written behind it
+abbrev pub IsStep : ℕ → List ℕ → Book → Book → Option (List ℕ) → Option (List ℕ) → Option (List ℕ) → List ℕ → List ℕ → Result Bool ScriptFault → Type 0
+IsStep number bytes old new left held now waits more (Ok true) = IsLineHeld number bytes old new left held now waits more
+IsStep number bytes old new left held now waits more (Ok false) = IsEnd number bytes ends old new × Appends held now waits
+IsStep number bytes old new left held now waits more (Err fault) = IsFault number bytes old new left held now waits fault

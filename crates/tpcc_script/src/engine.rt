@@ -4,11 +4,12 @@ ghost use Rattle.tpcc_rows.specs.Conditions.{first_broken};
 ghost use Rattle.tpcc_rows.specs.Replay.{results_of};
 ghost use Rattle.tpcc_terminal.specs.Screens as screens;
 ghost use Rattle.tpcc_script.specs.Book.{Book};
-ghost use Rattle.tpcc_script.specs.Steps.{IsTurn};
+ghost use Rattle.tpcc_script.specs.Run.{HasServed, Shows};
+ghost use Rattle.tpcc_script.specs.declared.call.Call.TheVariants.{Ask};
 
 use std::alloc::Global;
 use tpcc_money::NoMemory;
-use tpcc_rows::{Refusal, Reply, Request};
+use tpcc_rows::Request;
 use tpcc_terminal::Screen;
 
 /// Tables with the journal that led to them.
@@ -16,15 +17,20 @@ pub trait Engine {
     /// What it is seen as: its rows, its queue and its journal.
     ghost book: { Self → Book };
 
-    /// One turn: a transaction and its entry, or a refusal and no change.
-    fn serve(&mut self, request: Request) -> Result<Reply, Refusal>
-        ensures { IsTurn (book self.old) request result (book self.new) };
+    /// Serves a request and gives the screen of the answer: one turn, which is a transaction and its entry, or a
+    /// refusal and no change. Refused only for want of memory for the screen, and then the turn was made.
+    fn serve(&mut self, alloc: Global, request: Request) -> Result<Screen, NoMemory>
+        ensures shown { IfOk result
+            (λ s. Shows (book self.old) (Ask request) s (book self.new)) }
+        ensures served { HasServed (book self.old) (Ask request) (book self.new) };
 
     /// The screen of the consistency conditions (3.3.2).
     fn check(&self, alloc: Global) -> Result<Screen, NoMemory>
-        ensures { IfOk result (λ s. s ≡ screens.check_screen (first_broken (book self.now).state.rows)) };
+        ensures { IfOk result
+            (λ s. s ≡ screens.check_screen (first_broken (book self.now).state.rows)) };
 
     /// The screens of the delivery result log (2.7.2.2).
     fn results(&self, alloc: Global) -> Result<Screen, NoMemory>
-        ensures { IfOk result (λ s. s ≡ screens.results_screen (results_of (book self.now).journal)) };
+        ensures { IfOk result
+            (λ s. s ≡ screens.results_screen (results_of (book self.now).journal)) };
 }

@@ -29,8 +29,10 @@ pub fn request_is_read()
 
 /// A journal of at most 1,000,000 entries, written as a script, asks the requests of its entries in their order.
 pub fn journal_is_read()
-    ensures { (entries : List Entry) → list_all (λ e. is_sayable e.request) entries ≡ true → length entries ≤ 1000000
-        → script_of (journal_lines entries) ≡ record { calls = map (λ e. Ask e.request) entries; fault = None } }
+    ensures { (entries : List Entry) → list_all (λ e. is_sayable e.request) entries ≡ true
+        → length entries ≤ 1000000
+        → script_of (journal_lines entries)
+        ≡ record { calls = map (λ e. Ask e.request) entries; fault = None } }
 {}
 
 /// A kept book's journal, read again as a script at the book's opening, names no fault, and its screens and the book behind
@@ -45,7 +47,8 @@ pub fn journal_is_done_again()
 /// Whatever [`run_script`](crate::run_script) does with that script: where it ends it has written just these screens and left
 /// that book, or some request was refused for want of memory; no fault of the text stops it.
 pub fn journal_runs_again()
-    ensures { (book : Past) (old new : Option (List ℕ)) (left : Book) (result : Result (Unit {0}) ScriptFault)
+    ensures { (book : Past) (old new : Option (List ℕ)) (left : Book)
+        (result : Result (Unit {0}) ScriptFault)
         → IsWritable book → IsRun (opened_book book.opening) (script_again book) old new left result
         → IsDoneAgain book old new left result }
 {}

@@ -4,6 +4,7 @@
 mod call;
 mod engine;
 mod fault;
+mod held;
 pub mod laws;
 mod parse;
 mod reader;

@@ -164,7 +164,8 @@ fn order(alloc: Global, words: &[&[u8]]) -> Result<Request, ParseFault>
 }
 
 fn ask(request: Result<Request, ParseFault>) -> Result<Call, ParseFault>
-    ensures { (read : Option Request) → Gives (λ r. r) request read → Gives (λ c. c) result (option_map Ask read) }
+    ensures { (read : Option Request) → Gives (λ r. r) request read
+        → Gives (λ c. c) result (option_map Ask read) }
 {
     match request {
         Ok(request) => Ok(Call::Ask(request)),

@@ -24,7 +24,8 @@ pub fn read_line<R: Read>(
     watch: &mut Watch,
     number: u32,
 ) -> Result<Option<Vec<u8>>, ScriptFault>
-    ensures read { (bytes : List ℕ) → R.remaining input.old ≡ Some bytes → IsRead (λ v. v.items) number bytes result (R.remaining input.new) }
+    ensures read { (bytes : List ℕ) → R.remaining input.old ≡ Some bytes
+        → IsRead (λ v. v.items) number bytes result (R.remaining input.new) }
     ensures within { IfOk result (λ line. IfSome line (λ _. number ≤ 1000000)) }
     ensures gave_up { IfErr result (HasGivenUp watch.new) }
     ensures why { IfErr result (λ f. f ≢ ScriptFault.Write) }
@@ -55,7 +56,8 @@ pub fn read_line<R: Read>(
 /// The next byte, or none at the end. An interrupted read is tried again.
 pub fn next_byte<R: Read>(input: &mut R, watch: &mut Watch) -> Result<Option<u8>, ScriptFault>
     ensures ok { IfOk result (TakesByte (R.remaining input.old) (R.remaining input.new)) }
-    ensures gave_up { IfErr result (λ f. (f ≡ ScriptFault.Read) × (watch.new.reader_failed ≡ true)) }
+    ensures gave_up { IfErr result
+        (λ f. (f ≡ ScriptFault.Read) × (watch.new.reader_failed ≡ true)) }
 {
     'turns: loop {
         match try_byte(input, watch) {

@@ -1,28 +1,32 @@
 //! A script from its first line to its end.
-ghost use Rattle.std.specs.Prelude.{◌≡◌, ◌≤◌, ℕ, true, List, Some, IfErr, IfOk};
+ghost use Rattle.std.specs.Prelude.{◌≡◌, ◌≢◌, ◌≤◌, ◌++◌, ℕ, true, List, Some, IfErr, IfOk, IfSome, OnErr, OnOk};
+ghost use Rattle.std.specs.Io.Buffered.{reader_remaining};
 ghost use Rattle.tpcc_script.specs.Attempts.{HasGivenUp};
 ghost use Rattle.tpcc_script.specs.Script.{script_of};
 ghost use Rattle.tpcc_script.specs.Run.{HasRun, IsCounted, IsRun};
-ghost use Rattle.tpcc_script.specs.Steps.{IsStep};
+ghost use Rattle.tpcc_script.specs.Steps.{IsAnswered, IsStep};
+ghost use Rattle.tpcc_script.specs.Part.{AppendsPart, Passes};
 ghost use Rattle.tpcc_script.specs.Session.{opened_book, seen};
 
 use crate::engine::Engine;
 use crate::fault::ScriptFault;
+use crate::held::Held;
 use crate::parse::parse_line;
 use crate::reader::read_line;
 use crate::session::Session;
 use crate::show::answer;
 use crate::watch::Watch;
-use crate::writer::put_all;
 use std::alloc::Global;
 use std::io::{BufReader, Read, Write};
 use std::marker::Brand;
 use tpcc_book::{Blanks, Naming};
 use tpcc_population::Opening;
+use tpcc_terminal::Screen;
 
-/// Runs a script on a fresh book: each request by a purse of terminal 1, through the book. The
-/// screens of all lines that were read are written before more is read. Answers how many entries
-/// the book then has: a refused request makes none.
+/// Runs a script on a fresh book: each request by a purse of terminal 1, through the book. It is read ahead in blocks,
+/// and its screens are written in blocks: those of all whole lines that were read are written, and the writer is
+/// flushed, before the reader's next call and before a fault is told. Answers how many entries the book then has: a
+/// refused request makes none.
 ///
 /// Faults: Bad (a line that says no request or call), Cut (the last line has no line feed), LongLine
 /// (over 4,096 bytes), TooManyLines (a byte after 1,000,000 lines), Read, Write, NoMemory. An
@@ -34,7 +38,8 @@ pub fn run_script<R: Read, W: Write>(
     opening: &Opening,
 ) -> Result<usize, ScriptFault>
     ensures { (bytes : List ℕ) → R.remaining input.old ≡ Some bytes
-        → HasRun (opened_book opening.now) (script_of bytes) (W.contents out.old) (W.contents out.new) result }
+        → HasRun (opened_book opening.now) (script_of bytes) (W.contents out.old)
+        (W.contents out.new) result }
 {
     let mut watch = Watch::new();
     run_named::<Brand, R, W>(alloc, input, out, &mut watch, opening, Blanks::new())
@@ -53,7 +58,8 @@ fn run_named<N: Naming, R: Read, W: Write>(
     requires cents { blanks.cents.name ≡ N.cents }
     ensures gave_up { IfErr result (HasGivenUp watch.new) }
     ensures run { (bytes : List ℕ) → R.remaining input.old ≡ Some bytes
-        → HasRun (opened_book opening.now) (script_of bytes) (W.contents out.old) (W.contents out.new) result }
+        → HasRun (opened_book opening.now) (script_of bytes) (W.contents out.old)
+        (W.contents out.new) result }
 {
     match Session::<N>::start(alloc, opening, blanks) {
         Ok(mut session) => serve_session(alloc, &mut session, input, out, watch),
@@ -71,7 +77,8 @@ pub(crate) fn serve_session<N: Naming, R: Read, W: Write>(
 ) -> Result<usize, ScriptFault>
     ensures gave_up { IfErr result (HasGivenUp watch.new) }
     ensures counted { (bytes : List ℕ) → R.remaining input.old ≡ Some bytes
-        → IsCounted (seen session.old) (script_of bytes) (W.contents out.old) (W.contents out.new) (seen session.new) result }
+        → IsCounted (seen session.old) (script_of bytes) (W.contents out.old) (W.contents out.new)
+        (seen session.new) result }
 {
     match serve_script(alloc, session, input, out, watch) {
         Ok(()) => Ok(session.entries()),
@@ -89,7 +96,8 @@ fn serve_script<E: Engine, R: Read, W: Write>(
 ) -> Result<(), ScriptFault>
     ensures gave_up { IfErr result (HasGivenUp watch.new) }
     ensures run { (bytes : List ℕ) → R.remaining input.old ≡ Some bytes
-        → IsRun (E.book engine.old) (script_of bytes) (W.contents out.old) (W.contents out.new) (E.book engine.new) result }
+        → IsRun (E.book engine.old) (script_of bytes) (W.contents out.old) (W.contents out.new)
+        (E.book engine.new) result }
 {
     match BufReader::new(alloc, input) {
         Ok(mut ahead) => serve_lines(alloc, engine, &mut ahead, out, watch),
@@ -101,17 +109,19 @@ fn serve_script<E: Engine, R: Read, W: Write>(
 fn serve_lines<E: Engine, R: Read, W: Write>(
     alloc: Global,
     engine: &mut E,
-    input: &mut R,
+    ahead: &mut BufReader<R>,
     out: &mut W,
     watch: &mut Watch,
 ) -> Result<(), ScriptFault>
     ensures gave_up { IfErr result (HasGivenUp watch.new) }
-    ensures run { (bytes : List ℕ) → R.remaining input.old ≡ Some bytes
-        → IsRun (E.book engine.old) (script_of bytes) (W.contents out.old) (W.contents out.new) (E.book engine.new) result }
+    ensures run { (bytes : List ℕ) → reader_remaining R.remaining ahead.old ≡ Some bytes
+        → IsRun (E.book engine.old) (script_of bytes) (W.contents out.old) (W.contents out.new)
+        (E.book engine.new) result }
 {
+    let mut held = Held::new(alloc);
     let mut number = 1u32;
     'lines: loop {
-        match serve_line(alloc, engine, input, out, watch, number) {
+        match show_line(alloc, engine, ahead, &mut held, out, watch, number) {
             Ok(true) => number += 1,
             Ok(false) => return Ok(()),
             Err(fault) => return Err(fault),
@@ -119,23 +129,79 @@ fn serve_lines<E: Engine, R: Read, W: Write>(
     }
 }
 
-// Serves one line and writes its screen; false at the end.
-fn serve_line<E: Engine, R: Read, W: Write>(
+// Serves one line and shows its screen; false at the end. At the end and at a fault all that waited is written.
+fn show_line<E: Engine, R: Read, W: Write>(
     alloc: Global,
     engine: &mut E,
-    input: &mut R,
+    ahead: &mut BufReader<R>,
+    held: &mut Held,
     out: &mut W,
     watch: &mut Watch,
     number: u32,
 ) -> Result<bool, ScriptFault>
     ensures within { IfOk result (λ more. more ≡ true → number ≤ 1000000) }
     ensures gave_up { IfErr result (HasGivenUp watch.new) }
-    ensures step { (bytes : List ℕ) → R.remaining input.old ≡ Some bytes
-        → IsStep number bytes (E.book engine.old) (E.book engine.new) (R.remaining input.new) (W.contents out.old) (W.contents out.new) result }
+    ensures step { (bytes : List ℕ) → reader_remaining R.remaining ahead.old ≡ Some bytes
+        → IsStep number bytes (E.book engine.old) (E.book engine.new)
+        (reader_remaining R.remaining ahead.new)
+        (W.contents out.old) (W.contents out.new) held.old held.new result }
+{
+    match serve_line(alloc, engine, ahead, watch, number) {
+        Ok(Some(screen)) => {
+            show_screen(ahead, held, out, watch, screen.bytes())?;
+            Ok(true)
+        }
+        Ok(None) => {
+            held.flush(out, watch)?;
+            Ok(false)
+        }
+        Err(fault) => {
+            held.flush(out, watch)?;
+            Err(fault)
+        }
+    }
+}
+
+// Lets a screen wait where the next line was read already, so that it is served before more is read; else writes
+// all that waits.
+fn show_screen<R: Read, W: Write>(
+    ahead: &BufReader<R>,
+    held: &mut Held,
+    out: &mut W,
+    watch: &mut Watch,
+    screen: &[u8],
+) -> Result<(), ScriptFault>
+    ensures ok { OnOk result (Passes (W.contents out.old) (W.contents out.new)
+        (held.old ++ screen.now) held.new) }
+    ensures err { OnErr result (AppendsPart (W.contents out.old) (W.contents out.new)
+        (held.old ++ screen.now)) }
+    ensures gave_up { IfErr result
+        (λ f. (f ≡ ScriptFault.Write) × (watch.new.writer_failed ≡ true)) }
+{
+    held.put(out, watch, screen)?;
+    if ahead.buffer().contains(&b'\n') {
+        return Ok(());
+    }
+    held.flush(out, watch)
+}
+
+// Serves one line and gives its screen; none at the end.
+fn serve_line<E: Engine, R: Read>(
+    alloc: Global,
+    engine: &mut E,
+    input: &mut R,
+    watch: &mut Watch,
+    number: u32,
+) -> Result<Option<Screen>, ScriptFault>
+    ensures within { IfOk result (λ screen. IfSome screen (λ _. number ≤ 1000000)) }
+    ensures gave_up { IfErr result (HasGivenUp watch.new) }
+    ensures answered { (bytes : List ℕ) → R.remaining input.old ≡ Some bytes
+        → IsAnswered number bytes (E.book engine.old) (E.book engine.new)
+        (R.remaining input.new) result }
 {
     let line = match read_line(alloc, input, watch, number) {
         Ok(Some(line)) => line,
-        Ok(None) => return Ok(false),
+        Ok(None) => return Ok(None),
         Err(fault) => return Err(fault),
     };
     let call = match parse_line(alloc, line.as_slice()) {
@@ -143,12 +209,8 @@ fn serve_line<E: Engine, R: Read, W: Write>(
         Ok(None) => return Err(ScriptFault::Bad(number)),
         Err(_) => return Err(ScriptFault::NoMemory),
     };
-    let screen = match answer(alloc, engine, call) {
-        Ok(screen) => screen,
-        Err(_) => return Err(ScriptFault::NoMemory),
-    };
-    match put_all(out, watch, screen.bytes()) {
-        Ok(()) => Ok(true),
-        Err(_) => Err(ScriptFault::Write),
+    match answer(alloc, engine, call) {
+        Ok(screen) => Ok(Some(screen)),
+        Err(_) => Err(ScriptFault::NoMemory),
     }
 }

@@ -8,9 +8,9 @@ use std::marker::Model;
 use tpcc_book::{Answer, Blanks, Book, Naming, Purse};
 use tpcc_money::NoMemory;
 use tpcc_population::Opening;
-use tpcc_rows::{Refusal, Reply, Request};
+use tpcc_rows::Request;
 use tpcc_show::{check_screen, results_screen};
-use tpcc_terminal::Screen;
+use tpcc_terminal::{Screen, screen};
 
 /// A book, with the purse of terminal 1, which makes each of the script's requests.
 #[derive(Drop)]
@@ -70,13 +70,14 @@ impl<N: Naming> Engine for Session<N> {
 
     ghost book = { seen };
 
-    fn serve(&mut self, request: Request) -> Result<Reply, Refusal> {
+    fn serve(&mut self, alloc: Global, request: Request) -> Result<Screen, NoMemory> {
         let Some(purse) = self.purse.take() else {
             unreachable!()
         };
-        let (outcome, purse) = parts(self.book.serve(request, purse));
-        self.purse = Some(purse);
-        outcome
+        let answer = self.book.serve(request, purse);
+        let shown = screen(alloc, &answer);
+        self.purse = Some(purse_of(answer));
+        shown
     }
 
     fn check(&self, alloc: Global) -> Result<Screen, NoMemory> {
@@ -88,10 +89,9 @@ impl<N: Naming> Engine for Session<N> {
     }
 }
 
-fn parts<P>(answer: Answer<P>) -> (Result<Reply, Refusal>, P)
-    ensures outcome { result.0 ≡ answer.outcome }
-    ensures purse { result.1 ≡ answer.purse }
+fn purse_of<P>(answer: Answer<P>) -> P
+    ensures purse { result ≡ answer.purse }
 {
-    let (_, outcome, _, purse) = answer.into_parts();
-    (outcome, purse)
+    let (_, _, _, purse) = answer.into_parts();
+    purse
 }

@@ -6,19 +6,17 @@ use crate::call::Call;
 use crate::engine::Engine;
 use std::alloc::Global;
 use tpcc_money::NoMemory;
-use tpcc_terminal::{Screen, refusal_screen, reply_screen};
+use tpcc_terminal::Screen;
 
 #[tactic(auto, using(crate::proofs::Turns::shows_check, crate::proofs::Turns::shows_results))]
 /// Serves a call and gives its screen; refused only for want of memory, and then the call was served.
 pub fn answer<E: Engine>(alloc: Global, engine: &mut E, call: Call) -> Result<Screen, NoMemory>
-    ensures shown { IfOk result (λ screen. Shows (E.book engine.old) call screen (E.book engine.new)) }
+    ensures shown { IfOk result
+        (λ screen. Shows (E.book engine.old) call screen (E.book engine.new)) }
     ensures served { HasServed (E.book engine.old) call (E.book engine.new) }
 {
     match call {
-        Call::Ask(request) => match engine.serve(request) {
-            Ok(reply) => reply_screen(alloc, &reply),
-            Err(refusal) => refusal_screen(alloc, refusal),
-        },
+        Call::Ask(request) => engine.serve(alloc, request),
         Call::Check => engine.check(alloc),
         Call::Results => engine.results(alloc),
     }

@@ -30,7 +30,8 @@ pub fn show_script<R: Read, W: Write + Drop>(
     out: W,
 ) -> Result<(W, Result<usize, ScriptFault>), ScriptFault>
     ensures shown { (bytes : List ℕ) → R.remaining input.old ≡ Some bytes
-        → IfOk result (λ r. HasShown (opened_book opening.now) (script_of bytes) parts.now (W.contents out) (W.contents r.0) r.1) }
+        → IfOk result (λ r. HasShown (opened_book opening.now) (script_of bytes) parts.now
+        (W.contents out) (W.contents r.0) r.1) }
 {
     show_named::<Brand, R, W>(alloc, input, opening, parts, out, Blanks::new())
 }
@@ -47,7 +48,8 @@ fn show_named<N: Naming, R: Read, W: Write + Drop>(
     requires entries { blanks.entries.name ≡ N.entries }
     requires cents { blanks.cents.name ≡ N.cents }
     ensures shown { (bytes : List ℕ) → R.remaining input.old ≡ Some bytes
-        → IfOk result (λ r. HasShown (opened_book opening.now) (script_of bytes) parts.now (W.contents out) (W.contents r.0) r.1) }
+        → IfOk result (λ r. HasShown (opened_book opening.now) (script_of bytes) parts.now
+        (W.contents out) (W.contents r.0) r.1) }
 {
     match Session::<N>::start(alloc, opening, blanks) {
         Ok(mut session) => show_session(alloc, &mut session, input, parts, out),
@@ -64,7 +66,8 @@ fn show_session<N: Naming, R: Read, W: Write + Drop>(
     out: W,
 ) -> Result<(W, Result<usize, ScriptFault>), ScriptFault>
     ensures shown { (bytes : List ℕ) → R.remaining input.old ≡ Some bytes
-        → IfOk result (λ r. HasShown (seen session.old) (script_of bytes) parts.now (W.contents out) (W.contents r.0) r.1) }
+        → IfOk result (λ r. HasShown (seen session.old) (script_of bytes) parts.now
+        (W.contents out) (W.contents r.0) r.1) }
 {
     let mut screens = Vec::new(alloc);
     let ended = serve_session(alloc, session, input, &mut screens, &mut Watch::new());

@@ -1,7 +1,7 @@
 //! Calls of a reader and a writer that are made again where they were interrupted.
-ghost use Rattle.std.specs.Prelude.{◌≡◌, ◌<◌, ℕ, List, Some, slice_get, drop, length, true, IfOk, IfErr, OnErr};
+ghost use Rattle.std.specs.Prelude.{◌≡◌, ◌<◌, ℕ, List, Some, slice_get, drop, length, true, IfOk, IfErr, OnErr, OnOk};
 ghost use Rattle.std.specs.Io.KnownBytes.{Keeps};
-ghost use Rattle.tpcc_script.specs.Attempts.{HasRead, HasWritten};
+ghost use Rattle.tpcc_script.specs.Attempts.{HasFlushed, HasRead, HasWritten, IsNoWorse};
 
 use crate::fault::ScriptFault;
 use std::io::{Error, ErrorKind, Read, Write};
@@ -39,7 +39,8 @@ impl Watch {
 
     // Whether a call that ended so is made again.
     fn is_retried(&mut self, error: &Error) -> bool
-        ensures { result ≡ true → self.new.retries < self.old.retries }
+        ensures less { result ≡ true → self.new.retries < self.old.retries }
+        ensures same { IsNoWorse self.old self.new }
     {
         if error.kind() != ErrorKind::Interrupted || self.retries == 0 {
             return false;
@@ -54,8 +55,10 @@ pub fn try_byte<R: Read>(
     input: &mut R,
     watch: &mut Watch,
 ) -> Result<Attempt<Option<u8>>, ScriptFault>
-    ensures read { IfOk result (HasRead watch.old watch.new (R.remaining input.old) (R.remaining input.new)) }
-    ensures gave_up { IfErr result (λ f. (f ≡ ScriptFault.Read) × (watch.new.reader_failed ≡ true)) }
+    ensures read { IfOk result
+        (HasRead watch.old watch.new (R.remaining input.old) (R.remaining input.new)) }
+    ensures gave_up { IfErr result
+        (λ f. (f ≡ ScriptFault.Read) × (watch.new.reader_failed ≡ true)) }
 {
     let mut buf = [0u8];
     match input.read(&mut buf) {
@@ -79,9 +82,12 @@ pub fn try_write<W: Write>(
     bytes: &[u8],
 ) -> Result<Attempt<usize>, ScriptFault>
     requires some { 0 < length bytes.now }
-    ensures written { IfOk result (HasWritten watch.old watch.new (W.contents out.old) (W.contents out.new) bytes.now) }
+    ensures written { IfOk result
+        (HasWritten watch.old watch.new (W.contents out.old) (W.contents out.new) bytes.now) }
     ensures none { OnErr result (Keeps (W.contents out.old) (W.contents out.new)) }
-    ensures gave_up { IfErr result (λ f. (f ≡ ScriptFault.Write) × (watch.new.writer_failed ≡ true)) }
+    ensures same { OnOk result (IsNoWorse watch.old watch.new) }
+    ensures gave_up { IfErr result
+        (λ f. (f ≡ ScriptFault.Write) × (watch.new.writer_failed ≡ true)) }
 {
     match out.write(bytes) {
         Ok(count) if count > 0 => {
@@ -93,4 +99,25 @@ pub fn try_write<W: Write>(
     }
     watch.writer_failed = true;
     Err(ScriptFault::Write)
+}
+
+/// Flushes the writer. Write where it is given up.
+pub fn try_flush<W: Write>(out: &mut W, watch: &mut Watch) -> Result<Attempt<()>, ScriptFault>
+    ensures flushed { IfOk result (HasFlushed watch.old watch.new) }
+    ensures kept { Keeps (W.contents out.old) (W.contents out.new) }
+    ensures same { OnOk result (IsNoWorse watch.old watch.new) }
+    ensures gave_up { IfErr result
+        (λ f. (f ≡ ScriptFault.Write) × (watch.new.writer_failed ≡ true)) }
+{
+    match out.flush() {
+        Ok(()) => {
+            watch.retries = MOST_RETRIES;
+            Ok(Attempt::Done(()))
+        }
+        Err(error) if watch.is_retried(&error) => Ok(Attempt::Again),
+        Err(_) => {
+            watch.writer_failed = true;
+            Err(ScriptFault::Write)
+        }
+    }
 }

@@ -21,7 +21,8 @@ fn place_of(bytes: &[u8], divider: u8) -> Option<usize>
 #[tactic(auto, using(crate::proofs::Parting::one_part))]
 /// The first part, and what stands behind its divider.
 fn cut(bytes: &[u8], divider: u8) -> Option<(&[u8], &[u8])>
-    ensures some { IfSome result (λ p. parts_of divider bytes.now ≡ p.0.now ∷ parts_of divider p.1.now) }
+    ensures some { IfSome result
+        (λ p. parts_of divider bytes.now ≡ p.0.now ∷ parts_of divider p.1.now) }
     ensures less { IfSome result (λ p. length p.1.now < length bytes.now) }
     ensures none { IfNone result (parts_of divider bytes.now ≡ bytes.now ∷ []) }
 {
