@@ -13,7 +13,7 @@ use std::process::ExitCode;
 use std::sync::Wait;
 use std::thread::Threads;
 use std::time::Clock;
-use tpcc_audit::{DumpFault, Totals, dump};
+use tpcc_audit::{DumpFault, dump};
 use tpcc_book::{Register, Turned};
 use tpcc_population::{Opening, fill};
 use tpcc_program::{
@@ -36,11 +36,11 @@ fn script<R: Print + Input + Eprint + Clock>(
     timed: bool,
 ) -> Result<(), ProgramFault> {
     let timing = Timing::begin(rt);
-    let mut input = timing.opened_by(rt, rt.reader());
+    let mut input = timing.time_reader(rt, rt.reader());
     let ended = match parts {
         [] | [Part::Screens] => run_script(alloc, &mut input, &mut io::writer(rt), opening),
         _ => {
-            let out = timing.served_by(rt, io::writer(rt));
+            let out = timing.time_writer(rt, io::writer(rt));
             match show_script(alloc, &mut input, opening, parts, out) {
                 Ok((_, ended)) => ended,
                 Err(fault) => Err(fault),
@@ -84,7 +84,7 @@ fn words<R: Env + AllocGlobal>(rt: &R, alloc: Global) -> Result<Vec<String>, Pro
     }
 }
 
-fn asked<R: Env + AllocGlobal>(rt: &R, alloc: Global) -> Result<Asked, ProgramFault>
+fn read_asked<R: Env + AllocGlobal>(rt: &R, alloc: Global) -> Result<Asked, ProgramFault>
     ensures plan { IfOk result (λ asked. HasPlan asked.task) }
 {
     read_words(alloc, words(rt, alloc)?.as_slice())
@@ -116,13 +116,8 @@ fn report_plan<
 }
 
 // A report that is not asked for on standard output. One that can't be written is passed over.
-fn tell_report<R: Eprint>(rt: &R, parts: &[Part], totals: &Totals) {
+fn tell_report<R: Eprint>(rt: &R, parts: &[Part], report: &Report) {
     if !parts.contains(&Part::Report) {
-        let report = Report {
-            entries: totals.entries,
-            paid: totals.paid,
-            rise: totals.rise,
-        };
         let _ = eprint!(rt; "{report}");
     }
 }
@@ -144,8 +139,8 @@ fn show_plan<
     requires make { F.IsAlwaysCallable make }
 {
     match run_shown(rt, alloc, opening, plan, parts, io::writer(rt), make) {
-        Ok((_, totals)) => {
-            tell_report(rt, parts, &totals);
+        Ok((_, report)) => {
+            tell_report(rt, parts, &report);
             Ok(())
         }
         Err(fault) => Err(ProgramFault::Run(fault)),
@@ -230,7 +225,7 @@ fn run_timed<
     } else {
         parts
     };
-    let out = timing.served_by(rt, io::writer(rt));
+    let out = timing.time_writer(rt, io::writer(rt));
     let ended = run_shown(
         rt,
         alloc,
@@ -244,9 +239,9 @@ fn run_timed<
         },
     );
     match ended {
-        Ok((_, totals)) => {
-            tell_report(rt, parts, &totals);
-            let _ = rt.eprint(timing.times(rt, totals.entries));
+        Ok((_, report)) => {
+            tell_report(rt, parts, &report);
+            let _ = rt.eprint(timing.times(rt, report.entries));
             Ok(())
         }
         Err(fault) => Err(ProgramFault::Run(fault)),
@@ -286,7 +281,7 @@ fn run<
 >(rt: &R, alloc: Global, watched: bool, make: F) -> Result<(), ProgramFault>
     requires make { F.IsAlwaysCallable make }
 {
-    let asked = asked(rt, alloc)?;
+    let asked = read_asked(rt, alloc)?;
     let opening = asked.opening()?;
     let parts = asked.shows.as_slice();
     match asked.task {

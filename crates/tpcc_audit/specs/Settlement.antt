@@ -5,8 +5,8 @@ use Rattle.tpcc_book.specs.Past.{Past, rise_of}
 use Rattle.tpcc_book.specs.Seats.{Seated}
 use Rattle.tpcc_book.specs.Closing.{IsLeft, IsGathered}
 use Rattle.tpcc_terminal.specs.declared.receipts.Receipt.{Receipt}
+use Rattle.tpcc_terminal.specs.declared.report.Report.{Report}
 use Rattle.tpcc_terminal.specs.Receipts.{Stands, AllStand}
-use Rattle.tpcc_audit.specs.declared.settlement.Totals.{Totals}
 
 -- a receipt stands in the front of one of these purses
 pub record IsSeen (purses : List Seated) (receipt : Receipt) : Type 0 where
@@ -20,10 +20,10 @@ AllSeen purses receipts = All (IsSeen purses) receipts
 
 -- all purses are there: their entries are the journal's, what they paid is the rise of W_YTD, and each
 -- receipt is the journal's entry at its place
-pub record IsSettled (start : Opening) (purses : List Seated) (receipts : List Receipt) (book : Past) (totals : Totals) : Type 0 where
-  pub gathered : IsGathered start purses book totals.entries totals.paid
-  pub rise_is : totals.rise ≡ rise_of book
-  pub equal : totals.paid ≡ totals.rise
+pub record IsSettled (start : Opening) (purses : List Seated) (receipts : List Receipt) (book : Past) (report : Report) : Type 0 where
+  pub gathered : IsGathered start purses book report.entries report.paid
+  pub rise_is : report.rise ≡ rise_of book
+  pub equal : report.paid ≡ report.rise
   pub stand : AllStand book.entries receipts
 
 -- a purse is missing: each receipt is the journal's entry at its place all the same

@@ -30,7 +30,8 @@ pub fn dump<W: Write + Drop>(
     table: Table,
     out: W,
 ) -> Result<W, DumpFault>
-    ensures written { IfOk result (λ w. Appends (W.contents out) (W.contents w) (dump_text tables.now.rows table)) }
+    ensures written { IfOk result
+        (λ w. Appends (W.contents out) (W.contents w) (dump_text tables.now.rows table)) }
 {
     let mut writer = start(out);
     let mut fields = Fields::new(alloc);
@@ -45,8 +46,10 @@ fn put_columns<W: Write + Drop>(
     table: Table,
 ) -> Result<(), DumpFault>
     requires { fields.old ≡ [] }
-    ensures { OnOk result ((start : Option (List ℕ)) (text : List ℕ) → HasTaken W.contents start text writer.old
-        → HasTaken W.contents start (text ++ row_text default_writer (columns.columns table)) writer.new) }
+    ensures { OnOk result
+        ((start : Option (List ℕ)) (text : List ℕ) → HasTaken W.contents start text writer.old
+        → HasTaken W.contents start (text ++ row_text default_writer (columns.columns table))
+        writer.new) }
 {
     fields.put_names(columns(table))?;
     put(writer, fields)
@@ -58,8 +61,10 @@ fn put_rows<W: Write + Drop>(
     tables: &Tables,
     table: Table,
 ) -> Result<(), DumpFault>
-    ensures { OnOk result ((start : Option (List ℕ)) (text : List ℕ) → HasTaken W.contents start text writer.old
-        → HasTaken W.contents start (text ++ records_text (map record_of (rows_of tables.now.rows table))) writer.new) }
+    ensures { OnOk result
+        ((start : Option (List ℕ)) (text : List ℕ) → HasTaken W.contents start text writer.old
+        → HasTaken W.contents start
+        (text ++ records_text (map record_of (rows_of tables.now.rows table))) writer.new) }
 {
     for position in 0..tables.count(table) {
         if let Some(row) = tables.row(table, position) {

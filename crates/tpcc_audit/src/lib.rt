@@ -17,4 +17,4 @@ pub use fault::DumpFault;
 pub use laws::dump_is_read_back;
 pub use names::{table_name, table_named};
 pub use reporting::{ReportFault, report};
-pub use settlement::{Totals, Unsettled, settle};
+pub use settlement::{Unsettled, settle};

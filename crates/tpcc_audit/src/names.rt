@@ -32,7 +32,8 @@ fn is_named(table: Table, name: &[u8]) -> bool
 }
 
 fn find_named<'a>(tables: &'a [Table], name: &[u8]) -> Option<&'a Table>
-    ensures first { option_copied result ≡ find (λ t. bytes_eq (columns.table_name t) name.now) tables.now }
+    ensures first { option_copied result
+        ≡ find (λ t. bytes_eq (columns.table_name t) name.now) tables.now }
     ensures named { IfSome result (λ t. columns.table_name t.now ≡ name.now) }
 {
     tables.iter().find(|table| is_named(**table, name))

@@ -17,7 +17,8 @@ pub fn start<W: Write + Drop>(out: W) -> Writer<W>
 
 /// One more record, with as many fields as those before it.
 pub fn put<W: Write + Drop>(writer: &mut Writer<W>, fields: &Fields) -> Result<(), DumpFault>
-    ensures { OnOk result ((start : Option (List ℕ)) (text : List ℕ) → HasTaken W.contents start text writer.old
+    ensures { OnOk result
+        ((start : Option (List ℕ)) (text : List ℕ) → HasTaken W.contents start text writer.old
         → HasTaken W.contents start (text ++ row_text default_writer fields.now) writer.new) }
 {
     match writer.write_byte_record(fields.whole()) {
@@ -27,7 +28,8 @@ pub fn put<W: Write + Drop>(writer: &mut Writer<W>, fields: &Fields) -> Result<(
 }
 
 pub fn finish<W: Write + Drop>(writer: Writer<W>) -> Result<W, DumpFault>
-    ensures { IfOk result (λ out. (start : Option (List ℕ)) (text : List ℕ) → HasTaken W.contents start text writer
+    ensures { IfOk result
+        (λ out. (start : Option (List ℕ)) (text : List ℕ) → HasTaken W.contents start text writer
         → Appends start (W.contents out) text) }
 {
     match writer.into_inner() {

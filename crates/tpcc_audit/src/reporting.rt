@@ -3,7 +3,6 @@ ghost use Rattle.std.specs.Prelude.{IfOk};
 ghost use Rattle.std.specs.Io.KnownBytes.{Appends};
 ghost use Rattle.tpcc_terminal.specs.Report.{report_text};
 
-use crate::settlement::Totals;
 use std::io::Write;
 use thiserror::Error;
 use tpcc_terminal::Report;
@@ -18,15 +17,11 @@ pub enum ReportFault {
 
 /// Writes the three lines of a report: the entries, what was paid, and the rise of W_YTD. Answers the
 /// writer. Write where the writer fails; it is then let go, and how much of the text it took is unknown.
-pub fn report<W: Write + Drop>(totals: &Totals, out: W) -> Result<W, ReportFault>
-    ensures written { IfOk result (λ w. Appends (W.contents out) (W.contents w) (report_text totals.now.entries totals.now.paid totals.now.rise)) }
+pub fn report<W: Write + Drop>(report: &Report, out: W) -> Result<W, ReportFault>
+    ensures written { IfOk result (λ w. Appends (W.contents out) (W.contents w)
+        (report_text report.now.entries report.now.paid report.now.rise)) }
 {
     let mut out = out;
-    let report = Report {
-        entries: totals.entries,
-        paid: totals.paid,
-        rise: totals.rise,
-    };
     match write!(out, "{report}") {
         Ok(()) => Ok(out),
         Err(_) => Err(ReportFault::Write),

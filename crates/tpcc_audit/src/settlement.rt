@@ -6,20 +6,8 @@ ghost use Rattle.tpcc_audit.specs.Settlement.{AllSeen, IsSettled, IsUnsettled};
 
 use thiserror::Error;
 use tpcc_book::{Book, Naming, SeatedPurse, Seating, Turns};
-use tpcc_money::Cents;
-use tpcc_terminal::Receipt;
 use tpcc_terminal::laws::receipts_stay;
-
-/// What a book and all its purses add up to.
-#[derive(Clone, Copy, Debug, PartialEq, Eq)]
-pub struct Totals {
-    /// How many entries the purses made, which is the length of the journal.
-    pub entries: u64,
-    /// What the purses paid, in cents.
-    pub paid: Cents,
-    /// By how much the sum of W_YTD over all warehouses rose since the opening, in cents (3.3.2.1).
-    pub rise: Cents,
-}
+use tpcc_terminal::{Receipt, Report};
 
 /// Why a book was not settled.
 #[derive(Clone, Copy, Debug, PartialEq, Eq, Error)]
@@ -40,7 +28,7 @@ pub fn settle<N: Naming, T: Seating>(
     turns: Turns<N, T>,
     purses: Vec<SeatedPurse<N, T>>,
     receipts: &[Receipt],
-) -> Result<(Book<N>, Totals), (Option<Book<N>>, Unsettled)>
+) -> Result<(Book<N>, Report), (Option<Book<N>>, Unsettled)>
     requires receipts { AllSeen purses.items receipts.now }
     ensures exactly { IsOk result ↔ (rooms_of (purses_of purses.items) ≡ 10001) }
     ensures settled { IfOk result (λ r. IsSettled turns purses.items receipts.now r.0 r.1) }
@@ -51,12 +39,12 @@ pub fn settle<N: Naming, T: Seating>(
     match turns.gather(purses) {
         Ok((book, entries, paid)) => {
             // The purses tell what was paid and the rows tell the rise: all shares are here, so they are equal.
-            let totals = Totals {
+            let report = Report {
                 entries,
                 paid,
                 rise: book.rise(),
             };
-            Ok((book, totals))
+            Ok((book, report))
         }
         Err(book) => Err((book, Unsettled::Missing)),
     }

@@ -128,7 +128,7 @@ impl Asked {
 
 // The least and the greatest value of a number, and what help says of it. Scales are judged by `Scale::new`, the
 // rest is judged again when it is read.
-fn described(name: &str) -> (i64, i64, &'static str) {
+fn describe(name: &str) -> (i64, i64, &'static str) {
     match name {
         "warehouses" => (0, 4_294_967_295, "Warehouses: 1 to 100, else 1"),
         "customers" => (
@@ -160,7 +160,7 @@ fn described(name: &str) -> (i64, i64, &'static str) {
 
 // An option whose value is a number.
 fn number<'a>(alloc: Global, name: &'static str) -> Arg<'a> {
-    let (least, greatest, help) = described(name);
+    let (least, greatest, help) = describe(name);
     Arg::new(alloc, name)
         .long(name)
         .action(ArgAction::Set)

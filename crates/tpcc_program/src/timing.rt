@@ -36,7 +36,7 @@ impl Timing {
     }
 
     /// A reader whose first call says that the opening stands.
-    pub fn opened_by<'a, T: Clock, R: Read>(&'a self, rt: &'a T, input: R) -> Opened<'a, T, R> {
+    pub fn time_reader<'a, T: Clock, R: Read>(&'a self, rt: &'a T, input: R) -> Opened<'a, T, R> {
         Opened {
             input,
             rt,
@@ -45,7 +45,7 @@ impl Timing {
     }
 
     /// A writer whose first call says that the requests are served.
-    pub fn served_by<'a, T: Clock, W: Write>(&'a self, rt: &'a T, out: W) -> Served<'a, T, W> {
+    pub fn time_writer<'a, T: Clock, W: Write>(&'a self, rt: &'a T, out: W) -> Served<'a, T, W> {
         Served {
             out,
             rt,

@@ -1,2 +1,3 @@
+pub mod Asked
 mod Kept
-mod Reported
+pub mod Reported

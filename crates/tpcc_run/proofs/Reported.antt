@@ -1,22 +1,39 @@
 -- The totals of a settled book.
-use Rattle.std.proofs.Common.{List}
+use Rattle.std.proofs.Common.{◌≡◌, ℕ, List, Option}
+use Rattle.std.specs.Io.KnownBytes.{Appends}
 use Rattle.tpcc_population.specs.declared.opening.Opening.{Opening}
 use Rattle.tpcc_book.specs.Past.{Past}
-use Rattle.tpcc_book.specs.Seats.{Seated}
+use Rattle.tpcc_book.specs.Serve.{rooms_of}
+use Rattle.tpcc_book.specs.Seats.{Seated, purses_of}
 use Rattle.tpcc_terminal.specs.declared.receipts.Receipt.{Receipt}
-use Rattle.tpcc_audit.specs.declared.settlement.Totals.{Totals}
+use Rattle.tpcc_terminal.specs.declared.report.Report.{Report}
 use Rattle.tpcc_audit.specs.Settlement.{IsSettled}
-use Rattle.tpcc_run.specs.Outcome.{HasTotals}
+use Rattle.tpcc_show.specs.Shown.{book_report}
+use Rattle.tpcc_run.specs.Outcome.{HasReported, HasTotals}
 
 -- a settled book has its totals
-pub totals_of : (opening : Opening) (purses : List Seated) (receipts : List Receipt) (book : Past) (totals : Totals)
-    → IsSettled opening purses receipts book totals → HasTotals opening book totals
-totals_of opening purses receipts book totals settled =
+pub totals_of : (opening : Opening) (purses : List Seated) (receipts : List Receipt) (book : Past) (report : Report)
+    → rooms_of (purses_of purses) ≡ 10001 → IsSettled opening purses receipts book report → HasTotals opening book report
+totals_of opening purses receipts book report all settled =
     let g = settled.gathered in
     record {
       opening_is = g.left.opening;
       kept = g.kept;
+      purses = purses_of purses;
+      all_there = all;
+      entries_made = g.entries_are;
       entries_is = g.entries_counted;
+      paid_by = g.paid_is;
       paid_is = g.paid_rose;
       rise_is = settled.rise_is;
     }
+
+-- the book's report is that of its totals
+pub reported : (opening : Opening) (book : Past) (report : Report) (before after : Option (List ℕ))
+    → HasTotals opening book report → Appends before after (book_report book) → HasReported opening before after
+reported opening book report before after told written = record {
+  book = book;
+  report = report;
+  told = told;
+  written = rw (told.entries_is, told.paid_is, told.rise_is) written;
+}

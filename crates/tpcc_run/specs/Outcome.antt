@@ -3,9 +3,11 @@ use Rattle.std.specs.Prelude.{ℕ, ⊤, ◌≡◌, ◌⊎◌, ◌≤◌, List, �
 use Rattle.std.specs.Io.KnownBytes.{Appends}
 use Rattle.tpcc_population.specs.declared.opening.Opening.{Opening}
 use Rattle.tpcc_book.specs.Past.{Past, IsKept, rise_of}
+use Rattle.tpcc_book.specs.Purses.{Held}
+use Rattle.tpcc_book.specs.Serve.{rooms_of, entries_of, paid_of}
 use Rattle.tpcc_terminal.specs.declared.receipts.Receipt.{Receipt}
+use Rattle.tpcc_terminal.specs.declared.report.Report.{Report}
 use Rattle.tpcc_terminal.specs.Report.{report_text}
-use Rattle.tpcc_audit.specs.declared.settlement.Totals.{Totals}
 use Rattle.tpcc_show.specs.declared.parts.Part.{Part}
 use Rattle.tpcc_show.specs.Shown.{shown_text}
 use Rattle.tpcc_run.specs.declared.plan.Plan.{Plan}
@@ -24,25 +26,30 @@ pub record IsPlan (plan : Plan) : Type 0 where
   pub service : IsService plan.service
   pub cards_most : plan.cards ≤ 100000
 
--- a kept book of the opening with its totals: its entries, what its purses paid, and the rise of W_YTD
-pub record HasTotals (opening : Opening) (book : Past) (totals : Totals) : Type 0 where
+-- a kept book of the opening with its totals, and its purses, which are all there: the entries that they made are the book's, and what
+-- they paid is the rise of W_YTD
+pub record HasTotals (opening : Opening) (book : Past) (report : Report) : Type 0 where
   pub opening_is : book.opening ≡ opening
   pub kept : IsKept book
-  pub entries_is : totals.entries ≡ length book.entries
-  pub paid_is : totals.paid ≡ rise_of book
-  pub rise_is : totals.rise ≡ rise_of book
+  pub purses : List Held
+  pub all_there : rooms_of purses ≡ 10001
+  pub entries_made : report.entries ≡ entries_of purses
+  pub entries_is : report.entries ≡ length book.entries
+  pub paid_by : report.paid ≡ paid_of purses
+  pub paid_is : report.paid ≡ rise_of book
+  pub rise_is : report.rise ≡ rise_of book
 
 -- the report of a book of the opening: its entries, and what its purses paid, which is the rise of W_YTD
 pub record HasReported (opening : Opening) (before after : Option (List ℕ)) : Type 0 where
   pub book : Past
-  pub opening_is : book.opening ≡ opening
-  pub kept : IsKept book
-  pub written : Appends before after (report_text (length book.entries) (rise_of book) (rise_of book))
+  pub report : Report
+  pub told : HasTotals opening book report
+  pub written : Appends before after (report_text report.entries report.paid report.rise)
 
 -- these parts of a book of the opening, whose totals these are
-pub record HasShown (opening : Opening) (parts : List Part) (totals : Totals) (before after : Option (List ℕ)) : Type 0 where
+pub record HasShown (opening : Opening) (parts : List Part) (report : Report) (before after : Option (List ℕ)) : Type 0 where
   pub book : Past
-  pub told : HasTotals opening book totals
+  pub told : HasTotals opening book report
   pub written : Appends before after (shown_text book parts)
 
 -- more receipts were added, or none

@@ -1,6 +1,7 @@
 //! One request of a terminal, up to its receipt.
-ghost use Rattle.std.specs.Prelude.{◌≡◌, IfSome};
+ghost use Rattle.std.specs.Prelude.{◌≡◌, ◌++◌, None, IfSome, IsSome};
 ghost use Rattle.tpcc_terminal.specs.Receipts.{AllStand, receipts_of};
+ghost use Rattle.tpcc_run.specs.Asking.{HasAnswered};
 ghost use Rattle.tpcc_run.specs.Outcome.{KeepsSome};
 
 use crate::fault::RunFault;
@@ -32,6 +33,10 @@ pub(crate) fn ask_once<'s, N: Naming, T: Seating, C: Turning, R: Wait>(
 ) -> Asked<'s, N, T, C>
     requires receipts { AllStand operator.purse.front operator.terminal.receipts }
     ensures receipts { IfSome result.operator (λ s. AllStand s.purse.front s.terminal.receipts) }
+    ensures back { result.fault ≡ None → IsSome result.operator }
+    ensures answered { result.fault ≡ None → IfSome result.operator (λ s. HasAnswered request
+        (record { purse = operator.entry.purse; station = operator.entry.terminal })
+        (record { purse = s.purse; station = s.terminal })) }
 {
     let Operator {
         way,
@@ -61,12 +66,13 @@ pub(crate) fn ask_once<'s, N: Naming, T: Seating, C: Turning, R: Wait>(
     }
 }
 
-/// Nothing was asked, since memory was refused.
-pub(crate) fn stopped<'s, N: Naming, T: Seating, C>(
+/// Asks nothing, since memory was refused.
+pub(crate) fn ask_nothing<'s, N: Naming, T: Seating, C>(
     operator: Operator<'s, N, T, C>,
 ) -> Asked<'s, N, T, C>
     requires receipts { AllStand operator.purse.front operator.terminal.receipts }
     ensures receipts { IfSome result.operator (λ s. AllStand s.purse.front s.terminal.receipts) }
+    ensures fault { IsSome result.fault }
 {
     Asked {
         operator: Some(operator),
@@ -80,7 +86,11 @@ fn note<N: Naming, T: Seating>(
     terminal: &mut Terminal,
     answer: &JobAnswer<N, T>,
 ) -> Option<RunFault>
-    ensures kept { KeepsSome terminal.old.receipts (receipts_of (λ p. p.purse) answer.now) terminal.new.receipts }
+    ensures kept { KeepsSome terminal.old.receipts
+        (receipts_of (λ p. p.purse) answer.now) terminal.new.receipts }
+    ensures noted { result ≡ None → terminal.new ≡ record terminal.old {
+      receipts = terminal.old.receipts ++ receipts_of (λ p. p.purse) answer.now;
+    } }
 {
     match terminal.note(answer) {
         Ok(()) => None,

@@ -30,7 +30,7 @@ impl<N: Naming, T: Seating> Gathered<N, T> {
     }
 
     // Of a run whose first growth was refused.
-    pub(crate) fn refused(alloc: Global) -> Gathered<N, T>
+    pub(crate) fn without_memory(alloc: Global) -> Gathered<N, T>
         ensures receipts { result.receipts.items ≡ [] }
     {
         Gathered {

@@ -13,14 +13,15 @@ use std::io::Write;
 use std::marker::Brand;
 use std::sync::Wait;
 use std::thread::Threads;
-use tpcc_audit::{DumpFault, Totals, settle};
+use tpcc_audit::{DumpFault, settle};
 use tpcc_book::{Blanks, Book, Naming, SeatedPurse, Seating, Turns, UnnamedTurns};
 use tpcc_mailbox::Mailboxes;
 use tpcc_population::{Opening, Scale};
 use tpcc_server::{Job, JobAnswer, Turning};
 use tpcc_show::{Part, show};
-use tpcc_terminal::Receipt;
+use tpcc_terminal::{Receipt, Report};
 
+#[tactic(auto, using(crate::proofs::Reported::reported))]
 /// Runs terminals, a delivery runner and the plan's servers on the book of an opening, each in a thread of its own;
 /// `make` gives the call of each request. Where the plan has no servers each thread makes its own turns. Once all
 /// are joined it settles the book with the purses and writes the report: the entries, and what was paid and the
@@ -60,17 +61,17 @@ pub fn run_shown<
     parts: &[Part],
     out: W,
     make: F,
-) -> Result<(W, Totals), RunFault>
+) -> Result<(W, Report), RunFault>
     requires plan { IsPlan plan.now }
     requires make { F.IsAlwaysCallable make }
     ensures shown { IfOk result (λ r.
         HasShown opening.now parts.now r.1 (W.contents out) (W.contents r.0)) }
 {
-    by_name::<Brand, W, C, F, R>(rt, alloc, opening, plan, parts, out, &make, Blanks::new())
+    run_named::<Brand, W, C, F, R>(rt, alloc, opening, plan, parts, out, &make, Blanks::new())
 }
 
 // The same with a name for the book.
-fn by_name<
+fn run_named<
     N: Naming + Send + Sync,
     W: Write + Drop,
     C: Turning + Send,
@@ -85,7 +86,7 @@ fn by_name<
     out: W,
     make: &F,
     blanks: Blanks,
-) -> Result<(W, Totals), RunFault>
+) -> Result<(W, Report), RunFault>
     requires plan { IsPlan plan.now }
     requires make { F.IsAlwaysCallable make.now }
     requires entries { blanks.entries.name ≡ N.entries }
@@ -93,8 +94,8 @@ fn by_name<
     ensures shown { IfOk result (λ r.
         HasShown opening.now parts.now r.1 (W.contents out) (W.contents r.0)) }
 {
-    let settled = settled_book::<N, C, F, R>(rt, alloc, opening, plan, make, blanks)?;
-    let shown = shown(alloc, &settled, parts, out, opening);
+    let settled = settle_book::<N, C, F, R>(rt, alloc, opening, plan, make, blanks)?;
+    let shown = show_settled(alloc, &settled, parts, out, opening);
     // Let go by a call, which keeps the book's parts out of this function's proof.
     drop(settled);
     shown
@@ -104,10 +105,10 @@ fn by_name<
 #[derive(Drop)]
 struct SettledBook<N: Naming> {
     book: Book<N>,
-    totals: Totals,
+    report: Report,
 }
 
-fn settled_book<
+fn settle_book<
     N: Naming + Send + Sync,
     C: Turning + Send,
     F: Fn(Global) -> Result<C, AllocError> + Sync,
@@ -124,17 +125,17 @@ fn settled_book<
     requires make { F.IsAlwaysCallable make.now }
     requires entries { blanks.entries.name ≡ N.entries }
     requires cents { blanks.cents.name ≡ N.cents }
-    ensures settled { IfOk result (λ s. HasTotals opening.now s.book s.totals) }
+    ensures settled { IfOk result (λ s. HasTotals opening.now s.book s.report) }
 {
     let scale = scale_of(opening);
     let Ok(turns) = UnnamedTurns::<N>::start(alloc, opening, blanks) else {
         return Err(RunFault::NoMemory);
     };
-    by_seats::<N, Brand, C, F, R>(rt, alloc, scale, plan, make, turns)
+    run_seated::<N, Brand, C, F, R>(rt, alloc, scale, plan, make, turns)
 }
 
 // What the run comes to, with a name for the seats.
-fn by_seats<
+fn run_seated<
     N: Naming + Send + Sync,
     T: Seating + Send + Sync,
     C: Turning + Send,
@@ -151,15 +152,15 @@ fn by_seats<
     requires plan { IsPlan plan.now }
     requires make { F.IsAlwaysCallable make.now }
     requires name { turns.table ≡ T.table }
-    ensures settled { IfOk result (λ s. HasTotals turns.opening s.book s.totals) }
+    ensures settled { IfOk result (λ s. HasTotals turns.opening s.book s.report) }
 {
     let (turns, first) = turns.named::<T>();
-    let all = gathered(rt, alloc, scale, plan, make, &turns, first);
-    settled(turns, all)
+    let all = gather(rt, alloc, scale, plan, make, &turns, first);
+    end_run(turns, all)
 }
 
 // The purses and receipts that come back.
-fn gathered<
+fn gather<
     N: Naming + Send + Sync,
     T: Seating + Send + Sync,
     C: Turning + Send,
@@ -187,7 +188,7 @@ fn gathered<
         Ok((mailboxes, idles, serving)) => serve_by_servers(
             rt, alloc, &mailboxes, turns, idles, serving, first, make, scale, plan, count, retire,
         ),
-        Err(_) => Gathered::refused(alloc),
+        Err(_) => Gathered::without_memory(alloc),
     }
 }
 
@@ -203,12 +204,12 @@ fn servers_of(service: Service) -> Option<(u32, u32)>
 }
 
 // The totals of a run that nothing stopped.
-fn settled<N: Naming, T: Seating>(
+fn end_run<N: Naming, T: Seating>(
     turns: Turns<N, T>,
     all: Gathered<N, T>,
 ) -> Result<SettledBook<N>, RunFault>
     requires seen { AllSeen all.purses.items all.receipts.items }
-    ensures settled { IfOk result (λ s. HasTotals turns s.book s.totals) }
+    ensures settled { IfOk result (λ s. HasTotals turns s.book s.report) }
 {
     let Gathered {
         purses,
@@ -227,30 +228,30 @@ fn totals_of<N: Naming, T: Seating>(
     receipts: &[Receipt],
 ) -> Result<SettledBook<N>, RunFault>
     requires seen { AllSeen purses.items receipts.now }
-    ensures settled { IfOk result (λ s. HasTotals turns s.book s.totals) }
+    ensures settled { IfOk result (λ s. HasTotals turns s.book s.report) }
 {
     match settle(turns, purses, receipts) {
-        Ok((book, totals)) => Ok(SettledBook { book, totals }),
+        Ok((book, report)) => Ok(SettledBook { book, report }),
         Err(_left) => Err(RunFault::Missing),
     }
 }
 
 // Writes parts of a settled book.
-fn shown<N: Naming, W: Write + Drop>(
+fn show_settled<N: Naming, W: Write + Drop>(
     alloc: Global,
     settled: &SettledBook<N>,
     parts: &[Part],
     out: W,
     opening: &Opening,
-) -> Result<(W, Totals), RunFault>
-    requires totals { HasTotals opening.now settled.now.book settled.now.totals }
+) -> Result<(W, Report), RunFault>
+    requires totals { HasTotals opening.now settled.now.book settled.now.report }
     ensures shown { IfOk result (λ r.
         HasShown opening.now parts.now r.1 (W.contents out) (W.contents r.0)) }
 {
     let _ = opening;
-    let totals = settled.totals;
+    let report = settled.report;
     match show(alloc, &settled.book, parts, out) {
-        Ok(out) => Ok((out, totals)),
+        Ok(out) => Ok((out, report)),
         Err(DumpFault::Write) => Err(RunFault::Write),
         Err(DumpFault::NoMemory) => Err(RunFault::NoMemory),
     }

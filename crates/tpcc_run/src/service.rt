@@ -103,7 +103,7 @@ pub(crate) fn serve_by_servers<
     ensures seen { AllSeen result.purses.items result.receipts.items }
 {
     let Ok(ways) = by_mailboxes(alloc, mailboxes, idles) else {
-        return Gathered::refused(alloc);
+        return Gathered::without_memory(alloc);
     };
     thread::scope(
         thread::scope_env(),
@@ -145,7 +145,7 @@ pub(crate) fn serve_directly<
     ensures seen { AllSeen result.purses.items result.receipts.items }
 {
     let Ok(ways) = by_turns::<N, T, C>(alloc, turns, plan.terminals as usize + 1) else {
-        return Gathered::refused(alloc);
+        return Gathered::without_memory(alloc);
     };
     thread::scope(
         thread::scope_env(),

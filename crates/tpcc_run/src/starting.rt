@@ -1,10 +1,12 @@
 //! Starting the threads of terminals.
 ghost use Rattle.std.specs.Prelude.{◌≡◌, ◌≤◌};
 ghost use Rattle.tpcc_terminal.specs.Receipts.{AllStand};
+ghost use Rattle.tpcc_terminal.specs.Terminals.{IsStarted};
+ghost use Rattle.tpcc_run.specs.Asking.{HasComeBack};
 
 use crate::operator::Operator;
 use crate::plan::Plan;
-use crate::promises::{ComesBack, TerminalHandle};
+use crate::promises::{Back, ComesBack, TerminalHandle};
 use crate::terminals::{Role, ask_all};
 use crate::way::Way;
 use std::alloc::{AllocError, Global};
@@ -14,6 +16,32 @@ use tpcc_book::{Naming, SeatedPurse, Seating, Turns};
 use tpcc_population::Scale;
 use tpcc_server::Turning;
 use tpcc_terminal::Terminal;
+
+// What a terminal's thread does.
+fn work<'s, N: Naming, T: Seating, C: Turning, F: Fn(Global) -> Result<C, AllocError>, R: Wait>(
+    rt: &R,
+    alloc: Global,
+    operator: Operator<'s, N, T, C>,
+    role: Role,
+    make: &F,
+    scale: Scale,
+    plan: &Plan,
+) -> Back<'s, N, T, C>
+    requires receipts { AllStand operator.purse.front operator.terminal.receipts }
+    requires started { IsStarted operator.purse.purse.terminal scale plan.now.seed
+        operator.terminal }
+    requires make { F.IsAlwaysCallable make.now }
+    ensures kept { HasComeBack (record {
+      role = role;
+      scale = scale;
+      seed = plan.now.seed;
+      moment = plan.now.moment;
+      cards = plan.now.cards;
+    }) result }
+{
+    let _ = scale;
+    ask_all(rt, alloc, operator, role, make, plan.moment, plan.cards)
+}
 
 // Starts the thread of one terminal; None where it can't be made.
 fn start_thread<
@@ -31,14 +59,24 @@ fn start_thread<
     operator: Operator<'s, N, T, C>,
     role: Role,
     make: &'s F,
+    scale: Scale,
     plan: &'s Plan,
 ) -> Option<TerminalHandle<'s, N, T, C>>
     requires receipts { AllStand operator.purse.front operator.terminal.receipts }
+    requires started { IsStarted operator.purse.purse.terminal scale plan.now.seed
+        operator.terminal }
     requires make { F.IsAlwaysCallable make.now }
 {
+    let promise = ComesBack {
+        role,
+        scale,
+        seed: plan.seed,
+        moment: plan.moment,
+        cards: plan.cards,
+    };
     scope
-        .spawn_with(ComesBack, move || {
-            ask_all(rt, alloc, operator, role, make, plan.moment, plan.cards)
+        .spawn_with(promise, move || {
+            work(rt, alloc, operator, role, make, scale, plan)
         })
         .ok()
 }
@@ -75,7 +113,7 @@ pub(crate) fn start_terminal<
         purse,
         terminal,
     };
-    start_thread(scope, rt, alloc, operator, role, make, plan)
+    start_thread(scope, rt, alloc, operator, role, make, scale, plan)
 }
 
 /// Starts the plan's terminals, as many as can be made.

@@ -1,8 +1,10 @@
 //! What a terminal's thread does.
-ghost use Rattle.std.specs.Prelude.{◌≡◌, IfSome};
+ghost use Rattle.std.specs.Prelude.{◌≡◌, IfErr, IfOk, IfSome, IsSome, None, Some, false, true};
 ghost use Rattle.tpcc_terminal.specs.Receipts.{AllStand};
+ghost use Rattle.tpcc_run.specs.Asking.{HasAskedAll, HasAskedNext, IsEndless, IsNext};
 
-use crate::asking::{Asked, ask_once, stopped};
+use crate::asking::{Asked, ask_nothing, ask_once};
+use crate::fault::RunFault;
 use crate::operator::Operator;
 use crate::promises::Back;
 use std::alloc::{AllocError, Global};
@@ -25,7 +27,14 @@ pub(crate) enum Role {
 }
 
 impl Role {
-    fn goes_on(self, delivered: bool) -> bool {
+    // Whether more is asked behind an answer.
+    fn goes_on(self, fault: Option<RunFault>, delivered: bool) -> bool
+        ensures on { result ≡ true → fault ≡ None }
+        ensures ends { IsEndless self → result ≡ false → IsSome fault }
+    {
+        if fault.is_some() {
+            return false;
+        }
         match self {
             Role::Cards | Role::Deliveries => true,
             Role::Rest => delivered,
@@ -36,6 +45,7 @@ impl Role {
 // The next request.
 fn next_request(role: Role, terminal: &mut Terminal, moment: Moment) -> Result<Request, NoMemory>
     ensures receipts { terminal.new.receipts ≡ terminal.old.receipts }
+    ensures next { IfOk result (λ request. IsNext role moment terminal.old request terminal.new) }
 {
     match role {
         Role::Cards => terminal.next(moment),
@@ -62,13 +72,17 @@ pub(crate) fn ask_next<
     requires receipts { AllStand operator.purse.front operator.terminal.receipts }
     requires make { F.IsAlwaysCallable make.now }
     ensures receipts { IfSome result.operator (λ s. AllStand s.purse.front s.terminal.receipts) }
+    ensures back { result.fault ≡ None → IsSome result.operator }
+    ensures asked { result.fault ≡ None → IfSome result.operator (λ s. HasAskedNext role moment
+        (record { purse = operator.entry.purse; station = operator.entry.terminal })
+        (record { purse = s.purse; station = s.terminal })) }
 {
     let mut operator = operator;
     let Ok(call) = make(alloc) else {
-        return stopped(operator);
+        return ask_nothing(operator);
     };
     let Ok(request) = next_request(role, &mut operator.terminal, moment) else {
-        return stopped(operator);
+        return ask_nothing(operator);
     };
     ask_once(rt, operator, request, call)
 }
@@ -94,27 +108,45 @@ pub(crate) fn ask_all<
     requires receipts { AllStand operator.purse.front operator.terminal.receipts }
     requires make { F.IsAlwaysCallable make.now }
     ensures receipts { IfSome result.operator (λ s. AllStand s.purse.front s.terminal.receipts) }
+    ensures back { result.fault ≡ None → IsSome result.operator }
+    ensures asked { result.fault ≡ None → IfSome result.operator (λ s. HasAskedAll role most moment
+        (record { purse = operator.entry.purse; station = operator.entry.terminal })
+        (record { purse = s.purse; station = s.terminal })) }
 {
     let mut operator = operator;
     for _ in 0..most {
-        let Asked {
-            operator: back,
-            delivered,
-            fault,
-        } = ask_next(rt, alloc, operator, role, make, moment);
-        let goes_on = fault.is_none() && role.goes_on(delivered);
-        match back {
-            Some(home) if goes_on => operator = home,
-            other => {
-                return Back {
-                    operator: other,
-                    fault,
-                };
-            }
+        let asked = ask_next(rt, alloc, operator, role, make, moment);
+        match next_operator(role, asked) {
+            Ok(next) => operator = next,
+            Err(back) => return back,
         }
     }
     Back {
         operator: Some(operator),
         fault: None,
+    }
+}
+
+// Who asks the next request; else what the thread gives back.
+fn next_operator<'s, N: Naming, T: Seating, C>(
+    role: Role,
+    asked: Asked<'s, N, T, C>,
+) -> Result<Operator<'s, N, T, C>, Back<'s, N, T, C>>
+    requires back { asked.fault ≡ None → IsSome asked.operator }
+    ensures next { IfOk result (λ s. asked.entry.operator ≡ Some s) }
+    ensures unharmed { IfOk result (λ s. asked.entry.fault ≡ None) }
+    ensures back { IfErr result (λ b. b.operator ≡ asked.entry.operator) }
+    ensures fault { IfErr result (λ b. b.fault ≡ asked.entry.fault) }
+    ensures ends { IfErr result (λ b. IsEndless role → IsSome b.fault) }
+{
+    let Asked {
+        operator,
+        delivered,
+        fault,
+    } = asked;
+    let goes_on = role.goes_on(fault, delivered);
+    match operator {
+        Some(next) if goes_on => Ok(next),
+        operator => Err(Back { operator, fault }),
     }
 }

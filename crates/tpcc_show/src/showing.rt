@@ -12,10 +12,11 @@ use crate::parts::Part;
 use crate::screens::{check_screen, results_screen};
 use std::alloc::Global;
 use std::io::Write;
-use tpcc_audit::{DumpFault, Totals, dump, report};
+use tpcc_audit::{DumpFault, dump, report};
 use tpcc_book::{Book, Naming};
 use tpcc_journal::Journal;
 use tpcc_tables::Tables;
+use tpcc_terminal::Report;
 
 #[tactic(auto, using(crate::proofs::Appending::in_blocks))]
 /// Writes parts of a book, in their order: one part alone as it is, several each under a line `== PART`.
@@ -47,7 +48,8 @@ pub fn show_served<N: Naming, W: Write + Drop>(
     out: W,
 ) -> Result<W, DumpFault>
     ensures written { IfOk result
-        (λ w. Appends (W.contents out) (W.contents w) (served_text screens.now book.now parts.now)) }
+        (λ w. Appends (W.contents out) (W.contents w)
+        (served_text screens.now book.now parts.now)) }
 {
     let blocks = begin(alloc, out)?;
     let blocks = show_parts(alloc, book, Some(screens), parts, blocks)?;
@@ -169,7 +171,7 @@ fn put_report<N: Naming, W: Write + Drop>(book: &Book<N>, out: W) -> Result<W, D
     ensures { IfOk result (λ w. Appends (W.contents out) (W.contents w) (book_report book.now)) }
 {
     let rise = book.rise();
-    let totals = Totals {
+    let totals = Report {
         entries: book.journal().len() as u64,
         paid: rise,
         rise,

@@ -1,4 +1,4 @@
-use Rattle.tpcc_run.proofs.running.settled_book.Given as goal
+use Rattle.tpcc_run.proofs.running.settle_book.Given as goal
 
-abbrev pub ghosts-by_seats : goal.ghosts-by_seats
-ghosts-by_seats g a = record { table = a.turns.table }
+abbrev pub ghosts-run_seated : goal.ghosts-run_seated
+ghosts-run_seated g a = record { table = a.turns.table }

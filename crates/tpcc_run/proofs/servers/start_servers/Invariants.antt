@@ -1,4 +1,4 @@
-use Rattle.std.proofs.Common.{◌≡◌, ◌≤◌, ◌+◌}
+use Rattle.std.proofs.Common.{◌≡◌, ◌+◌}
 use Rattle.tpcc_mailbox.specs.Tokens.{identity, serving_origin}
 use Rattle.tpcc_run.proofs.servers.start_servers.Given as goal
 
