@@ -29,6 +29,7 @@ impl Model for Fields {
 }
 
 impl Fields {
+    /// An empty record.
     pub fn new(alloc: Global) -> Fields
         ensures { result ≡ [] }
     {
@@ -52,6 +53,7 @@ impl Fields {
         self.row.clear();
     }
 
+    /// Adds a field of these bytes.
     pub fn put(&mut self, text: &[u8]) -> Result<(), NoMemory>
         ensures { OnOk result (self.new ≡ self.old ++ text.now ∷ []) }
     {
@@ -64,6 +66,7 @@ impl Fields {
         }
     }
 
+    /// Adds a field for each name.
     pub fn put_names(&mut self, names: &[&str]) -> Result<(), NoMemory>
         ensures { OnOk result (self.new ≡ self.old ++ map (λ name. name.now) names.now) }
     {
@@ -73,12 +76,14 @@ impl Fields {
         Ok(())
     }
 
+    /// Adds a text of a column.
     pub fn put_text<const N: usize>(&mut self, text: &Text<N>) -> Result<(), NoMemory>
         ensures { OnOk result (self.new ≡ self.old ++ text.now ∷ []) }
     {
         self.put(text.bytes())
     }
 
+    /// Adds a field for each text.
     pub fn put_texts(&mut self, texts: &[Text<24>]) -> Result<(), NoMemory>
         ensures { OnOk result (self.new ≡ self.old ++ texts.now) }
     {
@@ -88,6 +93,7 @@ impl Fields {
         Ok(())
     }
 
+    /// Adds the five fields of an address.
     pub fn put_address(&mut self, address: &Address) -> Result<(), NoMemory>
         ensures { OnOk result (self.new ≡ self.old ++ records.address_fields address.now) }
     {
@@ -98,6 +104,7 @@ impl Fields {
         self.put_text(&address.zip)
     }
 
+    /// Adds a number in decimal.
     pub fn put_number(&mut self, number: u32) -> Result<(), NoMemory>
         ensures { OnOk result (self.new ≡ self.old ++ decimal number ∷ []) }
     {

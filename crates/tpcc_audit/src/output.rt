@@ -9,6 +9,7 @@ use crate::fields::Fields;
 use csv::{Writer, WriterBuilder};
 use std::io::Write;
 
+/// A CSV writer over the output.
 pub fn start<W: Write + Drop>(out: W) -> Writer<W>
     ensures { HasTaken W.contents (W.contents out) [] result }
 {
@@ -27,6 +28,7 @@ pub fn put<W: Write + Drop>(writer: &mut Writer<W>, fields: &Fields) -> Result<(
     }
 }
 
+/// Writes what the CSV writer holds, and gives the output back.
 pub fn finish<W: Write + Drop>(writer: Writer<W>) -> Result<W, DumpFault>
     ensures { IfOk result
         (λ out. (start : Option (List ℕ)) (text : List ℕ) → HasTaken W.contents start text writer

@@ -35,8 +35,8 @@ fn judge_status(tables: &Tables, query: &StatusQuery) -> Result<(), Refusal>
     }
 }
 
-#[tactic(auto, unfolding(tpcc_rows::specs::Turn::refusal, crate::specs::Ready::IsReady, crate::specs::Ready::HasRoom))]
 /// Tells the first refusal of the rows, the request and the queue, and makes every growth; changes no row and no ticket.
+#[tactic(auto, unfolding(tpcc_rows::specs::Turn::refusal, crate::specs::Ready::IsReady, crate::specs::Ready::HasRoom))]
 pub(crate) fn prepare(
     tables: &mut Tables,
     queue: &mut Queue,
@@ -85,8 +85,8 @@ fn show_status(tables: &Tables, query: &StatusQuery) -> Reply
     }
 }
 
-#[tactic(auto, unfolding(tpcc_rows::specs::Turn::refusal, tpcc_rows::specs::Turn::state_after, tpcc_rows::specs::Turn::reply_to, crate::specs::Ready::IsReady, crate::specs::Ready::HasRoom))]
 /// Writes a request that was prepared on the same rows and tickets, and gives the reply. Takes no memory.
+#[tactic(auto, unfolding(tpcc_rows::specs::Turn::refusal, tpcc_rows::specs::Turn::state_after, tpcc_rows::specs::Turn::reply_to, crate::specs::Ready::IsReady, crate::specs::Ready::HasRoom))]
 pub(crate) fn finish(
     tables: &mut Tables,
     queue: &mut Queue,

@@ -7,8 +7,8 @@ use tpcc_rows::row::{RowRef, Table};
 use tpcc_rows::rows::WarehouseRow;
 use tpcc_tables::tables::Tables;
 
-#[tactic(auto, unfolding(tpcc_tables::specs::Positions::row_at))]
 /// The WAREHOUSE row at a place, from 0.
+#[tactic(auto, unfolding(tpcc_tables::specs::Positions::row_at))]
 fn warehouse_at(tables: &Tables, position: usize) -> Option<&WarehouseRow>
     ensures { option_copied result ≡ slice_get tables.now.rows.warehouses position }
 {

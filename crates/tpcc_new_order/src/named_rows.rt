@@ -47,8 +47,8 @@ fn has_no_supplies(tables: &Tables, lines: &[Line]) -> bool
     lines.iter().any(|line| has_no_supply(tables, line))
 }
 
-#[tactic(auto, unfolding(crate::specs::Tests::line_tests))]
 /// The first refusal of an order's lines, if there is one.
+#[tactic(auto, unfolding(crate::specs::Tests::line_tests))]
 fn line_refusal(tables: &Tables, lines: &[Line]) -> Option<Refusal>
     ensures { result ≡ first_finding (line_tests tables.now.rows lines.now) }
 {

@@ -63,8 +63,8 @@ fn overruns_after(tables: &Tables, home: u32, lines: &[Line]) -> Overruns
     over
 }
 
-#[tactic(auto, unfolding(crate::specs::Tests::range_tests))]
 /// The first refusal of the number and of the columns, if there is one.
+#[tactic(auto, unfolding(crate::specs::Tests::range_tests))]
 fn first_overrun(number: u32, over: Overruns) -> Option<Refusal>
     ensures { result ≡ first_finding (range_tests number over) }
 {
@@ -83,8 +83,8 @@ fn first_overrun(number: u32, over: Overruns) -> Option<Refusal>
     None
 }
 
-#[tactic(auto, unfolding(tpcc_rows::specs::NewOrder::order_range_tests, crate::specs::Tests::range_tests))]
 /// The first refusal of an order that would take the number, if there is one.
+#[tactic(auto, unfolding(tpcc_rows::specs::NewOrder::order_range_tests, crate::specs::Tests::range_tests))]
 pub fn range_refusal(tables: &Tables, order: &Order, number: u32) -> Option<Refusal>
     requires servable { IsServable tables.now.rows order.now.lines }
     requires number { number ≡ order_number tables.now.rows order.now }

@@ -24,8 +24,8 @@ pub struct NamedRows<'a> {
     pub customer: &'a CustomerRow,
 }
 
-#[tactic(auto, unfolding(tpcc_rows::specs::ChosenCustomer::chosen_customer))]
 /// The customer whom a payment names.
+#[tactic(auto, unfolding(tpcc_rows::specs::ChosenCustomer::chosen_customer))]
 fn chosen_customer<'a>(tables: &'a Tables, payment: &Payment) -> Option<&'a CustomerRow>
     ensures { option_copied result
         ≡ chosen_customer tables.now.rows payment.now.customer_warehouse

@@ -38,8 +38,8 @@ fn is_payable(amount: Cents) -> bool
     LEAST_PAYMENT <= amount.value() && amount.value() <= GREATEST_PAYMENT
 }
 
-#[tactic(auto, unfolding(crate::specs::Prepares::range_tests))]
 /// The first refusal of the amounts and counts, if there is one.
+#[tactic(auto, unfolding(crate::specs::Prepares::range_tests))]
 pub fn range_refusal(named: &NamedRows, amount: Cents) -> Option<Refusal>
     ensures { result
         ≡ first_finding (range_tests named.now.warehouse.now named.now.district.now

@@ -51,8 +51,6 @@ const PARTS: &[&str] = &[
     "STOCK",
 ];
 
-const FIRST_SECOND_OF_2100: u32 = 4_102_444_800;
-
 /// Which requests are to be written.
 #[derive(Clone, Copy, Debug, PartialEq, Eq)]
 pub struct Asking {
@@ -364,11 +362,10 @@ fn read_seed(matches: &ArgMatches<'_>) -> u64 {
 }
 
 fn read_moment(matches: &ArgMatches<'_>) -> Result<Moment, ProgramFault> {
-    let seconds = matches.get_one::<u32>("moment").unwrap_or(0);
-    if seconds >= FIRST_SECOND_OF_2100 {
-        return Err(ProgramFault::Arguments);
+    match Moment::try_new(matches.get_one::<u32>("moment").unwrap_or(0)) {
+        Some(moment) => Ok(moment),
+        None => Err(ProgramFault::Arguments),
     }
-    Ok(Moment::new(seconds))
 }
 
 fn read_task(name: &str, matches: &ArgMatches<'_>) -> Result<Task, ProgramFault>

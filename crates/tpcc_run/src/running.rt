@@ -21,7 +21,6 @@ use tpcc_server::{Job, JobAnswer, Turning};
 use tpcc_show::{Part, show};
 use tpcc_terminal::{Receipt, Report};
 
-#[tactic(auto, using(crate::proofs::Reported::reported))]
 /// Runs terminals, a delivery runner and the plan's servers on the book of an opening, each in a thread of its own;
 /// `make` gives the call of each request. Where the plan has no servers each thread makes its own turns. Once all
 /// are joined it settles the book with the purses and writes the report: the entries, and what was paid and the
@@ -29,6 +28,7 @@ use tpcc_terminal::{Receipt, Report};
 ///
 /// NoMemory where a growth or a thread was refused, Missing where a purse did not come back, Write where
 /// the writer fails.
+#[tactic(auto, using(crate::proofs::Reported::reported))]
 pub fn run<
     W: Write + Drop,
     C: Turning + Send,

@@ -226,9 +226,9 @@ fn call(alloc: Global, words: &[&[u8]]) -> Result<Call, ParseFault>
     }
 }
 
-#[tactic(auto, unfolding(crate::specs::Script::call_of))]
 /// The call of a line (without its line feed), or none where it is bad; refused only for want of
 /// memory.
+#[tactic(auto, unfolding(crate::specs::Script::call_of))]
 pub fn parse_line(alloc: Global, line: &[u8]) -> Result<Option<Call>, NoMemory>
     ensures { IfOk result (λ call. call ≡ call_of line.now) }
 {

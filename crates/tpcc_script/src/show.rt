@@ -8,8 +8,8 @@ use std::alloc::Global;
 use tpcc_money::NoMemory;
 use tpcc_terminal::Screen;
 
-#[tactic(auto, using(crate::proofs::Turns::shows_check, crate::proofs::Turns::shows_results))]
 /// Serves a call and gives its screen; refused only for want of memory, and then the call was served.
+#[tactic(auto, using(crate::proofs::Turns::shows_check, crate::proofs::Turns::shows_results))]
 pub fn answer<E: Engine>(alloc: Global, engine: &mut E, call: Call) -> Result<Screen, NoMemory>
     ensures shown { IfOk result
         (λ screen. Shows (E.book engine.old) call screen (E.book engine.new)) }

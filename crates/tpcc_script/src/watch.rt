@@ -29,6 +29,7 @@ pub enum Attempt<T> {
 }
 
 impl Watch {
+    /// Nothing has failed.
     pub fn new() -> Watch {
         Watch {
             retries: MOST_RETRIES,

@@ -18,8 +18,8 @@ fn place_of(bytes: &[u8], divider: u8) -> Option<usize>
     bytes.iter().position(|byte| *byte == divider)
 }
 
-#[tactic(auto, using(crate::proofs::Parting::one_part))]
 /// The first part, and what stands behind its divider.
+#[tactic(auto, using(crate::proofs::Parting::one_part))]
 fn cut(bytes: &[u8], divider: u8) -> Option<(&[u8], &[u8])>
     ensures some { IfSome result
         (λ p. parts_of divider bytes.now ≡ p.0.now ∷ parts_of divider p.1.now) }
@@ -50,12 +50,14 @@ pub fn split(alloc: Global, bytes: &[u8], divider: u8) -> Result<Vec<&[u8]>, NoM
     Ok(parts)
 }
 
+/// Whether a word is this name.
 pub fn is_word(word: &[u8], name: &[u8]) -> bool
     ensures { result ≡ bytes_eq word.now name.now }
 {
     word == name
 }
 
+/// A number of 32 bits.
 pub fn number(word: &[u8]) -> Result<u32, ParseFault>
     ensures read { Gives (λ n. n) result (number_of word.now) }
     ensures why { IfErr result (λ f. f ≡ ParseFault.Bad) }
@@ -66,6 +68,7 @@ pub fn number(word: &[u8]) -> Result<u32, ParseFault>
     }
 }
 
+/// A moment as seconds since 1970, before the year 2100.
 pub fn moment(word: &[u8]) -> Result<Moment, ParseFault>
     ensures read { Gives (λ m. m) result (moment_of word.now) }
     ensures why { IfErr result (λ f. f ≡ ParseFault.Bad) }
@@ -76,6 +79,7 @@ pub fn moment(word: &[u8]) -> Result<Moment, ParseFault>
     }
 }
 
+/// An amount with two decimals.
 pub fn amount(word: &[u8]) -> Result<Cents, ParseFault>
     ensures read { Gives (λ c. c) result (cents_of word.now) }
     ensures why { IfErr result (λ f. f ≡ ParseFault.Bad) }
@@ -104,6 +108,7 @@ fn is_last_name(word: &[u8]) -> bool
     0 < word.len() && word.len() <= 16 && are_capitals(word)
 }
 
+/// A customer by C_LAST, if the word is 1 to 16 letters A to Z, else by C_ID.
 pub fn customer(word: &[u8]) -> Result<Who, ParseFault>
     ensures { Gives (λ w. w) result (customer_of word.now) }
 {

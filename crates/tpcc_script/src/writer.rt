@@ -8,8 +8,8 @@ use crate::fault::ScriptFault;
 use crate::watch::{Attempt, Watch, try_flush, try_write};
 use std::io::Write;
 
-#[tactic(auto, using(crate::proofs::Parts::add_part))]
 /// Writes all the bytes; at a fault some first bytes of them. An interrupted write is tried again.
+#[tactic(auto, using(crate::proofs::Parts::add_part))]
 pub fn put_all<W: Write>(out: &mut W, watch: &mut Watch, bytes: &[u8]) -> Result<(), ScriptFault>
     ensures ok { OnOk result (Appends (W.contents out.old) (W.contents out.new) bytes.now) }
     ensures err { OnErr result (AppendsPart (W.contents out.old) (W.contents out.new) bytes.now) }

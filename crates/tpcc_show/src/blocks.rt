@@ -7,8 +7,8 @@ use std::alloc::Global;
 use std::io::{BufWriter, Write};
 use tpcc_audit::DumpFault;
 
-#[tactic(auto, using(crate::proofs::Appending::nothing_in_blocks))]
 /// A writer that hands its bytes on in blocks.
+#[tactic(auto, using(crate::proofs::Appending::nothing_in_blocks))]
 pub fn begin<W: Write + Drop>(alloc: Global, out: W) -> Result<BufWriter<W>, DumpFault>
     ensures { IfOk result (λ blocks. Keeps (W.contents out) (writer_contents W.contents blocks)) }
 {

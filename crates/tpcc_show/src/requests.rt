@@ -12,12 +12,12 @@ use tpcc_money::Moment;
 use tpcc_population::Scale;
 use tpcc_terminal::{Terminal, request_line};
 
-#[tactic(auto, using(crate::proofs::Asking::first_cards))]
 /// Writes the requests of a terminal's first cards, all at one moment, as lines of a script: those that the terminal
 /// of this number asks of a population of this scale and seed, in its order. Answers the writer.
 ///
 /// Write where the writer fails or takes nothing, NoMemory where a growth was refused; the writer is then let go,
 /// and how much of the text it took is unknown.
+#[tactic(auto, using(crate::proofs::Asking::first_cards))]
 pub fn put_requests<W: Write + Drop>(
     alloc: Global,
     number: u32,

@@ -18,12 +18,12 @@ use tpcc_journal::Journal;
 use tpcc_tables::Tables;
 use tpcc_terminal::Report;
 
-#[tactic(auto, using(crate::proofs::Appending::in_blocks))]
 /// Writes parts of a book, in their order: one part alone as it is, several each under a line `== PART`.
 /// Its screens are those of its journal's entries. Answers the writer.
 ///
 /// Write where the writer fails or takes nothing, NoMemory where a growth was refused; the writer is then let go,
 /// and how much of the text it took is unknown.
+#[tactic(auto, using(crate::proofs::Appending::in_blocks))]
 pub fn show<N: Naming, W: Write + Drop>(
     alloc: Global,
     book: &Book<N>,
@@ -38,8 +38,8 @@ pub fn show<N: Naming, W: Write + Drop>(
     end(blocks)
 }
 
-#[tactic(auto, using(crate::proofs::Appending::in_blocks))]
 /// Writes parts of a book whose screens were kept as they were shown. Else as [`show`].
+#[tactic(auto, using(crate::proofs::Appending::in_blocks))]
 pub fn show_served<N: Naming, W: Write + Drop>(
     alloc: Global,
     book: &Book<N>,
