@@ -114,14 +114,14 @@ pub(crate) fn serve_letter<N: Naming>(
 {
     match server.release() {
         Some((terminal, letter)) => {
-            server.show(terminal, serve_letter(letter, book));
+            server.show(terminal, answer_letter(letter, book));
             Ok(())
         }
         None => Err(CoreFault::NotReady),
     }
 }
 
-fn serve_letter<N: Naming>(letter: Letter<Purse<N>>, book: &mut Book<N>) -> Answer<Purse<N>>
+fn answer_letter<N: Naming>(letter: Letter<Purse<N>>, book: &mut Book<N>) -> Answer<Purse<N>>
     ensures { IsServed book.old letter.request letter.purse result book.new }
 {
     let Letter { request, purse } = letter;
