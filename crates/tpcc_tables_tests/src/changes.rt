@@ -6,6 +6,7 @@ use tpcc_rows::{
 
 /// The greatest amount of a column, 9,999,999,999.99, and the greatest payment, 5,000.00 (1.3, 2.5.1.3).
 const GREATEST_TOTAL: i64 = 999_999_999_999;
+
 const GREATEST_PAYMENT: i64 = 500_000;
 
 /// What is changed in district 1 of warehouse 1, or in the warehouse; of a NEW-ORDER row that is left out, its district
