@@ -162,6 +162,43 @@ badly 'a write interrupted 1,000 times'   'interrupt-write 1000' "$first"       
 badly 'a write interrupted 1,001 times'   'interrupt-write 1001' "$first"           3 'fault 6 Write' ''
 badly 'a dump that is interrupted'        'interrupt-write 1'   ''                  0 ''             '@"$tpcc" dump STOCK' 'dump STOCK'
 
+# Each read that fails, one in turn; and each read and each write that moves one byte alone. A failed read leaves a first part of the right
+# output, which ends with a whole line; the others leave all of it.
+calls_in_all=0
+in_turn() {
+    left_out "in turn: $2" && return
+    local kind call size
+    told "$1" > stdin
+    "$tpcc" $2 < stdin > whole 2> whole.fault
+    echo $? > whole.status
+    for kind in read short-read short-write; do
+        for ((call = 1; ; call++)); do
+            failing "$kind $call" $2
+            [ -s hit ] || break
+            cp whole stdout.wanted
+            cp whole.fault stderr.wanted
+            if [ $kind = read ]; then
+                size=$(stat -c %s stdout)
+                head -c "$size" whole > stdout.wanted
+                [ "$size" -eq 0 ] || [ -z "$(tail -c 1 stdout)" ] || differs "in turn: $2, $kind $call" stdout
+                echo 'fault 5 Read' > stderr.wanted
+                compare "in turn: $2, $kind $call" 3
+            else
+                compare "in turn: $2, $kind $call" "$(cat whole.status)"
+            fi
+            run=$((run - 1))
+            calls_in_all=$((calls_in_all + 1))
+        done
+    done
+    run=$((run + 1))
+}
+
+for name in new_order payment order_status delivery stock_level refusals tour bad_line; do in_turn "@cat '$top/examples/$name.txt'" "script"; done
+in_turn "@cat '$top/examples/two_warehouses.txt'" 'script --warehouses 2'
+in_turn '@times 1500 "payment 1 1 1 1 1 1.00 0\n"' script
+for table in WAREHOUSE DISTRICT CUSTOMER HISTORY ORDER ORDER-LINE NEW-ORDER ITEM STOCK; do in_turn '' "dump $table"; done
+in_turn '' 'run --terminals 2 --servers 2 --cards 0'
+
 # Standard output that takes each number of bytes, fewer than all, and then fails; or each seventh, and then takes nothing.
 bytes_in_all=0
 cut_off() {

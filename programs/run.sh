@@ -97,5 +97,5 @@ done
 . "$top/programs/cases.sh"
 . "$top/programs/shows.sh"
 . "$top/programs/failures.sh"
-echo "programs: $refused_in_all refused allocations and threads, $bytes_in_all outputs cut off"
+echo "programs: $refused_in_all refused allocations and threads, $calls_in_all reads and writes that fail or move one byte, $bytes_in_all outputs cut off"
 echo "programs: $run passed, 0 failed, in $((SECONDS - begun)) seconds"
