@@ -19,19 +19,19 @@ measure() {
     done
 }
 
-# Microseconds a request between two lengths.
+# Microseconds a request between two lengths, and how many entries the longer one has.
 between() {
     measure "$1" $3
     local first=$seconds of_first=$entries
     measure "$2" $3
-    echo "$seconds $first $entries $of_first" | awk '{ printf "%.3f", 1e6 * ($1 - $2) / ($3 - $4) }'
+    echo "$seconds $first $entries $of_first" | awk '{ printf "%.3f %d", 1e6 * ($1 - $2) / ($3 - $4), $3 }'
 }
 
 echo "| What | Microseconds a request | Ratio |"
 echo "|---|---|---|"
-early=$(between 0 $((cards / 10)) "4 3000 100000")
-late=$(between $((cards * 9 / 10)) "$cards" "4 3000 100000")
+read -r early _ <<< "$(between 0 $((cards / 10)) "4 3000 100000")"
+read -r late entries <<< "$(between $((cards * 9 / 10)) "$cards" "4 3000 100000")"
 echo "| the first and the last tenth of $entries requests, (4, 3,000, 100,000), 16 terminals | $early, $late | $(echo "$early $late" | awk '{ printf "%.2f", $2 / $1 }') |"
-one=$(between 0 $((cards / 10)) "1 3000 10000")
-many=$(between 0 $((cards / 10)) "20 3000 10000")
+read -r one _ <<< "$(between 0 $((cards / 10)) "1 3000 10000")"
+read -r many _ <<< "$(between 0 $((cards / 10)) "20 3000 10000")"
 echo "| 1 warehouse and 20, (3,000, 10,000), 16 terminals | $one, $many | $(echo "$one $many" | awk '{ printf "%.2f", $2 / $1 }') |"
