@@ -49,11 +49,11 @@ fail() {
 
 echo "seal: a crate that makes no answer, and one that makes one up"
 compile 'let _ = (request, refusal, purse); None' || fail "the honest probe was refused"
-if compile 'Some(Answer { request, outcome: Err(refusal), place: None, purse })'; then
+if compile 'Some(Answer { turned: tpcc_book::Turned { request, outcome: Err(refusal), place: None }, purse })'; then
     fail "an answer was made outside its crate"
 fi
 if grep 'error' "$scratch/log" | grep -qv 'error\[private-field\]'; then
     fail "the made-up answer was refused for something else"
 fi
-grep -q 'error\[private-field\]: field `outcome` of struct `Answer` is private' "$scratch/log" || fail "the made-up answer was not refused for its fields"
+grep -q 'error\[private-field\]: field `turned` of struct `Answer` is private' "$scratch/log" || fail "the made-up answer was not refused for its fields"
 echo "seal: 2 passed, 0 failed"
