@@ -364,6 +364,21 @@ in_order() {
     compare "$1" 0
 }
 
+# The same of each of several terminals: its lines stand in the journal one behind the other, with others between them.
+among_others() {
+    left_out "$1" && return
+    timeout "$seconds" "$tpcc" run $2 --terminals "$3" --servers "$4" --cards "$5" --show journal > shown 2> told
+    echo $? > status
+    for terminal in $(seq "$3"); do
+        timeout "$seconds" "$tpcc" requests $2 --terminal "$terminal" --cards "$5" > lines || echo "status $?"
+        awk 'NR == FNR { line[++count] = $0; next } count > found && $0 == line[found + 1] { found++ } END { print found + 0, count }' lines shown
+    done > stdout
+    for terminal in $(seq "$3"); do echo "$5 $5"; done > stdout.wanted
+    : > stderr
+    : > stderr.wanted
+    compare "$1" 0
+}
+
 drained 'all tickets are delivered' '--seeded --seed 7 --terminals 3 --cards 46' 5
 for seed in 1 7 42; do
     again "a journal again, seed $seed, 1 terminal"   "--seeded --seed $seed" '--terminals 1 --servers 1 --cards 60'
@@ -371,6 +386,7 @@ for seed in 1 7 42; do
     again "a journal again, seed $seed, 9 terminals"  "--seeded --seed $seed --warehouses 2" '--terminals 9 --servers 4 --cards 30'
     asked "requests of 5 terminals, seed $seed"       "--seeded --seed $seed --warehouses 2" 5 20
     in_order "requests in order, seed $seed"          "--seeded --seed $seed" 50
+    among_others "requests in order among others, seed $seed" "--seeded --seed $seed --warehouses 2" 6 3 40
 done
 again 'a journal of a plain opening again' '--customers 20 --items 150' '--terminals 3 --servers 3 --retire 2 --cards 25'
 by 'no request'                  '"$tpcc" requests --cards 0 > stdout 2> stderr; echo $? > status'     0 '' ''

@@ -13,7 +13,7 @@ use std::process::ExitCode;
 use std::sync::Wait;
 use std::thread::Threads;
 use std::time::Clock;
-use tpcc_audit::{DumpFault, dump};
+use tpcc_audit::{DumpFault, dump_to};
 use tpcc_book::{Register, Turned};
 use tpcc_population::{Opening, fill};
 use tpcc_program::{
@@ -40,9 +40,9 @@ fn script<R: Print + Input + Eprint + Clock>(
     let ended = match parts {
         [] | [Part::Screens] => run_script(alloc, &mut input, &mut io::writer(rt), opening),
         _ => {
-            let out = timing.time_writer(rt, io::writer(rt));
-            match show_script(alloc, &mut input, opening, parts, out) {
-                Ok((_, ended)) => ended,
+            let mut out = timing.time_writer(rt, io::writer(rt));
+            match show_script(alloc, &mut input, opening, parts, &mut out) {
+                Ok(ended) => ended,
                 Err(fault) => Err(fault),
             }
         }
@@ -68,8 +68,8 @@ fn dump_table<R: Print>(
     let Ok(tables) = fill(alloc, opening) else {
         return Err(ProgramFault::Dump(DumpFault::NoMemory));
     };
-    match dump(alloc, &tables, table, io::writer(rt)) {
-        Ok(_) => Ok(()),
+    match dump_to(alloc, &tables, table, &mut io::writer(rt)) {
+        Ok(()) => Ok(()),
         Err(fault) => Err(ProgramFault::Dump(fault)),
     }
 }
@@ -138,8 +138,8 @@ fn show_plan<
     requires plan { IsPlan plan.now }
     requires make { F.IsAlwaysCallable make }
 {
-    match run_shown(rt, alloc, opening, plan, parts, io::writer(rt), make) {
-        Ok((_, report)) => {
+    match run_shown(rt, alloc, opening, plan, parts, &mut io::writer(rt), make) {
+        Ok(report) => {
             tell_report(rt, parts, &report);
             Ok(())
         }
@@ -225,21 +225,21 @@ fn run_timed<
     } else {
         parts
     };
-    let out = timing.time_writer(rt, io::writer(rt));
+    let mut out = timing.time_writer(rt, io::writer(rt));
     let ended = run_shown(
         rt,
         alloc,
         opening,
         plan,
         parts,
-        out,
+        &mut out,
         |alloc: Global| -> Result<C, AllocError> {
             timing.mark_opened(rt);
             make(alloc)
         },
     );
     match ended {
-        Ok((_, report)) => {
+        Ok(report) => {
             tell_report(rt, parts, &report);
             let _ = rt.eprint(timing.times(rt, report.entries));
             Ok(())
@@ -265,10 +265,10 @@ fn put_asked<R: Print>(
         asked.seed,
         asked.moment,
         asking.cards,
-        io::writer(rt),
+        &mut io::writer(rt),
     );
     match ended {
-        Ok(_) => Ok(()),
+        Ok(()) => Ok(()),
         Err(fault) => Err(ProgramFault::Dump(fault)),
     }
 }

@@ -1,3 +1,4 @@
 mod RowLemmas
 mod ReadBack
 mod Seen
+pub mod Parts

@@ -1,5 +1,5 @@
 -- Receipts that stand in the fronts of purses.
-use Rattle.std.proofs.Common.{◌≡◌, ℕ, zero, suc, ◌<◌, List, [], ◌∷◌, length, slice_index_or, refl, subst, Some, arith, All}
+use Rattle.std.proofs.Common.{◌≡◌, ℕ, zero, suc, List, [], ◌∷◌, slice_index_or, subst, Some, arith, All}
 use Rattle.std.specs.Prelude.{slice_get, Option, None, IfSome}
 use Rattle.std.proofs.lemmas.List.Elements.{All-head, All-tail}
 use mathlib.Core.List.{IsPrefix}

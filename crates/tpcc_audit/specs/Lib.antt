@@ -2,4 +2,5 @@ pub mod Columns
 pub mod Records
 pub mod Dump
 pub mod Output
+pub mod Part
 pub mod Settlement

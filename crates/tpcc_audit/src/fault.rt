@@ -3,16 +3,30 @@
 use thiserror::Error;
 use tpcc_money::NoMemory;
 
-/// Why a dump ended early. The writer is let go, and how much of the dump it took is unknown. The
-/// text is the program's line on standard error.
+/// The writer failed, took nothing, or was interrupted 1,001 times in a row.
+#[derive(Clone, Copy, Debug, PartialEq, Eq)]
+pub struct Unwritten;
+
+/// Why a dump ended early; a first part of its text is written. The text is the program's line on standard error.
 #[derive(Clone, Copy, Debug, PartialEq, Eq, Error)]
 pub enum DumpFault {
-    /// The writer failed or took nothing.
+    /// The writer failed, took nothing, or was interrupted 1,001 times in a row.
     #[error("fault 1 Write")]
     Write,
     /// A growth was refused.
     #[error("fault 2 NoMemory")]
     NoMemory,
+}
+
+impl From<Unwritten> for DumpFault {
+    ghost use Rattle.std.specs.Prelude.{◌≡◌};
+    ghost use Rattle.tpcc_audit.specs.declared.fault.DumpFault.TheVariants as fault;
+
+    ghost from_gives = { λ _ f. f ≡ fault.Write };
+
+    fn from(_gave_up: Unwritten) -> Self {
+        DumpFault::Write
+    }
 }
 
 impl From<NoMemory> for DumpFault {

@@ -2,6 +2,7 @@
 //! purses, and its report.
 #![tactic(auto)]
 
+mod blocks;
 mod dumping;
 mod fault;
 mod fields;
@@ -11,9 +12,11 @@ mod output;
 mod records;
 mod reporting;
 mod settlement;
+mod writing;
 
-pub use dumping::dump;
-pub use fault::DumpFault;
+pub use blocks::Blocks;
+pub use dumping::{dump, dump_to, put_dump};
+pub use fault::{DumpFault, Unwritten};
 pub use laws::dump_is_read_back;
 pub use names::{table_name, table_named};
 pub use reporting::{ReportFault, report};

@@ -25,9 +25,19 @@ fn at_book<N: Naming, R: Abort>(rt: &R, alloc: Global, blanks: Blanks, story: St
     requires entries { blanks.entries.name ≡ N.entries }
     requires cents { blanks.cents.name ≡ N.cents }
 {
-    let Ok((book, first)) = Book::<N>::start(alloc, &opening(rt), blanks) else {
+    let Ok((mut book, mut first)) = Book::<N>::start(alloc, &opening(rt), blanks) else {
         panic!(rt; "memory for the opening")
     };
+    happens(rt, alloc, &mut book, &mut first, story)
+}
+
+fn happens<N: Naming, R: Abort>(
+    rt: &R,
+    alloc: Global,
+    book: &mut Book<N>,
+    first: &mut Purse<N>,
+    story: Story,
+) {
     match story {
         Story::TwoPurses => two_purses(rt, book, first),
         Story::Receipts => two_receipts(rt, alloc, book, first),
@@ -58,18 +68,20 @@ fn the_second_purse_of_a_terminal_is_a_stranger(rt: HostRuntime) {
     told(&rt, rt.alloc(), Story::TwoPurses)
 }
 
-fn two_purses<N: Naming, R: Abort>(rt: &R, book: Book<N>, first: Purse<N>) {
-    let mut book = book;
-    let mut first = first;
+fn two_purses<N: Naming, R: Abort>(rt: &R, book: &mut Book<N>, first: &mut Purse<N>) {
     assert!(rt; first.room() == 10_000);
-    let one = first.split(5);
-    let two = first.split(5);
-    let (paid, one) = asked(&mut book, one, payment(100));
-    let (refused, two) = asked(&mut book, two, payment(100));
-    assert!(rt; paid.is_none() && refused == Some(Refusal::Stranger(1)));
-    assert!(rt; shown(&one) == (5, 1, Cents::new(100)));
-    assert!(rt; shown(&two) == (5, 0, Cents::new(0)));
-    assert!(rt; book.journal().len() == 1);
+    let (paid, one) = asked(book, first.split(5), payment(100));
+    let (refused, two) = asked(book, first.split(5), payment(100));
+    let seen = (
+        paid,
+        refused,
+        shown(&one),
+        shown(&two),
+        book.journal().len(),
+    );
+    let one = (5, 1, Cents::new(100));
+    let two = (5, 0, Cents::new(0));
+    assert!(rt; seen == (None, Some(Refusal::Stranger(1)), one, two, 1));
 }
 
 /// Notes an answer, and gives its purse back.
@@ -103,15 +115,27 @@ fn a_terminal_keeps_the_receipts_of_its_journaled_answers(rt: HostRuntime) {
 }
 
 /// The second of three payments is refused.
-fn two_receipts<N: Naming, R: Abort>(rt: &R, alloc: Global, book: Book<N>, first: Purse<N>) {
-    let mut book = book;
-    let mut first = first;
+fn two_receipts<N: Naming, R: Abort>(
+    rt: &R,
+    alloc: Global,
+    book: &mut Book<N>,
+    first: &mut Purse<N>,
+) {
     let made = Terminal::new(alloc, 5, scale(rt), 1);
     let mut terminal = made.expect(rt, "memory for a terminal");
     assert!(rt; first.room() == 10_000);
-    let mut purse = first.split(5);
-    for cents in [100, 99, 200] {
-        purse = noted(rt, &mut terminal, book.serve(payment(cents), purse));
-    }
+    pay_three(rt, book, &mut terminal, first.split(5));
     assert!(rt; are_both(terminal.receipts().as_slice()));
+}
+
+fn pay_three<N: Naming, R: Abort>(
+    rt: &R,
+    book: &mut Book<N>,
+    terminal: &mut Terminal,
+    purse: Purse<N>,
+) {
+    let mut purse = purse;
+    for cents in [100, 99, 200] {
+        purse = noted(rt, terminal, book.serve(payment(cents), purse));
+    }
 }

@@ -24,9 +24,13 @@ fn at_a_desk<N: Naming, R: Abort>(rt: &R, alloc: Global, blanks: Blanks, story: 
     requires entries { blanks.entries.name ≡ N.entries }
     requires cents { blanks.cents.name ≡ N.cents }
 {
-    let Ok(desk) = Desk::<N>::start(alloc, &opening(rt), 2, 2, blanks) else {
+    let Ok(mut desk) = Desk::<N>::start(alloc, &opening(rt), 2, 2, blanks) else {
         panic!(rt; "memory for the opening")
     };
+    happens(rt, alloc, &mut desk, story)
+}
+
+fn happens<N: Naming, R: Abort>(rt: &R, alloc: Global, desk: &mut Desk<N>, story: Story) {
     match story {
         Story::Overtaking => overtaken(rt, alloc, desk),
         Story::KeptLetter => kept_letter(rt, alloc, desk),
@@ -136,18 +140,15 @@ fn the_later_post_is_served_first(rt: HostRuntime) {
     told(&rt, rt.alloc(), Story::Overtaking)
 }
 
-fn overtaken<N: Naming, R: Abort>(rt: &R, alloc: Global, desk: Desk<N>) {
-    let mut desk = desk;
-    step_all(rt, &mut desk, overtaking(rt, alloc), 3);
-    is_overtaken(rt, &desk)
-}
-
-fn is_overtaken<N: Naming, R: Abort>(rt: &R, desk: &Desk<N>) {
-    assert!(rt; entry_at(desk, 0) == Some((2, Some(Cents::new(-1_000)))));
-    assert!(rt; entry_at(desk, 1) == Some((1, Some(Cents::new(-1_100)))));
-    assert!(rt; first_place(desk, 1) == Some(1) && first_place(desk, 2) == Some(0));
-    assert!(rt; at_terminal(desk, 1) == (Some((1, Cents::new(100))), 1));
-    assert!(rt; at_terminal(desk, 2) == (Some((1, Cents::new(0))), 1));
+fn overtaken<N: Naming, R: Abort>(rt: &R, alloc: Global, desk: &mut Desk<N>) {
+    step_all(rt, desk, overtaking(rt, alloc), 3);
+    let query = (2, Some(Cents::new(-1_000)));
+    let paid = (1, Some(Cents::new(-1_100)));
+    assert!(rt; [entry_at(desk, 0), entry_at(desk, 1)] == [Some(query), Some(paid)]);
+    assert!(rt; [first_place(desk, 1), first_place(desk, 2)] == [Some(1), Some(0)]);
+    let paid = (Some((1, Cents::new(100))), 1);
+    let query = (Some((1, Cents::new(0))), 1);
+    assert!(rt; [at_terminal(desk, 1), at_terminal(desk, 2)] == [paid, query]);
 }
 
 #[test]
@@ -155,14 +156,9 @@ fn a_kept_letter_stops_nobody_else(rt: HostRuntime) {
     told(&rt, rt.alloc(), Story::KeptLetter)
 }
 
-fn kept_letter<N: Naming, R: Abort>(rt: &R, alloc: Global, desk: Desk<N>) {
-    let mut desk = desk;
+fn kept_letter<N: Naming, R: Abort>(rt: &R, alloc: Global, desk: &mut Desk<N>) {
     assert!(rt; desk.run(a_letter_kept(rt, alloc)).is_ok());
-    is_kept(rt, &desk)
-}
-
-fn is_kept<N: Naming, R: Abort>(rt: &R, desk: &Desk<N>) {
     assert!(rt; desk.book().journal().len() == 5);
-    assert!(rt; at_terminal(desk, 1) == (None, 0));
-    assert!(rt; at_terminal(desk, 2) == (Some((5, Cents::new(500))), 5));
+    let served = (Some((5, Cents::new(500))), 5);
+    assert!(rt; [at_terminal(desk, 1), at_terminal(desk, 2)] == [(None, 0), served]);
 }

@@ -55,7 +55,9 @@ pub fn prepare_run(tables: &Tables, queue: &Queue, at: Moment) -> Result<Prepare
 /// district, or leaves the queue after the tenth.
 pub fn finish_run(tables: &mut Tables, queue: &mut Queue, run: PreparedRun) -> Delivery
     requires ready { (at : ℕ) × IsPreparedRun tables.old.rows queue.old.tickets at run }
-    ensures state { (at : ℕ) → IsPreparedRun tables.old.rows queue.old.tickets at run → record { rows = tables.new.rows; queue = queue.new.tickets } ≡ state_after_run tables.old.rows queue.old.tickets at }
+    ensures state { (at : ℕ) → IsPreparedRun tables.old.rows queue.old.tickets at run
+        → record { rows = tables.new.rows; queue = queue.new.tickets }
+        ≡ state_after_run tables.old.rows queue.old.tickets at }
     ensures reply { (at : ℕ) → IsPreparedRun tables.old.rows queue.old.tickets at run
         → result ≡ run_reply tables.old.rows queue.old.tickets at }
 {
@@ -95,7 +97,8 @@ fn deliver_district(tables: &mut Tables, delivery: DistrictDelivery)
 
 /// One run at a moment, or why it is refused, with all as it was.
 pub fn deliver_next(tables: &mut Tables, queue: &mut Queue, at: Moment) -> Result<Delivery, Refusal>
-    ensures state { OnOk result (record { rows = tables.new.rows; queue = queue.new.tickets } ≡ state_after_run tables.old.rows queue.old.tickets at) }
+    ensures state { OnOk result (record { rows = tables.new.rows; queue = queue.new.tickets }
+        ≡ state_after_run tables.old.rows queue.old.tickets at) }
     ensures reply { IfOk result (λ reply. reply ≡ run_reply tables.old.rows queue.old.tickets at) }
     ensures accepted { OnOk result (run_refusal tables.old.rows queue.old.tickets ≡ None) }
     ensures refused { IfErr result

@@ -29,7 +29,8 @@ impl Model for Journal {
       room = min (vec_capacity j.entries - vec_len j.entries) (vec_capacity j.tallies - vec_len j.tallies);
     } };
 
-    ghost invariant = { λ j. (terminal : ℕ) → tally_of terminal j.tallies.items ≡ count_of terminal j.entries.items };
+    ghost invariant = { λ j. (terminal : ℕ)
+        → tally_of terminal j.tallies.items ≡ count_of terminal j.entries.items };
 }
 
 impl Journal {

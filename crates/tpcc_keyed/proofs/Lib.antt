@@ -1,3 +1,4 @@
+pub mod TailLemmas
 pub mod PlaceLemmas
 pub mod SearchLemmas
 pub mod ChangeLemmas

@@ -1,6 +1,6 @@
 -- One more part, with no rows, and parts with more room.
 use Rattle.std.proofs.Common.{◌≡◌, ◌∙◌, ℕ, zero, suc, ◌+◌, ◌<◌, ◌≤◌, ◌^◌, Bool, true, false, List, [], ◌∷◌, ◌++◌, length, map, refl, ap, sym, subst, arith, get_or, set}
-use Rattle.std.specs.Prelude.{All, None, ◌&&◌, ◌||◌, flat_map, if◌then◌else◌, position, take, vec_capacity}
+use Rattle.std.specs.Prelude.{All, None, ◌&&◌, ◌||◌, flat_map, if◌then◌else◌, position, take}
 use Rattle.std.specs.List.{list_all, list_any}
 use Rattle.std.proofs.lemmas.Bool.Decides.{nat_tests}
 use Rattle.std.proofs.Math.Seq.{map-set_same}
@@ -113,7 +113,7 @@ module _ {T : Type 0} (old new : List (Part T)) (same : map shown new ≡ map sh
 pub grown_none : {T : Type 0} (room : ℕ) (parts : List (Part T)) → IsGrown room 0 parts parts
 grown_none room parts = record { same = refl; kept = λ less h. h; first = AllWithin-none (HasRoom room) parts 0 }
 
-module _ {T : Type 0} (room n : ℕ) (old now : List (Part T)) (grown : IsGrown room n old now) (part changed : Part T) (lt : n < length now) (here : part ≡ get_or now n part) (owner : changed.owner ≡ part.owner) (rows : changed.rows.items ≡ part.rows.items) (capacity : vec_capacity part.rows ≤ vec_capacity changed.rows) where
+module _ {T : Type 0} (room n : ℕ) (old now : List (Part T)) (grown : IsGrown room n old now) (part changed : Part T) (lt : n < length now) (here : part ≡ get_or now n part) (owner : changed.owner ≡ part.owner) (rows : changed.rows.items ≡ part.rows.items) (capacity : part.rows.capacity ≤ changed.rows.capacity) where
   still_shown : map shown (set now n changed) ≡ map shown old
   still_shown = map-set_same shown now n changed part ((λ i. (owner i, rows i)) ∙ ap shown here) ∙ grown.same
 

@@ -5,6 +5,7 @@ use Rattle.std.specs.List.{list_all, prefix_len}
 use Rattle.std.proofs.Math.Seq.{drop-cons, take-add}
 use Rattle.std.proofs.lemmas.Bool.Decides.{nat_tests}
 use Rattle.std.proofs.lemmas.Grind.{flat_map-append}
+use Rattle.std.proofs.lemmas.List.Elements.{All-push}
 use Rattle.std.proofs.lemmas.List.Sums.{prefix_len-le-length}
 use Rattle.tpcc_rows.specs.declared.keys.DistrictKey.{DistrictKey}
 use Rattle.tpcc_rows.specs.Lists.{is_ascending, key_before}
@@ -12,7 +13,7 @@ use Rattle.tpcc_laws.proofs.ListLemmas.{list_all-mono}
 use Rattle.tpcc_keyed.specs.declared.parts.part.Part.{Part}
 use Rattle.tpcc_keyed.specs.Searches.{is_same_key}
 use Rattle.tpcc_keyed.specs.Parts.{district_numbers, is_of}
-use Rattle.tpcc_keyed.specs.PartWords.{rows_in, part_numbers, owns, AreRead}
+use Rattle.tpcc_keyed.specs.PartWords.{rows_in, part_numbers, owns, HasRoom, AreRead}
 use Rattle.tpcc_keyed.proofs.FlatLemmas.{all-append, append_nil}
 use Rattle.tpcc_keyed.proofs.KeyLemmas.{district_later, not_before_itself, same_if_equal}
 use Rattle.tpcc_keyed.proofs.SearchLemmas.{all_at}
@@ -146,7 +147,7 @@ ascending_push numbers (x ∷ xs) y up below =
     let all = all-append (λ later. key_before (numbers x) (numbers later)) xs (y ∷ []) above one in
     λ i. all i && ascending_push numbers xs y rest later i
 
-module _ {T : Type 0} (key : T → List ℕ) (rows : List T) (up : is_ascending key rows ≡ true) (start : ℕ) (parts : List (Part T)) (so_far : AreRead key rows start parts) (more : start < length rows) (seen : List T) (is : seen ≡ drop start rows) (first : T) (here : first ≡ get_or seen 0 first) (owner : DistrictKey) (own : district_numbers owner ≡ take 2 (key first)) (n : ℕ) (counted : n ≡ prefix_len (λ row. not (key_before (district_numbers owner) (take 2 (key row)))) seen) (run : Part T) (of_owner : run.owner ≡ owner) (holds : run.rows.items ≡ take n seen) where
+module _ {T : Type 0} (key : T → List ℕ) (rows : List T) (up : is_ascending key rows ≡ true) (start : ℕ) (parts : List (Part T)) (so_far : AreRead key rows start parts) (more : start < length rows) (seen : List T) (is : seen ≡ drop start rows) (first : T) (here : first ≡ get_or seen 0 first) (owner : DistrictKey) (own : district_numbers owner ≡ take 2 (key first)) (n : ℕ) (counted : n ≡ prefix_len (λ row. not (key_before (district_numbers owner) (take 2 (key row)))) seen) (run : Part T) (of_owner : run.owner ≡ owner) (holds : run.rows.items ≡ take n seen) (within : HasRoom 0 run) where
   some : 0 < length seen
   some = let l : length seen ≡ length rows - start = ap length is ∙ length-drop start rows in omega (arith, l, more)
 
@@ -194,6 +195,7 @@ module _ {T : Type 0} (key : T → List ℕ) (rows : List T) (up : is_ascending 
         read = flat_map-append rows_in parts (run ∷ []) ∙ ap (λ xs. flat_map rows_in parts ++ xs) (append_nil run.rows.items)
             ∙ (λ i. so_far.read i ++ (holds ∙ ap (take n) is) i) ∙ sym (take-add start n rows);
         ahead = all-append (λ part. list_all (λ row. key_before (part_numbers part) (take 2 (key row))) (drop (start + n) rows)) parts (run ∷ []) still_ahead (λ i. run_ahead i && true);
+        roomy = All-push (HasRoom 0) parts run so_far.roomy within;
         within = let l : length seen ≡ length rows - start = ap length is ∙ length-drop start rows in omega (arith, l, more, counted, prefix_len-le-length (λ row. not (key_before (district_numbers owner) (take 2 (key row)))) seen);
       }
 

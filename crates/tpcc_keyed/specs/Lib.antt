@@ -1,4 +1,6 @@
 pub mod Searches
+pub mod Tails
+pub mod TailsView
 pub mod Parts
 pub mod PartWords
 pub mod PartsView

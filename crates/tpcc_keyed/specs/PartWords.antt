@@ -1,5 +1,5 @@
 -- The parts of the districts, and what always holds of them.
-use Rattle.std.specs.Prelude.{◌≡◌, ℕ, ◌+◌, ◌<◌, ◌≤◌, ◌^◌, Bool, true, List, [], All, flat_map, length, map, take, drop, vec_capacity}
+use Rattle.std.specs.Prelude.{◌≡◌, ℕ, ◌+◌, ◌<◌, ◌≤◌, ◌^◌, Bool, true, List, [], All, flat_map, length, map, take, drop}
 use Rattle.std.specs.List.{list_all, AllWithin}
 use Rattle.tpcc_rows.specs.declared.keys.DistrictKey.{DistrictKey}
 use Rattle.tpcc_rows.specs.Lists.{by_key, is_ascending, inserted, key_before}
@@ -25,9 +25,9 @@ abbrev pub owns : {T : Type 0} → (T → List ℕ) → Part T → Bool
 owns key p = list_all (λ row. is_of p.owner (key row)) p.rows.items
 
 abbrev pub HasRoom : {T : Type 0} → ℕ → Part T → Type 0
-HasRoom room p = length p.rows.items + room ≤ vec_capacity p.rows
+HasRoom room p = length p.rows.items + room ≤ p.rows.capacity
 
--- all of a part but the room of its vector
+-- all of a part but the room of its rows
 abbrev pub shown : {T : Type 0} → Part T → DistrictKey × List T
 shown p = (p.owner, p.rows.items)
 
@@ -42,7 +42,7 @@ pub record IsOpened {T : Type 0} (owner : DistrictKey) (room : ℕ) (old new : L
   pub part : Part T
   pub of_owner : part.owner ≡ owner
   pub empty : part.rows.items ≡ []
-  pub roomy : room ≤ vec_capacity part.rows
+  pub roomy : room ≤ part.rows.capacity
   pub put : new ≡ inserted (by_key part_numbers) part old
 
 -- so many rows in all, and room for so many more in each part
@@ -59,4 +59,5 @@ pub record AreRead {T : Type 0} (key : T → List ℕ) (rows : List T) (start : 
   pub own : list_all (owns key) parts ≡ true
   pub read : flat_map rows_in parts ≡ take start rows
   pub ahead : list_all (λ p. list_all (λ row. key_before (part_numbers p) (take 2 (key row))) (drop start rows)) parts ≡ true
+  pub roomy : All (HasRoom 0) parts
   pub within : start ≤ length rows

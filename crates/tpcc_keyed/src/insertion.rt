@@ -1,7 +1,7 @@
 //! New rows put into a table in ascending order of its keys.
 ghost use Rattle.std.specs.Prelude.{[], ◌∷◌, ◌++◌, ◌≡◌, ◌<◌, ◌≤◌, not, true, OnOk, OnErr, IsOk, IsTrue, ◌+◌, length, vec_len, vec_capacity};
 ghost use Rattle.std.specs.List.{prefix_len};
-ghost use Rattle.tpcc_rows.specs.Lists.{by_key, is_ascending, inserted, inserted_all};
+ghost use Rattle.tpcc_rows.specs.Lists.{by_key, is_ascending, inserted};
 
 use crate::keyed::Keyed;
 use tpcc_money::NoMemory;
@@ -31,7 +31,7 @@ fn search_by_halves<T: Keyed>(rows: &[T], added: &T) -> usize
 }
 
 /// How many rows stand before the first one that comes after a new row.
-fn place_for<T: Keyed>(rows: &[T], added: &T) -> usize
+pub(crate) fn place_for<T: Keyed>(rows: &[T], added: &T) -> usize
     requires keyed { is_ascending T.key rows.now ≡ true }
     ensures { result ≡ prefix_len (λ row. not (by_key T.key added.now row)) rows.now }
 {
@@ -77,16 +77,4 @@ pub fn insert_one<T: Keyed>(rows: &mut Vec<T>, added: T)
     ensures { rows.new.items ≡ inserted (by_key T.key) added rows.old.items }
 {
     insert(rows, added).unwrap();
-}
-
-/// Puts new rows at their places, one after another; there is room for them.
-pub fn insert_all<T: Keyed>(rows: &mut Vec<T>, added: &[T])
-    requires keyed { is_ascending T.key (inserted_all (by_key T.key) added.now rows.old.items)
-        ≡ true }
-    requires room { vec_len rows.old + length added.now ≤ vec_capacity rows.old }
-    ensures { rows.new.items ≡ inserted_all (by_key T.key) added.now rows.old.items }
-{
-    for row in added {
-        insert(rows, *row).unwrap();
-    }
 }

@@ -1,5 +1,5 @@
 //! The lines of one order, and of orders in a row, which lie side by side in their district's part.
-ghost use Rattle.std.specs.Prelude.{◌≡◌, ◌≤◌, filter, true, Some, vec_capacity};
+ghost use Rattle.std.specs.Prelude.{◌≡◌, ◌≤◌, filter, true, Some};
 ghost use Rattle.tpcc_rows.specs.Lists.{is_ascending, updated};
 ghost use Rattle.tpcc_rows.specs.Tables.{is_line_of, order_line_key};
 ghost use Rattle.tpcc_keyed.specs.Runs.{is_line_between};
@@ -15,10 +15,11 @@ use tpcc_rows::rows::OrderLineRow;
 fn stamp(part: &mut Part<OrderLineRow>, warehouse: u32, district: u32, order: u32, moment: Moment)
     requires keyed { is_ascending order_line_key part.old.rows.items ≡ true }
     ensures owner { part.new.owner ≡ part.old.owner }
-    ensures rows { part.new.rows.items ≡ updated (is_line_of warehouse district order) (λ l. record l { delivered = Some moment }) part.old.rows.items }
-    ensures capacity { vec_capacity part.new.rows ≡ vec_capacity part.old.rows }
+    ensures rows { part.new.rows.items ≡ updated (is_line_of warehouse district order)
+        (λ l. record l { delivered = Some moment }) part.old.rows.items }
+    ensures capacity { part.new.rows.capacity ≡ part.old.rows.capacity }
 {
-    runs::stamp(&mut part.rows, warehouse, district, order, moment);
+    part.rows.stamp(warehouse, district, order, moment);
 }
 
 impl Parts<OrderLineRow> {
@@ -57,7 +58,8 @@ impl Parts<OrderLineRow> {
     /// The moment of delivery of an order's lines, set.
     pub fn stamp(&mut self, warehouse: u32, district: u32, order: u32, moment: Moment)
         requires keyed { is_ascending order_line_key self.old.rows ≡ true }
-        ensures rows { self.new.rows ≡ updated (is_line_of warehouse district order) (λ l. record l { delivered = Some moment }) self.old.rows }
+        ensures rows { self.new.rows ≡ updated (is_line_of warehouse district order)
+            (λ l. record l { delivered = Some moment }) self.old.rows }
         ensures owners { self.new.owners ≡ self.old.owners }
         ensures room { self.new.room ≡ self.old.room }
     {

@@ -11,6 +11,7 @@ mod growth;
 pub(crate) mod part;
 pub(crate) mod place;
 mod reading;
+pub(crate) mod tail;
 
 use crate::keyed::Owned;
 use crate::search::{self, find};

@@ -1,5 +1,5 @@
 //! The lines of one order, and of orders in a row, which lie side by side in rows that ascend.
-ghost use Rattle.std.specs.Prelude.{[], ◌∷◌, ◌≡◌, ◌≤◌, filter, length, map, not, true, Some, vec_capacity};
+ghost use Rattle.std.specs.Prelude.{[], ◌∷◌, ◌≡◌, ◌≤◌, filter, length, map, not, true, Some};
 ghost use Rattle.std.specs.List.{prefix_len};
 ghost use Rattle.tpcc_rows.specs.Lists.{is_ascending, key_before, updated};
 ghost use Rattle.tpcc_rows.specs.declared.rows.OrderLineRow.{OrderLineRow};
@@ -114,32 +114,20 @@ pub fn lines_between(
 }
 
 fn stamp_all(lines: &mut [OrderLineRow], moment: Moment)
-    ensures { lines.new ≡ map (λ (l : OrderLineRow). record l { delivered = Some moment }) lines.old }
+    ensures { lines.new
+        ≡ map (λ (l : OrderLineRow). record l { delivered = Some moment }) lines.old }
 {
     for line in lines {
         line.delivered = Some(moment);
     }
 }
 
-fn stamp_among(rows: &mut [OrderLineRow], warehouse: u32, district: u32, order: u32, moment: Moment)
+/// The moment of delivery of an order's lines, set.
+pub fn stamp(rows: &mut [OrderLineRow], warehouse: u32, district: u32, order: u32, moment: Moment)
     requires keyed { is_ascending order_line_key rows.old ≡ true }
-    ensures { rows.new ≡ updated (is_line_of warehouse district order) (λ l. record l { delivered = Some moment }) rows.old }
+    ensures { rows.new ≡ updated (is_line_of warehouse district order)
+        (λ l. record l { delivered = Some moment }) rows.old }
 {
     let (start, end) = place_of(rows, warehouse, district, order);
     stamp_all(&mut rows[start..end], moment);
-}
-
-/// The moment of delivery of an order's lines, set.
-pub fn stamp(
-    rows: &mut Vec<OrderLineRow>,
-    warehouse: u32,
-    district: u32,
-    order: u32,
-    moment: Moment,
-)
-    requires keyed { is_ascending order_line_key rows.old.items ≡ true }
-    ensures rows { rows.new.items ≡ updated (is_line_of warehouse district order) (λ l. record l { delivered = Some moment }) rows.old.items }
-    ensures capacity { vec_capacity rows.new ≡ vec_capacity rows.old }
-{
-    stamp_among(rows.as_mut_slice(), warehouse, district, order, moment);
 }

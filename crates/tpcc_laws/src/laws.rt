@@ -14,14 +14,16 @@ ghost use Rattle.tpcc_rows.specs.WellKeyed.{IsWellKeyed};
 /// A request that nothing refuses, with its moment in range, keeps keys, references and ranges,
 /// the queue's ranges, that each item is stocked, and conditions 1 to 10 and 12 (3.3.2).
 pub fn turn_keeps()
-    ensures { (s : State) (request : Request) → has_moment_in_range request ≡ true → refusal s request ≡ None
+    ensures { (s : State) (request : Request)
+        → has_moment_in_range request ≡ true → refusal s request ≡ None
         → IsSoundState s → IsSoundState (state_after s request) }
 {}
 
 /// A request that nothing refuses raises the sum of W_YTD by what it pays, which is 0.00 to 5,000.00.
 pub fn turn_pays()
     ensures rises { (s : State) (request : Request) → refusal s request ≡ None → IsWellKeyed s.rows
-        → total (λ w. w.ytd) (state_after s request).rows.warehouses ≡ total (λ w. w.ytd) s.rows.warehouses +ℤ paid_by_request request }
+        → total (λ w. w.ytd) (state_after s request).rows.warehouses
+        ≡ total (λ w. w.ytd) s.rows.warehouses +ℤ paid_by_request request }
     ensures least { (s : State) (request : Request)
         → refusal s request ≡ None → pos 0 ≤ℤ paid_by_request request }
     ensures most { (s : State) (request : Request)

@@ -14,9 +14,7 @@ use tpcc_terminal::screen;
 
 #[test]
 fn a_book_serves_each_kind_of_request(rt: HostRuntime) {
-    if told(&rt, rt.alloc()).is_err() {
-        assert!(rt; told(&rt, rt.alloc()).is_ok());
-    }
+    assert!(rt; told(&rt, rt.alloc()).is_ok() || told(&rt, rt.alloc()).is_ok());
 }
 
 fn told<R: Abort + AllocGlobal>(rt: &R, alloc: Global) -> Result<(), NoMemory> {
@@ -31,27 +29,41 @@ fn at_book<N: Naming, R: Abort + AllocGlobal>(
     requires entries { blanks.entries.name ≡ N.entries }
     requires cents { blanks.cents.name ≡ N.cents }
 {
-    let (book, purse) = Book::<N>::start(alloc, &opening(rt), blanks)?;
-    serve_all(rt, alloc, book, purse);
+    let (mut book, purse) = Book::<N>::start(alloc, &opening(rt), blanks)?;
+    serve_and_look(rt, alloc, &mut book, purse);
     Ok(())
 }
 
+fn serve_and_look<N: Naming, R: Abort + AllocGlobal>(
+    rt: &R,
+    alloc: Global,
+    book: &mut Book<N>,
+    purse: Purse<N>,
+) {
+    let entries = serve_all(rt, alloc, book, purse);
+    assert!(rt; (entries, is_whole(alloc, book)) == (6, true));
+}
+
+/// Six entries, all conditions, and a log.
+fn is_whole<N: Naming>(alloc: Global, book: &Book<N>) -> bool {
+    let journal = book.journal();
+    journal.len() == 6
+        && check(book.tables()).is_ok()
+        && (results(alloc, journal).is_ok() || results(alloc, journal).is_ok())
+}
+
+/// The entries of the purse behind one request of each kind.
 fn serve_all<N: Naming, R: Abort + AllocGlobal>(
     rt: &R,
     alloc: Global,
-    book: Book<N>,
+    book: &mut Book<N>,
     purse: Purse<N>,
-) {
-    let mut book = book;
+) -> u64 {
     let mut purse = purse;
     for request in requests(rt) {
-        purse = serve_one(rt, alloc, &mut book, purse, request);
+        purse = serve_one(rt, alloc, book, purse, request);
     }
-    assert!(rt; purse.entries() == 6 && book.journal().len() == 6);
-    assert!(rt; check(book.tables()).is_ok());
-    if results(alloc, book.journal()).is_err() {
-        assert!(rt; results(alloc, book.journal()).is_ok());
-    }
+    purse.entries()
 }
 
 /// A request that is refused memory is served again.
@@ -76,9 +88,7 @@ fn serve_one<N: Naming, R: Abort>(
 /// The purse of an accepted answer, whose screen can be had.
 fn shown<P, R: Abort>(rt: &R, alloc: Global, answer: Answer<P>) -> P {
     assert!(rt; answer.outcome().is_ok());
-    if screen(alloc, &answer).is_err() {
-        assert!(rt; screen(alloc, &answer).is_ok());
-    }
+    assert!(rt; screen(alloc, &answer).is_ok() || screen(alloc, &answer).is_ok());
     let (_, _, _, purse) = answer.into_parts();
     purse
 }

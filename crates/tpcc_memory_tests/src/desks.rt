@@ -12,9 +12,7 @@ use tpcc_rows::Request;
 
 #[test]
 fn a_terminal_of_a_desk_posts(rt: HostRuntime) {
-    if told(&rt, rt.alloc()).is_err() {
-        assert!(rt; told(&rt, rt.alloc()).is_ok());
-    }
+    assert!(rt; told(&rt, rt.alloc()).is_ok() || told(&rt, rt.alloc()).is_ok());
 }
 
 fn told<R: Abort>(rt: &R, alloc: Global) -> Result<(), NoMemory> {
@@ -25,8 +23,8 @@ fn at_a_desk<N: Naming, R: Abort>(rt: &R, alloc: Global, blanks: Blanks) -> Resu
     requires entries { blanks.entries.name ≡ N.entries }
     requires cents { blanks.cents.name ≡ N.cents }
 {
-    let desk = Desk::<N>::start(alloc, &opening(rt), 2, 2, blanks)?;
-    post(rt, desk);
+    let mut desk = Desk::<N>::start(alloc, &opening(rt), 2, 2, blanks)?;
+    post(rt, &mut desk);
     Ok(())
 }
 
@@ -38,8 +36,7 @@ fn post_of_terminal_1() -> Event {
 }
 
 /// A post that is refused memory leaves the purse at its terminal, and can be made again.
-fn post<N: Naming, R: Abort>(rt: &R, desk: Desk<N>) {
-    let mut desk = desk;
+fn post<N: Naming, R: Abort>(rt: &R, desk: &mut Desk<N>) {
     if let Err(fault) = desk.step(post_of_terminal_1()) {
         assert!(rt; fault == CoreFault::NoMemory && desk.purse(1).is_some());
         assert!(rt; desk.step(post_of_terminal_1()).is_ok());

@@ -1,6 +1,6 @@
 -- The civil date of a moment is the calendar's.
-use Rattle.std.proofs.Common.{◌≡◌, sym, refl, ℕ, zero, suc, ◌+◌, ◌*◌, ◌-◌, ◌/◌, ◌%◌, ◌<◌, ◌≤◌, ◌++◌, ◌∷◌, Bool, true, false, cond, nat_lt, arith}
-use Rattle.std.specs.Prelude.{pos, ◌+ℤ◌}
+use Rattle.std.proofs.Common.{◌≡◌, ◌∙◌, sym, ap, refl, append_assoc, ℕ, zero, suc, ◌+◌, ◌*◌, ◌-◌, ◌/◌, ◌%◌, ◌<◌, ◌≤◌, ◌++◌, ◌∷◌, Bool, true, false, cond, nat_lt, arith}
+use Rattle.std.specs.Prelude.{List, pos, ◌+ℤ◌, unsigned_abs}
 use Rattle.std.proofs.lemmas.Bool.Decides.{nat_tests}
 use Rattle.jiff_core.specs.Calendar.{days_in_month, days_in_year, day_count}
 use Rattle.jiff_core.specs.Date.{epoch_day}
@@ -9,12 +9,16 @@ use Rattle.jiff_core.specs.Time.{time_nanos}
 use Rattle.jiff_core.specs.declared.civil.date.Date.{Date}
 use Rattle.jiff_core.specs.declared.civil.datetime.DateTime.{DateTime}
 use Rattle.jiff_core.proofs.SignedLemmas.{signed_arith}
-use Rattle.jiff_core.proofs.CalendarLemmas.{days_from_civil-day_count, days_in_month_bounds, days_in_year_bounds, day_count-epoch, day_count-next_year, day_count-next_month, day_count-day, day_count-last_of_year}
+use Rattle.jiff_core.proofs.CalendarLemmas.{days_from_civil-day_count, days_in_year_bounds, day_count-epoch, day_count-next_year, day_count-next_month, day_count-day, day_count-last_of_year}
 use Rattle.jiff_core.proofs.DateLemmas.{epoch_day_injective}
 use Rattle.jiff_core.proofs.DateTimeLemmas.{civil_nanos-parts, time_nanos_bound}
-use Rattle.jiff.specs.Words.{iso_datetime_text}
-use Rattle.tpcc_money.specs.Texts.{year_and_day, month_and_day, date_text, time_text, moment_text}
-use Rattle.tpcc_money.proofs.DigitLemmas.{padded_two, padded_four}
+use Rattle.tpcc_money.specs.Texts.{padded, year_and_day, month_and_day, date_text, time_text, moment_text}
+
+-- what is written of a civil date and time
+abbrev pub written : DateTime → List ℕ
+written civil = padded 4 (unsigned_abs civil.date.year)
+    ++ 45 ∷ (padded 2 civil.date.month ++ 45 ∷ (padded 2 civil.date.day
+    ++ 84 ∷ (padded 2 civil.time.hour ++ 58 ∷ (padded 2 civil.time.minute ++ 58 ∷ padded 2 civil.time.second))))
 
 -- so many days from 1 January of the year -10000 lie before the day of that place in the year, which has such a day
 pub record IsDayOfYear (count year day : ℕ) : Type 0 where
@@ -98,28 +102,23 @@ year_bound (suc years) year day =
     year_bound_by (nat_lt day (days_in_year (pos year))) year day (year + suc years) (year_and_day years (year + 1) (day - days_in_year (pos year))) (omega arith)
     (omega (arith, year_bound years (year + 1) (day - days_in_year (pos year))))
 
+-- the parts in the order in which they are written, and as the text puts them together
+joined : (year month day hour minute second : List ℕ)
+    → year ++ 45 ∷ (month ++ 45 ∷ (day ++ 84 ∷ (hour ++ 58 ∷ (minute ++ 58 ∷ second)))) ≡ ((year ++ 45 ∷ month) ++ 45 ∷ day) ++ 84 ∷ ((hour ++ 58 ∷ minute) ++ 58 ∷ second)
+joined year month day hour minute second =
+    let time = (hour ++ 58 ∷ minute) ++ 58 ∷ second in
+    sym (append_assoc (year ++ 45 ∷ month) (45 ∷ day) (84 ∷ time)
+    ∙ append_assoc year (45 ∷ month) (45 ∷ (day ++ 84 ∷ time))
+    ∙ ap (λ rest. year ++ 45 ∷ (month ++ 45 ∷ (day ++ 84 ∷ rest))) (append_assoc hour (58 ∷ minute) (58 ∷ second)))
+
 text_by : (civil : DateTime) (year month day seconds : ℕ) → civil.date.year ≡ pos year → civil.date.month ≡ month → civil.date.day ≡ day
-    → civil.time.hour ≡ seconds / 3600 → civil.time.minute ≡ seconds / 60 % 60 → civil.time.second ≡ seconds % 60 → civil.time.subsec_nanosecond ≡ 0
-    → year ≤ 9999 → month ≤ 12 → day ≤ 31 → seconds < 86400 → iso_datetime_text civil ≡ date_text year month day ++ 84 ∷ time_text seconds
-text_by civil year month day seconds y mo d h mi s sub ys ms ds ss =
-    rw (
-      padded_four year (omega (arith, ys)),
-      padded_two month (omega (arith, ms)),
-      padded_two day (omega (arith, ds)),
-      padded_two (seconds / 3600) (omega (arith, ss)),
-      padded_two (seconds / 60 % 60) (omega arith),
-      padded_two (seconds % 60) (omega arith),
-      y,
-      mo,
-      d,
-      h,
-      mi,
-      s,
-      sub,
-    ) refl
+    → civil.time.hour ≡ seconds / 3600 → civil.time.minute ≡ seconds / 60 % 60 → civil.time.second ≡ seconds % 60
+    → written civil ≡ date_text year month day ++ 84 ∷ time_text seconds
+text_by civil year month day seconds y mo d h mi s =
+    rw (y, mo, d, h, mi, s) (joined (padded 4 year) (padded 2 month) (padded 2 day) (padded 2 (seconds / 3600)) (padded 2 (seconds / 60 % 60)) (padded 2 (seconds % 60)))
 
 -- and the text of that moment
-pub text_is : (civil : DateTime) (s : ℕ) → s < 4102444800 → civil_nanos civil ≡ pos (s * 1000000000) → iso_datetime_text civil ≡ moment_text s
+pub text_is : (civil : DateTime) (s : ℕ) → s < 4102444800 → civil_nanos civil ≡ pos (s * 1000000000) → written civil ≡ moment_text s
 unfolding moment_text
 text_is civil s small e =
     let parts = civil_nanos-parts civil in
@@ -129,11 +128,10 @@ text_is civil s small e =
     let hour : civil.time.hour ≡ s % 86400 / 3600 = omega (arith, time) in
     let minute : civil.time.minute ≡ s % 86400 / 60 % 60 = omega (arith, time) in
     let second : civil.time.second ≡ s % 86400 % 60 = omega (arith, time) in
-    let whole : civil.time.subsec_nanosecond ≡ 0 = omega (arith, time) in
     let year = year_and_day 130 1970 (s / 86400) in
     let in_year : IsDayOfYear (4371953 + s / 86400) year.0 year.1 = year_and_day_is 130 1970 (s / 86400) (4371953 + s / 86400) (omega (arith, day_count-epoch)) (omega (arith, small)) in
     let date = month_and_day year.0 11 1 year.1 in
     let is : IsDate (4371953 + s / 86400) year.0 date.0 date.1 = month_and_day_is year.0 11 1 year.1 (4371953 + s / 86400) (omega arith) refl in_year.counted (omega (arith, in_year.counted, in_year.within)) in
     let year_small : year.0 ≤ 9999 = omega (arith, year_bound 130 1970 (s / 86400)) in
     let same = date_is civil.date (4371953 + s / 86400) year.0 date.0 date.1 is year_small (omega (arith, signed_arith, day)) in
-    text_by civil year.0 date.0 date.1 (s % 86400) same.0 same.1 same.2 hour minute second whole year_small is.last_month (omega (arith, is.last_day, days_in_month_bounds (pos year.0) date.0)) (omega arith)
+    text_by civil year.0 date.0 date.1 (s % 86400) same.0 same.1 same.2 hour minute second

@@ -1,13 +1,12 @@
 //! Points in time.
 ghost use Rattle.std.specs.Prelude.{◌≡◌, ◌<◌, ◌*◌, pos, nat_le, if◌then◌else◌, IfOk, Some, None};
-ghost use Rattle.jiff.specs.Words.{civil_nanos};
+ghost use Rattle.jiff_core.specs.DateTime.{civil_nanos};
 ghost use Rattle.tpcc_money.specs.Texts.{moment_text};
 
 use crate::memory::NoMemory;
-use jiff::Timestamp;
-use jiff::civil::DateTime;
-use jiff::tz::Offset;
+use jiff_core::civil::DateTime;
 use std::alloc::Global;
+use std::fmt;
 use std::marker::Model;
 
 /// A moment in whole seconds since the start of 1970 in UTC, before the year 2100.
@@ -61,7 +60,7 @@ impl Moment {
     pub fn text(self, alloc: Global) -> Result<Vec<u8>, NoMemory>
         ensures { IfOk result (λ text. text.items ≡ moment_text self) }
     {
-        match self.civil().to_string(alloc) {
+        match self.to_string(alloc) {
             Ok(text) => Ok(text.into_bytes()),
             Err(_) => Err(NoMemory),
         }
@@ -71,7 +70,24 @@ impl Moment {
         ensures instant { civil_nanos result ≡ pos (self * 1000000000) }
         ensures range { self < 4102444800 }
     {
-        let since_1970 = Timestamp::from_second(i64::from(self.seconds())).unwrap();
-        Offset::UTC.to_datetime(since_1970)
+        DateTime::from_nanosecond_in_range(i128::from(self.seconds()) * 1_000_000_000)
+    }
+}
+
+/// The civil date and time in UTC: `1970-01-01T00:00:00`.
+impl fmt::Display for Moment {
+    ghost use Rattle.std.specs.Prelude.{Some};
+    ghost use Rattle.tpcc_money.specs.Texts.{moment_text};
+
+    ghost output = { λ m. Some (moment_text m) };
+
+    fn fmt<W: fmt::Write>(&self, f: &mut fmt::Formatter<W>) -> fmt::Result {
+        let DateTime { date, time } = self.civil();
+        let year = date.year.unsigned_abs();
+        write!(
+            f,
+            "{year:04}-{:02}-{:02}T{:02}:{:02}:{:02}",
+            date.month, date.day, time.hour, time.minute, time.second
+        )
     }
 }

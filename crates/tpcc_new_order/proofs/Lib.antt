@@ -1,3 +1,4 @@
+pub mod BrandLemmas
 pub mod SupplyLemmas
 pub mod RefusalLemmas
 pub mod LineLemmas

@@ -28,7 +28,8 @@ pub(crate) trait TableRows {
         requires district_most { district ≤ 10 }
         requires least { 1 ≤ number }
         requires most { number ≤ most }
-        ensures { IfOk result (λ _. rows.new.items ≡ rows.old.items ++ rows_of self.now warehouse district number) };
+        ensures { IfOk result (λ _. rows.new.items
+            ≡ rows.old.items ++ rows_of self.now warehouse district number) };
 }
 
 /// One more row.

@@ -45,7 +45,8 @@ pub(crate) fn plain_is_sound(scale: Scale)
 }
 
 pub(crate) fn seeded_is_sound(scale: Scale, seed: u64, moment: Moment)
-    ensures { IsSoundOpening scale.customers (seeded_rows (record { scale = scale; seed = seed; moment = moment })) }
+    ensures { IsSoundOpening scale.customers
+        (seeded_rows (record { scale = scale; seed = seed; moment = moment })) }
 {
     let _ = scale.customers();
     let _ = moment.seconds();

@@ -45,7 +45,8 @@ impl Model for Scale {
 impl Scale {
     /// A scale of 1 to 100 warehouses, 10 to 3,000 customers by tens, 100 to 100,000 items.
     pub fn new(warehouses: u32, customers: u32, items: u32) -> Result<Scale, ScaleFault>
-        ensures ok { IfOk result (λ s. s ≡ record { warehouses = warehouses; customers = customers; items = items }) }
+        ensures ok { IfOk result (λ s. s
+            ≡ record { warehouses = warehouses; customers = customers; items = items }) }
         ensures warehouses { IsErrOf result ScaleFault.Warehouses
             ↔ (is_within 1 100 warehouses ≡ false) }
         ensures customers { IsErrOf result ScaleFault.Customers

@@ -1,5 +1,5 @@
 -- 4.3.3: the plain opening: each row by its number, with no draw.
-use Rattle.std.specs.Prelude.{ℕ, ◌+◌, ◌-◌, ◌*◌, ◌%◌, ◌==◌, true, List, [], ◌++◌, map, replicate, pos, neg_ℤ, Some, None, if◌then◌else◌, codes}
+use Rattle.std.specs.Prelude.{ℕ, ◌+◌, ◌-◌, ◌*◌, ◌%◌, ◌==◌, true, List, ◌++◌, map, replicate, pos, neg_ℤ, Some, None, if◌then◌else◌, codes}
 use Rattle.std.specs.List.{range_with_len}
 use Rattle.tpcc_money.specs.Texts.{padded}
 use Rattle.tpcc_rows.specs.LastName.{last_name}
@@ -13,7 +13,7 @@ use Rattle.tpcc_rows.specs.declared.rows.OrderLineRow.{OrderLineRow}
 use Rattle.tpcc_rows.specs.declared.rows.NewOrderRow.{NewOrderRow}
 use Rattle.tpcc_rows.specs.declared.rows.ItemRow.{ItemRow}
 use Rattle.tpcc_rows.specs.declared.rows.StockRow.{StockRow}
-use Rattle.tpcc_rows.specs.Tables.{Rows, State}
+use Rattle.tpcc_rows.specs.Tables.{Rows}
 use Rattle.tpcc_rows.specs.Layout.{Scale, RowRules, laid_out, is_delivered}
 
 abbrev pub plain_address : Address
@@ -143,7 +143,3 @@ plain_rules s =
 
 unfoldable pub plain_rows : Scale → Rows
 plain_rows s = laid_out s (plain_rules s)
-
--- the opening has no ticket
-abbrev pub plain_opening : Scale → State
-plain_opening s = record { rows = plain_rows s; queue = [] }

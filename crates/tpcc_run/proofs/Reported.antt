@@ -1,5 +1,6 @@
 -- The totals of a settled book.
-use Rattle.std.proofs.Common.{◌≡◌, ℕ, List, Option}
+use Rattle.std.proofs.Common.{◌≡◌, refl, ℕ, List, Option, Some, None, inl, inr}
+use Rattle.std.specs.Prelude.{Result, Ok, Err, OnErr}
 use Rattle.std.specs.Io.KnownBytes.{Appends}
 use Rattle.tpcc_population.specs.declared.opening.Opening.{Opening}
 use Rattle.tpcc_book.specs.Past.{Past}
@@ -8,8 +9,9 @@ use Rattle.tpcc_book.specs.Seats.{Seated, purses_of}
 use Rattle.tpcc_terminal.specs.declared.receipts.Receipt.{Receipt}
 use Rattle.tpcc_terminal.specs.declared.report.Report.{Report}
 use Rattle.tpcc_audit.specs.Settlement.{IsSettled}
+use Rattle.tpcc_show.specs.declared.parts.Part.{Part}
 use Rattle.tpcc_show.specs.Shown.{book_report}
-use Rattle.tpcc_run.specs.Outcome.{HasReported, HasTotals}
+use Rattle.tpcc_run.specs.Outcome.{HasCut, HasReported, HasShownPart, HasTotals}
 
 -- a settled book has its totals
 pub totals_of : (opening : Opening) (purses : List Seated) (receipts : List Receipt) (book : Past) (report : Report)
@@ -37,3 +39,13 @@ reported opening book report before after told written = record {
   told = told;
   written = rw (told.entries_is, told.paid_is, told.rise_is) written;
 }
+
+-- where nothing was written
+pub nothing_shown : (opening : Opening) (parts : List Part) (sink : Option (List ℕ)) → HasShownPart opening parts sink sink
+nothing_shown opening parts None = inr tt
+nothing_shown opening parts (Some bytes) = inr refl
+
+pub cut_shown : {X E : Type 0} (opening : Opening) (parts : List Part) (before after : Option (List ℕ)) (r : Result X E)
+    → OnErr r (HasCut opening parts before after) → OnErr r (HasShownPart opening parts before after)
+cut_shown opening parts before after (Ok x) cut = tt
+cut_shown opening parts before after (Err e) cut = inl cut

@@ -1,6 +1,6 @@
 -- What a run is made of, and what it comes to.
 use Rattle.std.specs.Prelude.{ℕ, ⊤, ◌≡◌, ◌⊎◌, ◌≤◌, List, ◌++◌, Option, length}
-use Rattle.std.specs.Io.KnownBytes.{Appends}
+use Rattle.std.specs.Io.KnownBytes.{Appends, Keeps}
 use Rattle.tpcc_population.specs.declared.opening.Opening.{Opening}
 use Rattle.tpcc_book.specs.Past.{Past, IsKept, rise_of}
 use Rattle.tpcc_book.specs.Purses.{Held}
@@ -8,6 +8,7 @@ use Rattle.tpcc_book.specs.Serve.{rooms_of, entries_of, paid_of}
 use Rattle.tpcc_terminal.specs.declared.receipts.Receipt.{Receipt}
 use Rattle.tpcc_terminal.specs.declared.report.Report.{Report}
 use Rattle.tpcc_terminal.specs.Report.{report_text}
+use Rattle.tpcc_audit.specs.Part.{AppendsPart}
 use Rattle.tpcc_show.specs.declared.parts.Part.{Part}
 use Rattle.tpcc_show.specs.Shown.{shown_text}
 use Rattle.tpcc_run.specs.declared.plan.Plan.{Plan}
@@ -51,6 +52,16 @@ pub record HasShown (opening : Opening) (parts : List Part) (report : Report) (b
   pub book : Past
   pub told : HasTotals opening book report
   pub written : Appends before after (shown_text book parts)
+
+-- some first bytes of these parts of such a book, or nothing where the run came to no such book
+pub record HasCut (opening : Opening) (parts : List Part) (before after : Option (List ℕ)) : Type 0 where
+  pub book : Past
+  pub report : Report
+  pub told : HasTotals opening book report
+  pub part : AppendsPart before after (shown_text book parts)
+
+abbrev pub HasShownPart : Opening → List Part → Option (List ℕ) → Option (List ℕ) → Type 0
+HasShownPart opening parts before after = HasCut opening parts before after ⊎ Keeps before after
 
 -- more receipts were added, or none
 abbrev pub KeepsSome : List Receipt → List Receipt → List Receipt → Type 0

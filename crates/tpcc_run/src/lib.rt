@@ -2,6 +2,7 @@
 #![tactic(auto)]
 
 mod asking;
+mod context;
 mod fault;
 mod gathered;
 mod joining;

@@ -1,13 +1,13 @@
 //! A run.
-ghost use Rattle.std.specs.Prelude.{◌≡◌, ◌≤◌, IfOk, IfSome};
+ghost use Rattle.std.specs.Prelude.{◌≡◌, IfOk, OnErr};
 ghost use Rattle.tpcc_population.specs.declared.opening.Opening.{Opening};
 ghost use Rattle.tpcc_audit.specs.Settlement.{AllSeen};
-ghost use Rattle.tpcc_run.specs.Outcome.{HasReported, HasShown, HasTotals, IsPlan, IsService};
+ghost use Rattle.tpcc_run.specs.Outcome.{HasCut, HasReported, HasShown, HasShownPart, HasTotals, IsPlan};
 
+use crate::context::RunContext;
 use crate::fault::RunFault;
 use crate::gathered::Gathered;
-use crate::plan::{Plan, Service};
-use crate::service::{serve_by_servers, serve_directly};
+use crate::plan::Plan;
 use std::alloc::{AllocError, Global};
 use std::io::Write;
 use std::marker::Brand;
@@ -15,9 +15,8 @@ use std::sync::Wait;
 use std::thread::Threads;
 use tpcc_audit::{DumpFault, settle};
 use tpcc_book::{Blanks, Book, Naming, SeatedPurse, Seating, Turns, UnnamedTurns};
-use tpcc_mailbox::Mailboxes;
 use tpcc_population::{Opening, Scale};
-use tpcc_server::{Job, JobAnswer, Turning};
+use tpcc_server::Turning;
 use tpcc_show::{Part, show};
 use tpcc_terminal::{Receipt, Report};
 
@@ -39,17 +38,18 @@ pub fn run<
     requires make { F.IsAlwaysCallable make }
     ensures reported { IfOk result (λ w. HasReported opening.now (W.contents out) (W.contents w)) }
 {
-    let (out, _) = run_shown(rt, alloc, opening, plan, &[Part::Report], out, make)?;
+    let mut out = out;
+    run_shown(rt, alloc, opening, plan, &[Part::Report], &mut out, make)?;
     Ok(out)
 }
 
 /// Runs the same threads, and writes parts of the settled book in place of the
-/// report: one part alone as it is, several each under a line `== PART`. Answers the writer, and the totals that
-/// the report would have told.
+/// report: one part alone as it is, several each under a line `== PART`. Answers the totals that the report would
+/// have told.
 ///
 /// Faults as of [`run`]; NoMemory also where a growth was refused while a part was written.
 pub fn run_shown<
-    W: Write + Drop,
+    W: Write,
     C: Turning + Send,
     F: Fn(Global) -> Result<C, AllocError> + Sync,
     R: Threads + Wait + Sync,
@@ -59,21 +59,24 @@ pub fn run_shown<
     opening: &Opening,
     plan: &Plan,
     parts: &[Part],
-    out: W,
+    out: &mut W,
     make: F,
-) -> Result<(W, Report), RunFault>
+) -> Result<Report, RunFault>
     requires plan { IsPlan plan.now }
     requires make { F.IsAlwaysCallable make }
-    ensures shown { IfOk result (λ r.
-        HasShown opening.now parts.now r.1 (W.contents out) (W.contents r.0)) }
+    ensures shown { IfOk result (λ report.
+        HasShown opening.now parts.now report (W.contents out.old) (W.contents out.new)) }
+    ensures part { OnErr result
+        (HasShownPart opening.now parts.now (W.contents out.old) (W.contents out.new)) }
 {
     run_named::<Brand, W, C, F, R>(rt, alloc, opening, plan, parts, out, &make, Blanks::new())
 }
 
 // The same with a name for the book.
+#[tactic(auto, using(crate::proofs::Reported::nothing_shown, crate::proofs::Reported::cut_shown))]
 fn run_named<
     N: Naming + Send + Sync,
-    W: Write + Drop,
+    W: Write,
     C: Turning + Send,
     F: Fn(Global) -> Result<C, AllocError> + Sync,
     R: Threads + Wait + Sync,
@@ -83,16 +86,18 @@ fn run_named<
     opening: &Opening,
     plan: &Plan,
     parts: &[Part],
-    out: W,
+    out: &mut W,
     make: &F,
     blanks: Blanks,
-) -> Result<(W, Report), RunFault>
+) -> Result<Report, RunFault>
     requires plan { IsPlan plan.now }
     requires make { F.IsAlwaysCallable make.now }
     requires entries { blanks.entries.name ≡ N.entries }
     requires cents { blanks.cents.name ≡ N.cents }
-    ensures shown { IfOk result (λ r.
-        HasShown opening.now parts.now r.1 (W.contents out) (W.contents r.0)) }
+    ensures shown { IfOk result (λ report.
+        HasShown opening.now parts.now report (W.contents out.old) (W.contents out.new)) }
+    ensures part { OnErr result
+        (HasShownPart opening.now parts.now (W.contents out.old) (W.contents out.new)) }
 {
     let settled = settle_book::<N, C, F, R>(rt, alloc, opening, plan, make, blanks)?;
     let shown = show_settled(alloc, &settled, parts, out, opening);
@@ -155,52 +160,16 @@ fn run_seated<
     ensures settled { IfOk result (λ s. HasTotals turns.opening s.book s.report) }
 {
     let (turns, first) = turns.named::<T>();
-    let all = gather(rt, alloc, scale, plan, make, &turns, first);
-    end_run(turns, all)
-}
-
-// The purses and receipts that come back.
-fn gather<
-    N: Naming + Send + Sync,
-    T: Seating + Send + Sync,
-    C: Turning + Send,
-    F: Fn(Global) -> Result<C, AllocError> + Sync,
-    R: Threads + Wait + Sync,
->(
-    rt: &R,
-    alloc: Global,
-    scale: Scale,
-    plan: &Plan,
-    make: &F,
-    turns: &Turns<N, T>,
-    first: SeatedPurse<N, T>,
-) -> Gathered<N, T>
-    requires plan { IsPlan plan.now }
-    requires make { F.IsAlwaysCallable make.now }
-    requires room { first.purse.room ≡ 10000 }
-    ensures seen { AllSeen result.purses.items result.receipts.items }
-{
-    let Some((count, retire)) = servers_of(plan.service) else {
-        return serve_directly(rt, alloc, turns, first, make, scale, plan);
+    let context = RunContext {
+        rt,
+        alloc,
+        turns: &turns,
+        make,
+        scale,
+        plan: *plan,
     };
-    let boxes = plan.terminals as usize + 1;
-    match Mailboxes::<Job<N, T, C>, JobAnswer<N, T>>::new(alloc, boxes) {
-        Ok((mailboxes, idles, serving)) => serve_by_servers(
-            rt, alloc, &mailboxes, turns, idles, serving, first, make, scale, plan, count, retire,
-        ),
-        Err(_) => Gathered::without_memory(alloc),
-    }
-}
-
-// How many servers there are, and after how many jobs all but the first end; None where terminals make their own turns.
-fn servers_of(service: Service) -> Option<(u32, u32)>
-    requires service { IsService service }
-    ensures most { IfSome result (λ servers. servers.0 ≤ 16) }
-{
-    match service {
-        Service::Servers { count, retire } => Some((count, retire)),
-        Service::Direct => None,
-    }
+    let all = context.gather(first);
+    end_run(turns, all)
 }
 
 // The totals of a run that nothing stopped.
@@ -237,21 +206,23 @@ fn totals_of<N: Naming, T: Seating>(
 }
 
 // Writes parts of a settled book.
-fn show_settled<N: Naming, W: Write + Drop>(
+fn show_settled<N: Naming, W: Write>(
     alloc: Global,
     settled: &SettledBook<N>,
     parts: &[Part],
-    out: W,
+    out: &mut W,
     opening: &Opening,
-) -> Result<(W, Report), RunFault>
+) -> Result<Report, RunFault>
     requires totals { HasTotals opening.now settled.now.book settled.now.report }
-    ensures shown { IfOk result (λ r.
-        HasShown opening.now parts.now r.1 (W.contents out) (W.contents r.0)) }
+    ensures shown { IfOk result (λ report.
+        HasShown opening.now parts.now report (W.contents out.old) (W.contents out.new)) }
+    ensures part { OnErr result
+        (HasCut opening.now parts.now (W.contents out.old) (W.contents out.new)) }
 {
     let _ = opening;
     let report = settled.report;
     match show(alloc, &settled.book, parts, out) {
-        Ok(out) => Ok((out, report)),
+        Ok(()) => Ok(report),
         Err(DumpFault::Write) => Err(RunFault::Write),
         Err(DumpFault::NoMemory) => Err(RunFault::NoMemory),
     }

@@ -1,160 +1,140 @@
 //! The threads of a run: those of its terminals, and those that serve them, if any.
-ghost use Rattle.std.specs.Prelude.{◌≡◌, ◌+◌, ◌≤◌, ◌<◌, All};
+ghost use Rattle.std.specs.Prelude.{◌≡◌, ◌+◌, ◌≤◌, ◌<◌, All, IfSome};
 ghost use Rattle.tpcc_mailbox.specs.Tokens.{identity, idle_origin, serving_origin};
 ghost use Rattle.tpcc_audit.specs.Settlement.{AllSeen};
+ghost use Rattle.tpcc_run.specs.Outcome.{IsService};
 
+use crate::context::RunContext;
 use crate::fault::RunFault;
 use crate::gathered::Gathered;
-use crate::plan::Plan;
-use crate::servers::{join_servers, start_servers};
-use crate::threads::ask_everything;
+use crate::plan::Service;
+use crate::servers::{Servers, join_servers};
 use crate::way::{Way, by_mailboxes, by_turns};
 use std::alloc::{AllocError, Global};
 use std::sync::Wait;
 use std::thread;
 use std::thread::{Scope, Threads};
-use tpcc_book::{Naming, SeatedPurse, Seating, Turns};
-use tpcc_population::Scale;
-use tpcc_server::{JobIdle, JobMailboxes, JobServing, Turning};
+use tpcc_book::{Naming, SeatedPurse, Seating};
+use tpcc_mailbox::Mailboxes;
+use tpcc_server::{Job, JobAnswer, JobIdle, JobMailboxes, JobServing, Turning};
 
-// Starts the servers, lets the terminals ask them, and joins them once the mailboxes are closed.
-fn drive<
+impl<
     's,
-    E,
     N: Naming + Send + Sync,
     T: Seating + Send + Sync,
     C: Turning + Send,
     F: Fn(Global) -> Result<C, AllocError> + Sync,
     R: Threads + Wait + Sync,
->(
-    scope: &Scope<'s, E>,
-    rt: &'s R,
-    alloc: Global,
-    mailboxes: &'s JobMailboxes<N, T, C>,
-    turns: &'s Turns<N, T>,
-    ways: Vec<Way<'s, N, T, C>>,
-    serving: JobServing<N, T, C>,
-    first: SeatedPurse<N, T>,
-    make: &'s F,
-    scale: Scale,
-    plan: &'s Plan,
-    count: u32,
-    retire: u32,
-) -> Gathered<N, T>
-    requires serving { serving_origin serving ≡ identity mailboxes.now }
-    requires room { plan.now.terminals + count < first.purse.room }
-    requires terminals { plan.now.terminals ≤ 999 }
-    requires make { F.IsAlwaysCallable make.now }
-    ensures seen { AllSeen result.purses.items result.receipts.items }
-{
-    let mut serving = serving;
-    let mut first = first;
-    let wanted = count as usize;
-    let servers = start_servers(
-        scope,
-        rt,
-        alloc,
-        mailboxes,
-        turns,
-        &mut serving,
-        &mut first,
-        count,
-        retire,
-    );
-    let missing = servers.len() < wanted;
-    if servers.is_empty() {
+> RunContext<'s, N, T, F, R> {
+    /// Runs all threads to their end, and gathers the purses and receipts that come back.
+    pub(crate) fn gather(&self, first: SeatedPurse<N, T>) -> Gathered<N, T>
+        requires make { F.IsAlwaysCallable self.now.make.now }
+        requires room { first.purse.room ≡ 10000 }
+        ensures seen { AllSeen result.purses.items result.receipts.items }
+    {
+        let Some(servers) = servers_of(self.plan.service) else {
+            return self.serve_directly(first);
+        };
+        let boxes = self.plan.terminals as usize + 1;
+        match Mailboxes::<Job<N, T, C>, JobAnswer<N, T>>::new(self.alloc, boxes) {
+            Ok((mailboxes, idles, serving)) => {
+                self.serve_by_servers(&mailboxes, idles, serving, first, servers)
+            }
+            Err(_) => Gathered::without_memory(self.alloc),
+        }
+    }
+
+    // Runs all terminals, the delivery runner and the servers to their end.
+    fn serve_by_servers(
+        &self,
+        mailboxes: &JobMailboxes<N, T, C>,
+        idles: Vec<JobIdle<N, T, C>>,
+        serving: JobServing<N, T, C>,
+        first: SeatedPurse<N, T>,
+        servers: Servers,
+    ) -> Gathered<N, T>
+        requires idles { All (λ idle. idle_origin idle ≡ identity mailboxes.now) idles.items }
+        requires serving { serving_origin serving ≡ identity mailboxes.now }
+        requires room { self.now.plan.terminals + servers.count < first.purse.room }
+        requires make { F.IsAlwaysCallable self.now.make.now }
+        ensures seen { AllSeen result.purses.items result.receipts.items }
+    {
+        let Ok(ways) = by_mailboxes(self.alloc, mailboxes, idles) else {
+            return Gathered::without_memory(self.alloc);
+        };
+        thread::scope(
+            thread::scope_env(),
+            self.rt,
+            |scope| -> Gathered<N, T>
+                requires serving { serving_origin serving ≡ identity mailboxes.now }
+                requires room { self.now.plan.terminals + servers.count < first.purse.room }
+                requires make { F.IsAlwaysCallable self.now.make.now }
+                ensures seen { AllSeen result.purses.items result.receipts.items }
+            { self.drive(scope, mailboxes, ways, serving, first, servers) },
+        )
+    }
+
+    // Starts the servers, lets the terminals ask them, and joins them once the mailboxes are closed.
+    fn drive<E>(
+        &'s self,
+        scope: &Scope<'s, E>,
+        mailboxes: &'s JobMailboxes<N, T, C>,
+        ways: Vec<Way<'s, N, T, C>>,
+        serving: JobServing<N, T, C>,
+        first: SeatedPurse<N, T>,
+        servers: Servers,
+    ) -> Gathered<N, T>
+        requires serving { serving_origin serving ≡ identity mailboxes.now }
+        requires room { self.now.plan.terminals + servers.count < first.purse.room }
+        requires make { F.IsAlwaysCallable self.now.make.now }
+        ensures seen { AllSeen result.purses.items result.receipts.items }
+    {
+        let mut serving = serving;
+        let mut first = first;
+        let wanted = servers.count as usize;
+        let handles = self.start_servers(scope, mailboxes, &mut serving, &mut first, servers);
+        let missing = handles.len() < wanted;
+        if handles.is_empty() {
+            mailboxes.close(&mut serving);
+        }
+        let mut all = self.ask_everything(scope, ways, first);
+        if missing {
+            all.note(RunFault::NoMemory);
+        }
         mailboxes.close(&mut serving);
+        join_servers(self.rt, self.alloc, handles, &mut all);
+        all
     }
-    let mut all = ask_everything(scope, rt, alloc, turns, ways, first, make, scale, plan);
-    if missing {
-        all.note(RunFault::NoMemory);
+
+    // Runs all terminals and the delivery runner to their end, each making its own turns.
+    fn serve_directly(&self, first: SeatedPurse<N, T>) -> Gathered<N, T>
+        requires room { self.now.plan.terminals < first.purse.room }
+        requires make { F.IsAlwaysCallable self.now.make.now }
+        ensures seen { AllSeen result.purses.items result.receipts.items }
+    {
+        let count = self.plan.terminals as usize + 1;
+        let Ok(ways) = by_turns::<N, T, C>(self.alloc, self.turns, count) else {
+            return Gathered::without_memory(self.alloc);
+        };
+        thread::scope(
+            thread::scope_env(),
+            self.rt,
+            |scope| -> Gathered<N, T>
+                requires room { self.now.plan.terminals < first.purse.room }
+                requires make { F.IsAlwaysCallable self.now.make.now }
+                ensures seen { AllSeen result.purses.items result.receipts.items }
+            { self.ask_everything(scope, ways, first) },
+        )
     }
-    mailboxes.close(&mut serving);
-    join_servers(rt, alloc, servers, &mut all);
-    all
 }
 
-/// Runs all terminals, the delivery runner and so many servers to their end.
-pub(crate) fn serve_by_servers<
-    N: Naming + Send + Sync,
-    T: Seating + Send + Sync,
-    C: Turning + Send,
-    F: Fn(Global) -> Result<C, AllocError> + Sync,
-    R: Threads + Wait + Sync,
->(
-    rt: &R,
-    alloc: Global,
-    mailboxes: &JobMailboxes<N, T, C>,
-    turns: &Turns<N, T>,
-    idles: Vec<JobIdle<N, T, C>>,
-    serving: JobServing<N, T, C>,
-    first: SeatedPurse<N, T>,
-    make: &F,
-    scale: Scale,
-    plan: &Plan,
-    count: u32,
-    retire: u32,
-) -> Gathered<N, T>
-    requires idles { All (λ idle. idle_origin idle ≡ identity mailboxes.now) idles.items }
-    requires serving { serving_origin serving ≡ identity mailboxes.now }
-    requires room { plan.now.terminals + count < first.purse.room }
-    requires terminals { plan.now.terminals ≤ 999 }
-    requires make { F.IsAlwaysCallable make.now }
-    ensures seen { AllSeen result.purses.items result.receipts.items }
+// How many serve; None where terminals make their own turns.
+fn servers_of(service: Service) -> Option<Servers>
+    requires service { IsService service }
+    ensures most { IfSome result (λ servers. servers.count ≤ 16) }
 {
-    let Ok(ways) = by_mailboxes(alloc, mailboxes, idles) else {
-        return Gathered::without_memory(alloc);
-    };
-    thread::scope(
-        thread::scope_env(),
-        rt,
-        |scope| -> Gathered<N, T>
-            requires serving { serving_origin serving ≡ identity mailboxes.now }
-            requires room { plan.now.terminals + count < first.purse.room }
-            requires terminals { plan.now.terminals ≤ 999 }
-            requires make { F.IsAlwaysCallable make.now }
-            ensures seen { AllSeen result.purses.items result.receipts.items }
-        {
-            drive(
-                scope, rt, alloc, mailboxes, turns, ways, serving, first, make, scale, plan, count,
-                retire,
-            )
-        },
-    )
-}
-
-/// Runs all terminals and the delivery runner to their end, each making its own turns.
-pub(crate) fn serve_directly<
-    N: Naming + Send + Sync,
-    T: Seating + Send + Sync,
-    C: Turning + Send,
-    F: Fn(Global) -> Result<C, AllocError> + Sync,
-    R: Threads + Wait + Sync,
->(
-    rt: &R,
-    alloc: Global,
-    turns: &Turns<N, T>,
-    first: SeatedPurse<N, T>,
-    make: &F,
-    scale: Scale,
-    plan: &Plan,
-) -> Gathered<N, T>
-    requires room { plan.now.terminals < first.purse.room }
-    requires terminals { plan.now.terminals ≤ 999 }
-    requires make { F.IsAlwaysCallable make.now }
-    ensures seen { AllSeen result.purses.items result.receipts.items }
-{
-    let Ok(ways) = by_turns::<N, T, C>(alloc, turns, plan.terminals as usize + 1) else {
-        return Gathered::without_memory(alloc);
-    };
-    thread::scope(
-        thread::scope_env(),
-        rt,
-        |scope| -> Gathered<N, T>
-            requires room { plan.now.terminals < first.purse.room }
-            requires terminals { plan.now.terminals ≤ 999 }
-            requires make { F.IsAlwaysCallable make.now }
-            ensures seen { AllSeen result.purses.items result.receipts.items }
-        { ask_everything(scope, rt, alloc, turns, ways, first, make, scale, plan) },
-    )
+    match service {
+        Service::Servers { count, retire } => Some(Servers { count, retire }),
+        Service::Direct => None,
+    }
 }

@@ -4,6 +4,7 @@ ghost use Rattle.tpcc_terminal.specs.Receipts.{AllStand};
 ghost use Rattle.tpcc_run.specs.Asking.{HasAskedAll, HasAskedNext, IsEndless, IsNext};
 
 use crate::asking::{Asked, ask_nothing, ask_once};
+use crate::context::RunContext;
 use crate::fault::RunFault;
 use crate::operator::Operator;
 use crate::promises::Back;
@@ -53,77 +54,68 @@ fn next_request(role: Role, terminal: &mut Terminal, moment: Moment) -> Result<R
     }
 }
 
-/// Asks the next request, by a call of its own.
-pub(crate) fn ask_next<
-    's,
+impl<
+    'r,
     N: Naming,
     T: Seating,
     C: Turning,
     F: Fn(Global) -> Result<C, AllocError>,
     R: Wait,
->(
-    rt: &R,
-    alloc: Global,
-    operator: Operator<'s, N, T, C>,
-    role: Role,
-    make: &F,
-    moment: Moment,
-) -> Asked<'s, N, T, C>
-    requires receipts { AllStand operator.purse.front operator.terminal.receipts }
-    requires make { F.IsAlwaysCallable make.now }
-    ensures receipts { IfSome result.operator (λ s. AllStand s.purse.front s.terminal.receipts) }
-    ensures back { result.fault ≡ None → IsSome result.operator }
-    ensures asked { result.fault ≡ None → IfSome result.operator (λ s. HasAskedNext role moment
-        (record { purse = operator.entry.purse; station = operator.entry.terminal })
-        (record { purse = s.purse; station = s.terminal })) }
-{
-    let mut operator = operator;
-    let Ok(call) = make(alloc) else {
-        return ask_nothing(operator);
-    };
-    let Ok(request) = next_request(role, &mut operator.terminal, moment) else {
-        return ask_nothing(operator);
-    };
-    ask_once(rt, operator, request, call)
-}
-
-/// Asks so many requests, each by a call of its own, or up to the role's end. It stops where memory is refused,
-/// and where its job is still out when nobody serves any more.
-pub(crate) fn ask_all<
-    's,
-    N: Naming,
-    T: Seating,
-    C: Turning,
-    F: Fn(Global) -> Result<C, AllocError>,
-    R: Wait,
->(
-    rt: &R,
-    alloc: Global,
-    operator: Operator<'s, N, T, C>,
-    role: Role,
-    make: &F,
-    moment: Moment,
-    most: u32,
-) -> Back<'s, N, T, C>
-    requires receipts { AllStand operator.purse.front operator.terminal.receipts }
-    requires make { F.IsAlwaysCallable make.now }
-    ensures receipts { IfSome result.operator (λ s. AllStand s.purse.front s.terminal.receipts) }
-    ensures back { result.fault ≡ None → IsSome result.operator }
-    ensures asked { result.fault ≡ None → IfSome result.operator (λ s. HasAskedAll role most moment
-        (record { purse = operator.entry.purse; station = operator.entry.terminal })
-        (record { purse = s.purse; station = s.terminal })) }
-{
-    let mut operator = operator;
-    for _ in 0..most {
-        let asked = ask_next(rt, alloc, operator, role, make, moment);
-        match next_operator(role, asked) {
-            Ok(next) => operator = next,
-            Err(back) => return back,
-        }
+> RunContext<'r, N, T, F, R> {
+    /// Asks the next request, by a call of its own.
+    pub(crate) fn ask_next<'s>(
+        &self,
+        operator: Operator<'s, N, T, C>,
+        role: Role,
+    ) -> Asked<'s, N, T, C>
+        requires receipts { AllStand operator.purse.front operator.terminal.receipts }
+        requires make { F.IsAlwaysCallable self.now.make.now }
+        ensures receipts { IfSome result.operator (λ s. AllStand s.purse.front s.terminal.receipts) }
+        ensures back { result.fault ≡ None → IsSome result.operator }
+        ensures asked { result.fault ≡ None → IfSome result.operator (λ s.
+            HasAskedNext role self.now.plan.moment
+            (record { purse = operator.entry.purse; station = operator.entry.terminal })
+            (record { purse = s.purse; station = s.terminal })) }
+    {
+        let mut operator = operator;
+        let Ok(call) = (self.make)(self.alloc) else {
+            return ask_nothing(operator);
+        };
+        let Ok(request) = next_request(role, &mut operator.terminal, self.plan.moment) else {
+            return ask_nothing(operator);
+        };
+        ask_once(self.rt, operator, request, call)
     }
-    Back {
-        operator: Some(operator),
-        fault: None,
+
+    /// Asks so many requests, each by a call of its own, or up to the role's end. It stops where memory is refused,
+    /// and where its job is still out when nobody serves any more.
+    pub(crate) fn ask_all<'s>(
+        &self,
+        operator: Operator<'s, N, T, C>,
+        role: Role,
+        most: u32,
+    ) -> Back<'s, N, T, C>
+        requires receipts { AllStand operator.purse.front operator.terminal.receipts }
+        requires make { F.IsAlwaysCallable self.now.make.now }
+        ensures receipts { IfSome result.operator (λ s. AllStand s.purse.front s.terminal.receipts) }
+        ensures back { result.fault ≡ None → IsSome result.operator }
+        ensures asked { result.fault ≡ None → IfSome result.operator (λ s.
+            HasAskedAll role most self.now.plan.moment
+            (record { purse = operator.entry.purse; station = operator.entry.terminal })
+            (record { purse = s.purse; station = s.terminal })) }
+    {
+        let mut operator = operator;
+        for _ in 0..most {
+            let asked = self.ask_next(operator, role);
+            match next_operator(role, asked) {
+                Ok(next) => operator = next,
+                Err(back) => return back,
+            }
+        }
+        Back {
+            operator: Some(operator),
+            fault: None,
+        }
     }
 }
 

@@ -1,5 +1,4 @@
 mod WorkedScripts
-pub mod Parts
 pub mod Turns
 pub mod Runs
 pub mod Plainly

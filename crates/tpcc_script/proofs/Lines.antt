@@ -14,10 +14,10 @@ use Rattle.tpcc_script.specs.Run.{Shows, HasServed}
 use Rattle.tpcc_script.specs.Script.{parts_of, onto, lines_say, rest_says, then_says, call_of, ends, fails}
 use Rattle.tpcc_script.specs.Steps.{says, IsLine, IsRead, IsFaultOf, IsLineServed, IsLineUnshown, IsLineHeld, IsAnswered, IsStopped, IsEnd, IsFault}
 use Rattle.tpcc_script.specs.Attempts.{HasGivenUp, IsNoWorse}
-use Rattle.tpcc_script.specs.Part.{AppendsPart, Passes}
+use Rattle.tpcc_audit.specs.Part.{AppendsPart, Passes}
 use Rattle.tpcc_script.specs.declared.watch.Watch.{Watch}
 use Rattle.std.specs.Io.KnownBytes.{Appends}
-use Rattle.tpcc_script.proofs.Parts.{part_of_more}
+use Rattle.tpcc_audit.proofs.Parts.{part_of_more}
 
 -- bytes put before the first part
 abbrev pub onto_all : List ℕ → List (List ℕ) → List (List ℕ)

@@ -9,8 +9,8 @@ use Rattle.tpcc_script.specs.Script.{Script, script_of, with_call, ends, fails}
 use Rattle.tpcc_script.specs.Book.{Book}
 use Rattle.tpcc_script.specs.Run.{Shows, Prints, Wrote, WroteFirst, WroteButLast, IsRun, HasRun}
 use Rattle.tpcc_script.specs.Steps.{says, IsLineServed, IsLineUnshown, IsEnd, IsStep, IsStillBroken, IsLineBroken}
-use Rattle.tpcc_script.specs.Part.{Passes}
-use Rattle.tpcc_script.proofs.Parts.{all_wait, passes-on, passes-all, passes-part, passes-some}
+use Rattle.tpcc_audit.specs.Part.{Passes}
+use Rattle.tpcc_audit.proofs.Parts.{all_wait, passes-on, passes-all, passes-part, passes-some}
 
 abbrev pub with_calls : List Call → Script → Script
 with_calls [] script = script

@@ -16,16 +16,6 @@ abbrev pub HasRead : Watch → Watch → Option (List ℕ) → Option (List ℕ)
 HasRead old new left after (Done byte) = TakesByte left after byte
 HasRead old new left after Again = Keeps left after × (new.retries < old.retries)
 
-pub record HasTaken (held now : Option (List ℕ)) (bytes : List ℕ) (count : ℕ) : Type 0 where
-  pub least : 1 ≤ count
-  pub most : count ≤ length bytes
-  pub added : Appends held now (take count bytes)
-
--- some first bytes were written, or the call was interrupted and one retry less is left
-abbrev pub HasWritten : Watch → Watch → Option (List ℕ) → Option (List ℕ) → List ℕ → Attempt ℕ → Type 0
-HasWritten old new held now bytes (Done count) = HasTaken held now bytes count × (new.retries ≡ 1000)
-HasWritten old new held now bytes Again = Keeps held now × (new.retries < old.retries)
-
 -- the writer was flushed, or the call was interrupted and one retry less is left
 abbrev pub HasFlushed : Watch → Watch → Attempt (Unit {0}) → Type 0
 HasFlushed old new (Done done) = ⊤

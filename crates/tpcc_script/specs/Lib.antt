@@ -3,7 +3,6 @@ pub mod Sayable
 pub mod Book
 pub mod Run
 pub mod Steps
-pub mod Part
 pub mod Attempts
 pub mod Reading
 pub mod Session

@@ -2,6 +2,7 @@
 use Rattle.std.specs.Prelude.{ℕ, List, [], Option, Some, Result}
 use Rattle.std.specs.Io.KnownBytes.{Appends}
 use Rattle.tpcc_book.specs.Past.{Past}
+use Rattle.tpcc_audit.specs.Part.{AppendsPart}
 use Rattle.tpcc_show.specs.declared.parts.Part.{Part}
 use Rattle.tpcc_show.specs.Shown.{served_text}
 use Rattle.tpcc_script.specs.declared.fault.ScriptFault.{ScriptFault}
@@ -17,3 +18,11 @@ pub record HasShown (start : Book) (script : Script) (asked : List Part) (old ne
   pub screens : List ℕ
   pub ran : IsCounted start script (Some []) (Some screens) (seen book) ended
   pub written : Appends old new (served_text screens book asked)
+
+-- a script ran so, and some first bytes of the parts of the book that it left were written
+pub record HasShownPart (start : Book) (script : Script) (asked : List Part) (old new : Option (List ℕ)) : Type 0 where
+  pub book : Past
+  pub screens : List ℕ
+  pub ended : Result ℕ ScriptFault
+  pub ran : IsCounted start script (Some []) (Some screens) (seen book) ended
+  pub part : AppendsPart old new (served_text screens book asked)

@@ -6,7 +6,7 @@ use Rattle.tpcc_script.specs.declared.fault.ScriptFault.{ScriptFault}
 use Rattle.tpcc_script.specs.declared.fault.ScriptFault.TheVariants.{Bad, Cut, LongLine, TooManyLines, Read, Write, NoMemory}
 use Rattle.tpcc_script.specs.Script.{Script, call_of, lines_say, parts_of, then_says, with_call, ends, fails}
 use Rattle.tpcc_script.specs.Book.{Book}
-use Rattle.tpcc_script.specs.Part.{AppendsPart, Passes}
+use Rattle.tpcc_audit.specs.Part.{AppendsPart, Passes}
 use Rattle.tpcc_script.specs.Run.{Shows}
 
 -- what the bytes say, from a line on

@@ -1,23 +1,21 @@
 //! Screens that wait to be written.
-ghost use Rattle.std.specs.Prelude.{◌≡◌, [], ◌++◌, IfErr, OnErr, OnOk, if◌then◌else◌, true};
+ghost use Rattle.std.specs.Prelude.{◌≡◌, [], ◌++◌, IfErr, OnErr, OnOk, true};
 ghost use Rattle.std.specs.Io.KnownBytes.{Appends};
+ghost use Rattle.tpcc_audit.specs.Part.{AppendsPart, Passes};
 ghost use Rattle.tpcc_script.specs.Attempts.{IsNoWorse};
-ghost use Rattle.tpcc_script.specs.Part.{AppendsPart, Passes};
 
 use crate::fault::ScriptFault;
 use crate::watch::Watch;
-use crate::writer::{flush, put_all};
+use crate::writer::flush;
 use std::alloc::Global;
 use std::io::Write;
 use std::marker::Model;
-
-/// How many bytes wait at most.
-const MOST_HELD: usize = 65_536;
+use tpcc_audit::Blocks;
 
 /// Screens that were made and not yet written, so that they go out in blocks.
 #[derive(Drop)]
 pub struct Held {
-    bytes: Vec<u8>,
+    blocks: Blocks,
 }
 
 impl Model for Held {
@@ -25,7 +23,7 @@ impl Model for Held {
 
     ghost Value = { List ℕ };
 
-    ghost view = { λ h. h.bytes.items };
+    ghost view = { λ h. h.blocks };
 }
 
 impl Held {
@@ -34,17 +32,8 @@ impl Held {
         ensures { result ≡ [] }
     {
         Held {
-            bytes: Vec::new(alloc),
+            blocks: Blocks::new(alloc),
         }
-    }
-
-    // Whether there is room for a screen, which then waits.
-    fn holds(&mut self, screen: &[u8]) -> bool
-        ensures { self.new ≡ (if result then self.old ++ screen.now else self.old) }
-    {
-        screen.len() <= MOST_HELD
-            && self.bytes.len() <= MOST_HELD - screen.len()
-            && self.bytes.extend_from_slice(screen).is_ok()
     }
 
     /// Lets a screen wait; where there is no room, what waits is written, and the screen too where it is too long to
@@ -62,14 +51,13 @@ impl Held {
         ensures gave_up { IfErr result
             (λ f. (f ≡ ScriptFault.Write) × (watch.new.writer_failed ≡ true)) }
     {
-        if self.holds(screen) {
-            return Ok(());
+        match self.blocks.put(out, screen) {
+            Ok(()) => Ok(()),
+            Err(_) => {
+                watch.writer_failed = true;
+                Err(ScriptFault::Write)
+            }
         }
-        self.write(out, watch)?;
-        if self.holds(screen) {
-            return Ok(());
-        }
-        put_all(out, watch, screen)
     }
 
     // Writes what waits.
@@ -82,9 +70,13 @@ impl Held {
         ensures gave_up { IfErr result
             (λ f. (f ≡ ScriptFault.Write) × (watch.new.writer_failed ≡ true)) }
     {
-        put_all(out, watch, self.bytes.as_slice())?;
-        self.bytes.clear();
-        Ok(())
+        match self.blocks.end(out) {
+            Ok(()) => Ok(()),
+            Err(_) => {
+                watch.writer_failed = true;
+                Err(ScriptFault::Write)
+            }
+        }
     }
 
     /// Writes what waits, and flushes the writer.

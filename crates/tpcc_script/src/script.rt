@@ -5,7 +5,7 @@ ghost use Rattle.tpcc_script.specs.Attempts.{HasGivenUp};
 ghost use Rattle.tpcc_script.specs.Script.{script_of};
 ghost use Rattle.tpcc_script.specs.Run.{HasRun, IsCounted, IsRun};
 ghost use Rattle.tpcc_script.specs.Steps.{IsAnswered, IsStep};
-ghost use Rattle.tpcc_script.specs.Part.{AppendsPart, Passes};
+ghost use Rattle.tpcc_audit.specs.Part.{AppendsPart, Passes};
 ghost use Rattle.tpcc_script.specs.Session.{opened_book, seen};
 
 use crate::engine::Engine;

@@ -1,7 +1,7 @@
 //! Calls of a reader and a writer that are made again where they were interrupted.
-ghost use Rattle.std.specs.Prelude.{◌≡◌, ◌<◌, ℕ, List, Some, slice_get, drop, length, true, IfOk, IfErr, OnErr, OnOk};
+ghost use Rattle.std.specs.Prelude.{◌≡◌, ◌<◌, ℕ, List, Some, slice_get, drop, true, IfOk, IfErr, OnOk};
 ghost use Rattle.std.specs.Io.KnownBytes.{Keeps};
-ghost use Rattle.tpcc_script.specs.Attempts.{HasFlushed, HasRead, HasWritten, IsNoWorse};
+ghost use Rattle.tpcc_script.specs.Attempts.{HasFlushed, HasRead, IsNoWorse};
 
 use crate::fault::ScriptFault;
 use std::io::{Error, ErrorKind, Read, Write};
@@ -73,33 +73,6 @@ pub fn try_byte<R: Read>(
             Err(ScriptFault::Read)
         }
     }
-}
-
-/// Writes some of the bytes, of which there is one at least. Write where the writer is given up, and
-/// it then took none.
-pub fn try_write<W: Write>(
-    out: &mut W,
-    watch: &mut Watch,
-    bytes: &[u8],
-) -> Result<Attempt<usize>, ScriptFault>
-    requires some { 0 < length bytes.now }
-    ensures written { IfOk result
-        (HasWritten watch.old watch.new (W.contents out.old) (W.contents out.new) bytes.now) }
-    ensures none { OnErr result (Keeps (W.contents out.old) (W.contents out.new)) }
-    ensures same { OnOk result (IsNoWorse watch.old watch.new) }
-    ensures gave_up { IfErr result
-        (λ f. (f ≡ ScriptFault.Write) × (watch.new.writer_failed ≡ true)) }
-{
-    match out.write(bytes) {
-        Ok(count) if count > 0 => {
-            watch.retries = MOST_RETRIES;
-            return Ok(Attempt::Done(count));
-        }
-        Err(error) if watch.is_retried(&error) => return Ok(Attempt::Again),
-        _ => {}
-    }
-    watch.writer_failed = true;
-    Err(ScriptFault::Write)
 }
 
 /// Flushes the writer. Write where it is given up.

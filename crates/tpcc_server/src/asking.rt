@@ -4,8 +4,8 @@ ghost use Rattle.tpcc_book.specs.Seats.{IsTurned};
 ghost use Rattle.tpcc_mailbox.specs.Tokens.{identity, idle_origin, idle_mailbox, waiting_origin, waiting_mailbox, waiting_letter, waiting_saw_closed};
 
 use crate::job::{Job, JobAnswer, JobIdle, JobMailboxes, JobWaiting};
+use crate::pause::Pause;
 use std::sync::Wait;
-use std::thread;
 use tpcc_book::{Naming, Seating};
 
 /// Posts a job, and waits for its answer, or until the mailboxes are seen closed while there is none.
@@ -29,6 +29,7 @@ pub fn ask<N: Naming, T: Seating, C, R: Wait>(
         × (waiting_mailbox w ≡ idle_mailbox idle)) }
 {
     let mut waiting = mailboxes.post(idle, job);
+    let mut pause = Pause::new();
     for _ in rt.forever() {
         waiting = match mailboxes.collect(waiting) {
             Ok(done) => return Ok(done),
@@ -37,7 +38,7 @@ pub fn ask<N: Naming, T: Seating, C, R: Wait>(
         if mailboxes.seen_closed(&mut waiting) {
             break;
         }
-        thread::yield_now();
+        pause.wait(rt);
     }
     Err(waiting)
 }

@@ -9,6 +9,7 @@ mod asking;
 mod errand;
 mod gate;
 mod job;
+mod pause;
 mod serving;
 mod stand;
 mod turning;

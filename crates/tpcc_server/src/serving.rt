@@ -8,10 +8,10 @@ ghost use Rattle.tpcc_server.specs.Stands.{keeper_in};
 use crate::errand::Errand;
 use crate::gate::Gate;
 use crate::job::{JobMailboxes, JobServing};
+use crate::pause::Pause;
 use crate::stand::Stand;
 use crate::turning::Turning;
 use std::sync::Wait;
-use std::thread;
 use tpcc_book::{HeldTurn, Naming, SeatedPurse, Seating, Turns};
 
 /// Looks at each mailbox once, in order, and answers the jobs that it finds, each in a turn of its own. It gives
@@ -122,8 +122,9 @@ fn serve_some<N: Naming, T: Seating, C: Turning, G: Gate, R: Wait>(
 
 /// Makes rounds until it has answered `limit` jobs, or has made one whole round after it saw the
 /// mailboxes closed. It gives the server, the gate and its own purse back, and the number of jobs that it answered.
-/// Between two jobs the purse keeps the book's turn, unless somebody else waits for it or the gate may hold the
-/// server up.
+/// Between two jobs the purse keeps the book's turn, unless somebody else waits for it, the gate may hold the
+/// server up, or there was no job for long. While another server keeps the turn it stands by for some milliseconds
+/// before its next round, so that the turn goes from one to the other seldom.
 pub fn serve_until_closed<N: Naming, T: Seating, C: Turning, G: Gate, R: Wait>(
     rt: &R,
     mailboxes: &JobMailboxes<N, T, C>,
@@ -150,8 +151,10 @@ pub fn serve_until_closed<N: Naming, T: Seating, C: Turning, G: Gate, R: Wait>(
     let mut serving = serving;
     let mut gate = gate;
     let mut stand = Stand::Free(keeper);
+    let mut pause = Pause::new();
     let mut served = 0u64;
     for _ in rt.forever() {
+        stand.stand_by(rt, turns);
         // Read before the round, so that a job posted before the mailboxes were closed is found.
         let closed = mailboxes.is_closed(&mut serving);
         let (answered, left) = serve_some(
@@ -168,9 +171,10 @@ pub fn serve_until_closed<N: Naming, T: Seating, C: Turning, G: Gate, R: Wait>(
         if closed || served == limit {
             break;
         }
-        // A round that found nothing may go on behind the clients.
         if answered == 0 {
-            thread::yield_now();
+            stand = stand.pause(rt, turns, &mut pause);
+        } else {
+            pause.end();
         }
     }
     (serving, gate, served, stand.rest(turns))

@@ -3,8 +3,12 @@ ghost use Rattle.std.specs.Prelude.{◌≡◌};
 ghost use Rattle.tpcc_book.specs.Seats.{keeper_of};
 ghost use Rattle.tpcc_server.specs.Stands.{keeper_in};
 
+use crate::pause::Pause;
 use std::sync::Wait;
 use tpcc_book::{HeldTurn, Naming, SeatedPurse, Seating, Turns};
+
+/// How often a server that stands by looks again whether the book is free.
+const LOOKS: u32 = 410;
 
 /// A server's purse: without a turn, or with one that it keeps.
 #[derive(Drop)]
@@ -48,5 +52,35 @@ impl<N: Naming, T: Seating> Stand<N, T> {
                 }
             }
         }
+    }
+
+    /// Waits a while, where it has no turn and somebody else has: a server that comes at once would take the turn
+    /// from the one that keeps it, at each of its jobs.
+    pub(crate) fn stand_by<R: Wait>(&self, rt: &R, turns: &Turns<N, T>) {
+        let mut pause = Pause::new();
+        for _ in 0..LOOKS {
+            if matches!(self, Stand::Holding(_)) || !turns.is_busy() {
+                return;
+            }
+            pause.wait(rt);
+        }
+    }
+
+    /// Waits until there may be a job again; before it sleeps, it gives the turn up.
+    pub(crate) fn pause<R: Wait>(
+        self,
+        rt: &R,
+        turns: &Turns<N, T>,
+        pause: &mut Pause,
+    ) -> Stand<N, T>
+        ensures keeper { keeper_in result ≡ keeper_in self }
+    {
+        let stand = if pause.is_long() {
+            Stand::Free(self.rest(turns))
+        } else {
+            self
+        };
+        pause.wait(rt);
+        stand
     }
 }

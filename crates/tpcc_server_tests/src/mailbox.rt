@@ -112,7 +112,16 @@ fn shown(left: Left<u64, Served>) -> (u64, u64) {
     }
 }
 
-/// Takes the mailboxes apart, and asserts what is left for each client, from the last one to the first.
+/// Asserts what is left for each client, from the last one to the first.
+fn are_left<R: Abort>(rt: &R, lefts: &mut Vec<Left<u64, Served>>, expected: &[(u64, u64)]) {
+    for wanted in expected {
+        let left = lefts.pop().expect(rt, "one for each client");
+        assert!(rt; shown(left) == *wanted);
+    }
+    assert!(rt; lefts.is_empty());
+}
+
+/// Takes the mailboxes apart, and asserts what is left.
 fn leaves<R: Abort>(
     rt: &R,
     boxes: Mailboxes<u64, Served>,
@@ -123,15 +132,9 @@ fn leaves<R: Abort>(
     requires clients { All (λ x. client_origin x ≡ identity boxes) clients.items }
     requires servings { All (λ x. serving_origin x ≡ identity boxes) servings.items }
 {
-    let Ok(lefts) = boxes.reclaim(clients, servings) else {
-        panic!(rt; "memory for what is left")
-    };
-    let mut lefts = lefts;
-    for wanted in expected {
-        let left = lefts.pop().expect(rt, "one for each client");
-        assert!(rt; shown(left) == *wanted);
-    }
-    assert!(rt; lefts.is_empty());
+    let reclaimed = boxes.reclaim(clients, servings).ok();
+    let mut lefts = reclaimed.expect(rt, "memory for what is left");
+    are_left(rt, &mut lefts, expected)
 }
 
 #[test]

@@ -199,10 +199,11 @@ fn is_paid<N: Naming, T: Seating, C: Drop, R: Abort>(
 )
     requires { waiting_origin waiting ≡ identity mailboxes.now }
 {
-    let Ok((idle, answer)) = mailboxes.collect(waiting) else {
-        panic!(rt; "a job was not answered")
-    };
+    let collected = mailboxes.collect(waiting).ok();
+    let (idle, answer) = collected.expect(rt, "a job was not answered");
     let_go(idle);
-    let (_, _, _, purse) = answer.into_parts();
-    assert!(rt; (purse.entries(), purse.paid()) == (1, Cents::new(100)));
+    let purse = answer.purse();
+    let seen = (purse.entries(), purse.paid());
+    let_go(answer);
+    assert!(rt; seen == (1, Cents::new(100)));
 }

@@ -1,2 +1,2 @@
-mod Appending
+mod Putting
 mod Asking

@@ -1,6 +1,5 @@
 -- The requests of a terminal's next cards, as lines of a script.
-use Rattle.std.specs.Prelude.{◌≡◌, ℕ, zero, suc, List, [], ◌∷◌, flat_map, Option}
-use Rattle.std.specs.Io.KnownBytes.{Appends}
+use Rattle.std.specs.Prelude.{◌≡◌, ℕ, zero, suc, List, [], ◌∷◌, flat_map}
 use Rattle.tpcc_draws.specs.Draws.{answers, stream_at}
 use Rattle.tpcc_rows.specs.Layout.{Scale}
 use Rattle.tpcc_rows.specs.declared.requests.Request.{Request}
@@ -26,9 +25,12 @@ asked_by number scale seed moment cards = asked_from cards (home_of number scale
 abbrev pub request_lines : List Request → List ℕ
 request_lines requests = flat_map request_line requests
 
--- one card was asked, and its line written
-pub record IsTold (old : Station) (moment : ℕ) (held : Option (List ℕ)) (new : Station) (now : Option (List ℕ)) : Type 0 where
+-- the line of a terminal's next card
+abbrev pub next_line : Station → ℕ → List ℕ
+next_line t moment = request_line (request_of (home_of t.number t.scale) moment t.draft)
+
+-- one card was asked
+pub record IsTold (old new : Station) : Type 0 where
   pub number : new.number ≡ old.number
   pub scale : new.scale ≡ old.scale
   pub ahead : ahead_of new ≡ drawn_ahead (home_of old.number old.scale) old.cards (answers old.generator)
-  pub added : Appends held now (request_line (request_of (home_of old.number old.scale) moment old.draft))

@@ -44,8 +44,11 @@ part_text screens book parts.Check = check_screen (first_broken book.state.rows)
 part_text screens book (parts.Rows table) = dump_text book.state.rows table
 
 -- the line over a part
+abbrev pub named_line : Part → List ℕ
+named_line part = part_name part ++ (10 ∷ [])
+
 abbrev pub heading : Part → List ℕ
-heading part = codes "== " ++ (part_name part ++ (10 ∷ []))
+heading part = codes "== " ++ named_line part
 
 -- a part under its heading
 unfoldable pub headed_text : Option (List ℕ) → Past → Part → List ℕ

@@ -1,7 +1,6 @@
 //! What is shown of a book: screens, report, journal, delivery results, check and tables, as text.
 #![tactic(auto)]
 
-mod blocks;
 mod entries;
 mod parts;
 mod requests;

@@ -1,71 +1,82 @@
 //! The requests that a terminal asks, as a script.
-ghost use Rattle.std.specs.Prelude.{◌≤◌, IfOk, OnOk};
+ghost use Rattle.std.specs.Prelude.{◌≤◌, ◌++◌, OnErr, OnOk};
 ghost use Rattle.std.specs.Io.KnownBytes.{Appends};
-ghost use Rattle.tpcc_show.specs.Requests.{IsTold, asked_by, asked_next, request_lines};
+ghost use Rattle.tpcc_audit.specs.Part.{AppendsPart, Passes};
+ghost use Rattle.tpcc_show.specs.Requests.{IsTold, asked_by, asked_next, next_line, request_lines};
 
-use crate::blocks::{begin, end};
-use crate::entries::put;
 use std::alloc::Global;
 use std::io::Write;
-use tpcc_audit::DumpFault;
+use tpcc_audit::{Blocks, DumpFault};
 use tpcc_money::Moment;
 use tpcc_population::Scale;
 use tpcc_terminal::{Terminal, request_line};
 
 /// Writes the requests of a terminal's first cards, all at one moment, as lines of a script: those that the terminal
-/// of this number asks of a population of this scale and seed, in its order. Answers the writer.
+/// of this number asks of a population of this scale and seed, in its order.
 ///
-/// Write where the writer fails or takes nothing, NoMemory where a growth was refused; the writer is then let go,
-/// and how much of the text it took is unknown.
-#[tactic(auto, using(crate::proofs::Asking::first_cards))]
-pub fn put_requests<W: Write + Drop>(
+/// Write where the writer fails or takes nothing, NoMemory where a growth was refused. An interrupted write is made
+/// again, at most 1,000 times in a row.
+#[tactic(auto, using(crate::proofs::Asking::first_cards, crate::proofs::Asking::first_cut, crate::proofs::Asking::last_cut, tpcc_audit::proofs::Parts::none_part))]
+pub fn put_requests<W: Write>(
     alloc: Global,
     number: u32,
     scale: Scale,
     seed: u64,
     moment: Moment,
     cards: u32,
-    out: W,
-) -> Result<W, DumpFault>
+    out: &mut W,
+) -> Result<(), DumpFault>
     requires number { 1 ≤ number }
-    ensures written { IfOk result (λ w. Appends (W.contents out) (W.contents w)
+    ensures written { OnOk result (Appends (W.contents out.old) (W.contents out.new)
+        (request_lines (asked_by number scale seed moment cards))) }
+    ensures part { OnErr result (AppendsPart (W.contents out.old) (W.contents out.new)
         (request_lines (asked_by number scale seed moment cards))) }
 {
     let mut terminal = Terminal::new(alloc, number, scale, seed)?;
-    let mut blocks = begin(alloc, out)?;
-    put_cards(alloc, &mut terminal, moment, cards, &mut blocks)?;
-    end(blocks)
+    let mut blocks = Blocks::new(alloc);
+    put_cards(alloc, &mut terminal, moment, cards, &mut blocks, out)?;
+    blocks.end(out)?;
+    Ok(())
 }
 
-#[tactic(auto, using(crate::proofs::Asking::starts, crate::proofs::Asking::goes_on, crate::proofs::Asking::ends))]
 // The lines of the next cards.
+#[tactic(auto, using(crate::proofs::Asking::starts, crate::proofs::Asking::goes_on, crate::proofs::Asking::ends))]
 fn put_cards<W: Write>(
     alloc: Global,
     terminal: &mut Terminal,
     moment: Moment,
     cards: u32,
+    blocks: &mut Blocks,
     out: &mut W,
 ) -> Result<(), DumpFault>
-    ensures { OnOk result (Appends (W.contents out.old) (W.contents out.new)
-        (request_lines (asked_next terminal.old moment cards))) }
+    ensures written { OnOk result (Passes (W.contents out.old) (W.contents out.new)
+        (blocks.old ++ request_lines (asked_next terminal.old moment cards)) blocks.new) }
+    ensures part { OnErr result (AppendsPart (W.contents out.old) (W.contents out.new)
+        (blocks.old ++ request_lines (asked_next terminal.old moment cards))) }
 {
     for _ in 0..cards {
-        put_next(alloc, terminal, moment, out)?;
+        put_next(alloc, terminal, moment, blocks, out)?;
     }
     Ok(())
 }
 
 // The line of the next card.
+#[tactic(auto, using(tpcc_audit::proofs::Parts::none_part))]
 fn put_next<W: Write>(
     alloc: Global,
     terminal: &mut Terminal,
     moment: Moment,
+    blocks: &mut Blocks,
     out: &mut W,
 ) -> Result<(), DumpFault>
-    ensures { OnOk result
-        (IsTold terminal.old moment (W.contents out.old) terminal.new (W.contents out.new)) }
+    ensures told { OnOk result (IsTold terminal.old terminal.new) }
+    ensures written { OnOk result (Passes (W.contents out.old) (W.contents out.new)
+        (blocks.old ++ next_line terminal.old moment) blocks.new) }
+    ensures part { OnErr result (AppendsPart (W.contents out.old) (W.contents out.new)
+        (blocks.old ++ next_line terminal.old moment)) }
 {
     let request = terminal.next(moment)?;
     let line = request_line(alloc, &request)?;
-    put(out, line.bytes())
+    blocks.put(out, line.bytes())?;
+    Ok(())
 }

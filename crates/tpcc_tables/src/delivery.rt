@@ -56,7 +56,8 @@ pub fn remove_new_order(rows: &mut Parts<NewOrderRow>, warehouse: u32, district:
 /// The carrier of an order, set.
 pub fn carry(rows: &mut Parts<OrderRow>, warehouse: u32, district: u32, order: u32, carrier: u32)
     requires keyed { is_ascending order_key rows.old.rows ≡ true }
-    ensures rows { rows.new.rows ≡ updated (is_order warehouse district order) (λ o. record o { carrier = Some carrier }) rows.old.rows }
+    ensures rows { rows.new.rows ≡ updated (is_order warehouse district order)
+        (λ o. record o { carrier = Some carrier }) rows.old.rows }
     ensures owners { rows.new.owners ≡ rows.old.owners }
     ensures room { rows.new.room ≡ rows.old.room }
 {

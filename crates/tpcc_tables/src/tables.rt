@@ -60,7 +60,17 @@ impl Model for Tables {
 impl Tables {
     /// Tables with no rows.
     pub fn empty(alloc: Global) -> Tables
-        ensures { result.rows ≡ record { warehouses = []; districts = []; customers = []; histories = []; orders = []; order_lines = []; new_orders = []; items = []; stocks = [] } }
+        ensures { result.rows ≡ record {
+          warehouses = [];
+          districts = [];
+          customers = [];
+          histories = [];
+          orders = [];
+          order_lines = [];
+          new_orders = [];
+          items = [];
+          stocks = [];
+        } }
     {
         Tables {
             warehouses: Vec::new(alloc),

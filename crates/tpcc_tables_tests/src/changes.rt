@@ -11,7 +11,7 @@ const GREATEST_PAYMENT: i64 = 500_000;
 
 /// What is changed in district 1 of warehouse 1, or in the warehouse; of a NEW-ORDER row that is left out, its district
 /// and its order. A column near its limit has room for one payment of 5,000.00.
-#[derive(Clone, Copy, PartialEq, Eq)]
+#[derive(Clone, Copy)]
 pub enum Change {
     Nothing,
     WarehouseTotal,
@@ -106,14 +106,14 @@ fn order_line(change: Change, row: OrderLineRow) -> OrderLineRow {
 }
 
 fn new_order(change: Change, row: NewOrderRow) -> Option<Row> {
-    if change == Change::NewOrderLeftOut(row.district, row.order) {
-        None
-    } else {
-        Some(Row::NewOrder(row))
+    let place = (row.district, row.order);
+    match change {
+        Change::NewOrderLeftOut(district, order) if (district, order) == place => None,
+        _ => Some(Row::NewOrder(row)),
     }
 }
 
 /// Whether order 9 has a sixth line.
 pub fn has_sixth_line(change: Change) -> bool {
-    change == Change::LineAdded || change == Change::LineCounts
+    matches!(change, Change::LineAdded | Change::LineCounts)
 }

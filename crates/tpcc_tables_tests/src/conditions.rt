@@ -1,7 +1,11 @@
 //! Each condition broken by one change of the opening, and condition 11 by what comes behind it.
 use crate::changes::Change;
-use crate::opening::{filled, loaded, scale};
+use crate::opening::{loaded, scale};
+use crate::stories::{Story, told};
+use std::alloc::AllocGlobal;
+use std::process::Abort;
 use tpcc_conditions::{Broken, check, check_opening};
+use tpcc_tables::Tables;
 
 /// Condition, district and number.
 pub fn at(condition: u32, district: u32, number: u32) -> Result<(), Broken> {
@@ -13,9 +17,15 @@ pub fn at(condition: u32, district: u32, number: u32) -> Result<(), Broken> {
     })
 }
 
-#[test]
-fn the_first_broken_condition_is_named(rt: HostRuntime) {
-    let opening = filled(&rt);
+fn broken_by(
+    rt: &(impl Abort + AllocGlobal),
+    opening: &Tables,
+    change: Change,
+) -> Result<(), Broken> {
+    check(&loaded(rt, opening, change))
+}
+
+pub fn are_named(rt: &(impl Abort + AllocGlobal), opening: &Tables) {
     let changes = [
         (Change::Nothing, Ok(())),
         (Change::WarehouseTotal, at(1, 0, 0)),
@@ -31,13 +41,23 @@ fn the_first_broken_condition_is_named(rt: HostRuntime) {
         (Change::YtdPayment, at(12, 1, 3)),
     ];
     for (change, answer) in changes {
-        assert_eq!(rt; check(&loaded(&rt, &opening, change)), answer);
+        assert!(rt; broken_by(rt, opening, change) == answer);
     }
 }
 
 #[test]
+fn the_first_broken_condition_is_named(rt: HostRuntime) {
+    told(&rt, Story::Named)
+}
+
+/// Ten customers of each district, and not twenty.
+pub fn is_opening_of_ten(rt: &impl Abort, tables: &Tables) {
+    let ten = check_opening(tables, scale(rt, 10));
+    let twenty = check_opening(tables, scale(rt, 20));
+    assert!(rt; [ten, twenty] == [Ok(()), at(11, 1, 0)]);
+}
+
+#[test]
 fn an_opening_has_seven_of_ten_orders_delivered(rt: HostRuntime) {
-    let tables = filled(&rt);
-    assert_eq!(rt; check_opening(&tables, scale(&rt, 10)), Ok(()));
-    assert_eq!(rt; check_opening(&tables, scale(&rt, 20)), at(11, 1, 0));
+    told(&rt, Story::OfTen)
 }

@@ -10,4 +10,6 @@ mod loads;
 #[cfg(test)]
 mod opening;
 #[cfg(test)]
+mod stories;
+#[cfg(test)]
 mod transactions;

@@ -1,6 +1,8 @@
 //! Rows that are loaded one by one, and why a row is refused.
 use crate::changes::Change;
-use crate::opening::{filled, loaded, row_at};
+use crate::opening::{loaded, row_at};
+use crate::stories::{Story, told};
+use std::alloc::AllocGlobal;
 use std::process::Abort;
 use tpcc_rows::{
     CustomerRow, DistrictRow, HistoryRow, ItemRow, NewOrderRow, OrderLineRow, OrderRow, Row,
@@ -10,19 +12,25 @@ use tpcc_tables::{LoadFault, Tables};
 
 /// The same rows at the same places.
 fn is_same_table(rt: &impl Abort, left: &Tables, right: &Tables, table: Table) {
-    assert_eq!(rt; left.count(table), right.count(table));
+    assert!(rt; left.count(table) == right.count(table));
     for place in 0..left.count(table) {
         assert!(rt; row_at(rt, left, table, place) == row_at(rt, right, table, place));
     }
 }
 
+fn are_same(rt: &impl Abort, left: &Tables, right: &Tables) {
+    for table in Table::ALL {
+        is_same_table(rt, left, right, table);
+    }
+}
+
+pub fn are_loaded(rt: &(impl Abort + AllocGlobal), opening: &Tables) {
+    are_same(rt, &loaded(rt, opening, Change::Nothing), opening)
+}
+
 #[test]
 fn rows_are_loaded_at_the_places_of_their_keys(rt: HostRuntime) {
-    let opening = filled(&rt);
-    let tables = loaded(&rt, &opening, Change::Nothing);
-    for table in Table::ALL {
-        is_same_table(&rt, &tables, &opening, table);
-    }
+    told(&rt, Story::Loaded)
 }
 
 /// Why a row is refused that comes back as it was.
@@ -48,19 +56,19 @@ fn out_of_range(row: Row) -> Row {
     }
 }
 
-#[test]
-fn rows_out_of_range_are_refused(rt: HostRuntime) {
-    let mut tables = filled(&rt);
+pub fn refuse_out_of_range(rt: &impl Abort, tables: &mut Tables) {
     for table in Table::ALL {
-        let row = out_of_range(row_at(&rt, &tables, table, 0));
-        assert_eq!(rt; fault(&mut tables, row), Some(LoadFault::Field));
+        let row = out_of_range(row_at(rt, tables, table, 0));
+        assert!(rt; fault(tables, row) == Some(LoadFault::Field));
     }
 }
 
 #[test]
-fn rows_without_their_owners_are_refused(rt: HostRuntime) {
-    let opening = filled(&rt);
-    let mut tables = Tables::empty(rt.alloc());
+fn rows_out_of_range_are_refused(rt: HostRuntime) {
+    told(&rt, Story::OutOfRange)
+}
+
+fn refuse_each(rt: &impl Abort, opening: &Tables, tables: &mut Tables) {
     for table in [
         Table::District,
         Table::Customer,
@@ -70,21 +78,33 @@ fn rows_without_their_owners_are_refused(rt: HostRuntime) {
         Table::NewOrder,
         Table::Stock,
     ] {
-        let row = row_at(&rt, &opening, table, 0);
-        assert_eq!(rt; fault(&mut tables, row), Some(LoadFault::NoParent));
+        let row = row_at(rt, opening, table, 0);
+        assert!(rt; fault(tables, row) == Some(LoadFault::NoParent));
     }
 }
 
+pub fn refuse_without_owners(rt: &(impl Abort + AllocGlobal), opening: &Tables) {
+    refuse_each(rt, opening, &mut Tables::empty(rt.alloc()))
+}
+
 #[test]
-fn rows_whose_keys_are_taken_are_refused(rt: HostRuntime) {
-    let mut tables = filled(&rt);
+fn rows_without_their_owners_are_refused(rt: HostRuntime) {
+    told(&rt, Story::WithoutOwners)
+}
+
+pub fn refuse_taken(rt: &impl Abort, tables: &mut Tables) {
     for table in Table::ALL {
         let taken = if table == Table::History {
             None
         } else {
             Some(LoadFault::Duplicate)
         };
-        let row = row_at(&rt, &tables, table, 0);
-        assert_eq!(rt; fault(&mut tables, row), taken);
+        let row = row_at(rt, tables, table, 0);
+        assert!(rt; fault(tables, row) == taken);
     }
+}
+
+#[test]
+fn rows_whose_keys_are_taken_are_refused(rt: HostRuntime) {
+    told(&rt, Story::Taken)
 }

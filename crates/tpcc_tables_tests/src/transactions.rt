@@ -1,7 +1,10 @@
 //! One call of each transaction that prepares and finishes at once, with ample memory.
+ghost use Rattle.tpcc_rows.specs.WellKeyed.{IsStocked};
+
 use crate::changes::Change;
 use crate::conditions::at;
-use crate::opening::{filled, loaded, scale};
+use crate::opening::{loaded, scale};
+use crate::stories::{Story, told};
 use std::alloc::AllocGlobal;
 use std::mem::size_of;
 use std::process::Abort;
@@ -13,13 +16,23 @@ use tpcc_payment::{Payment, pay};
 use tpcc_rows::{Entered, Field, Line, Lines, Order, Paid, Refusal, Who};
 use tpcc_tables::Tables;
 
-/// Customer 1 of district 1 orders five items.
-fn order(rt: &(impl Abort + AllocGlobal)) -> Order {
-    let lines = [(20, 10), (26, 8), (12, 10), (21, 5), (11, 10)].map(|(item, quantity)| Line {
+fn line(item: u32, quantity: u32) -> Line {
+    Line {
         item,
         supply: 1,
         quantity,
-    });
+    }
+}
+
+/// Customer 1 of district 1 orders five items.
+fn order(rt: &(impl Abort + AllocGlobal)) -> Order {
+    let lines = [
+        line(20, 10),
+        line(26, 8),
+        line(12, 10),
+        line(21, 5),
+        line(11, 10),
+    ];
     Order {
         warehouse: 1,
         district: 1,
@@ -36,12 +49,16 @@ fn total(entered: Result<Entered, Refusal>) -> Option<Cents> {
     }
 }
 
+pub fn enter_one(rt: &(impl Abort + AllocGlobal), tables: &mut Tables)
+    requires stocked { IsStocked tables.old.rows }
+{
+    let total = total(enter(tables, &order(rt)));
+    assert!(rt; total == Some(Cents::new(5495)));
+}
+
 #[test]
 fn an_order_is_entered(rt: HostRuntime) {
-    let mut tables = filled(&rt);
-    let order = order(&rt);
-    let entered = enter(&mut tables, &order);
-    assert_eq!(rt; total(entered), Some(Cents::new(5495)));
+    told(&rt, Story::Entered)
 }
 
 /// A customer of district 1 pays so many cents there.
@@ -64,9 +81,7 @@ fn balance(paid: Result<Paid, Refusal>) -> Result<Cents, Refusal> {
     }
 }
 
-#[test]
-fn payments_are_made_from_the_least_to_the_greatest_amount(rt: HostRuntime) {
-    let mut tables = filled(&rt);
+pub fn pay_each(rt: &impl Abort, tables: &mut Tables) {
     let amounts = [
         (99, Err(Refusal::Amount)),
         (100, Ok(Cents::new(-1_100))),
@@ -74,14 +89,31 @@ fn payments_are_made_from_the_least_to_the_greatest_amount(rt: HostRuntime) {
         (500_001, Err(Refusal::Amount)),
     ];
     for (cents, answer) in amounts {
-        assert_eq!(rt; balance(pay(&mut tables, &payment(1, cents))), answer);
+        assert!(rt; balance(pay(tables, &payment(1, cents))) == answer);
     }
-    assert_eq!(rt; check(&tables), Ok(()));
+    assert!(rt; check(tables) == Ok(()));
 }
 
 #[test]
-fn a_payment_reaches_the_limit_of_a_column_and_none_goes_past_it(rt: HostRuntime) {
-    let opening = filled(&rt);
+fn payments_are_made_from_the_least_to_the_greatest_amount(rt: HostRuntime) {
+    told(&rt, Story::Paid)
+}
+
+/// Whether the greatest payment is made, and how the least one behind it is answered.
+fn paid_twice(tables: &mut Tables) -> (bool, Result<Cents, Refusal>) {
+    let is_paid = pay(tables, &payment(3, 500_000)).is_ok();
+    (is_paid, balance(pay(tables, &payment(3, 100))))
+}
+
+fn paid_near(
+    rt: &(impl Abort + AllocGlobal),
+    opening: &Tables,
+    field: Field,
+) -> (bool, Result<Cents, Refusal>) {
+    paid_twice(&mut loaded(rt, opening, Change::NearLimit(field)))
+}
+
+pub fn reach_limits(rt: &(impl Abort + AllocGlobal), opening: &Tables) {
     let limits = [
         (Field::WarehouseYtd, Refusal::Total(Field::WarehouseYtd)),
         (Field::DistrictYtd, Refusal::Total(Field::DistrictYtd)),
@@ -90,10 +122,13 @@ fn a_payment_reaches_the_limit_of_a_column_and_none_goes_past_it(rt: HostRuntime
         (Field::PaymentCount, Refusal::Count(Field::PaymentCount)),
     ];
     for (field, refusal) in limits {
-        let mut tables = loaded(&rt, &opening, Change::NearLimit(field));
-        assert!(rt; pay(&mut tables, &payment(3, 500_000)).is_ok());
-        assert_eq!(rt; balance(pay(&mut tables, &payment(3, 100))), Err(refusal));
+        assert!(rt; paid_near(rt, opening, field) == (true, Err(refusal)));
     }
+}
+
+#[test]
+fn a_payment_reaches_the_limit_of_a_column_and_none_goes_past_it(rt: HostRuntime) {
+    told(&rt, Story::Limits)
 }
 
 fn order_in(run: Delivery, district: u32) -> Option<u32> {
@@ -121,33 +156,42 @@ fn delivered_in(
         let run = deliver_next(tables, waiting, Moment::new(120)).expect(rt, "a run");
         delivered = delivered.or(order_in(run, district));
     }
-    assert_eq!(rt; waiting.len(), 0);
+    assert!(rt; waiting.len() == 0);
     delivered
+}
+
+pub fn leave_behind(rt: &(impl Abort + AllocGlobal), tables: &mut Tables) {
+    let delivered = delivered_in(rt, tables, &mut Queue::new(rt.alloc()), 10);
+    assert!(rt; (delivered, tables.oldest_new(1, 10)) == (Some(8), Some(9)));
+    let answers = [check(tables), check_opening(tables, scale(rt, 10))];
+    assert!(rt; answers == [Ok(()), at(11, 1, 0)]);
 }
 
 #[test]
 fn ten_runs_leave_condition_11_behind(rt: HostRuntime) {
-    let mut tables = filled(&rt);
-    let mut waiting = Queue::new(rt.alloc());
-    assert_eq!(rt; delivered_in(&rt, &mut tables, &mut waiting, 10), Some(8));
-    assert_eq!(rt; tables.oldest_new(1, 10), Some(9));
-    assert_eq!(rt; check(&tables), Ok(()));
-    assert_eq!(rt; check_opening(&tables, scale(&rt, 10)), at(11, 1, 0));
+    told(&rt, Story::LeftBehind)
+}
+
+fn pass_over(rt: &impl Abort, tables: &mut Tables, waiting: &mut Queue) {
+    for order in [Some(8), Some(10), None] {
+        assert!(rt; delivered_in(rt, tables, waiting, 2) == order);
+    }
+}
+
+pub fn pass_over_gap(rt: &(impl Abort + AllocGlobal), opening: &Tables) {
+    let mut tables = loaded(rt, opening, Change::NewOrderLeftOut(2, 9));
+    pass_over(rt, &mut tables, &mut Queue::new(rt.alloc()))
 }
 
 #[test]
 fn runs_pass_over_a_gap_of_new_orders(rt: HostRuntime) {
-    let mut tables = loaded(&rt, &filled(&rt), Change::NewOrderLeftOut(2, 9));
-    let mut waiting = Queue::new(rt.alloc());
-    for order in [Some(8), Some(10), None] {
-        assert_eq!(rt; delivered_in(&rt, &mut tables, &mut waiting, 2), order);
-    }
+    told(&rt, Story::Gap)
 }
 
 /// What goes from the first half of a transaction to the second: the sizes of docs/architecture.md.
 #[test]
 fn little_is_prepared(rt: HostRuntime) {
-    assert_eq!(rt; size_of::<tpcc_new_order::Prepared>(), 1usize);
+    let order = size_of::<tpcc_new_order::Prepared>();
     // A key of three numbers.
-    assert_eq!(rt; size_of::<tpcc_payment::Prepared>(), 3 * 4);
+    assert!(rt; (order, size_of::<tpcc_payment::Prepared>()) == (1, 3 * 4));
 }

@@ -15,10 +15,12 @@ ghost use Rattle.tpcc_terminal.specs.Receipts.{receipts_of, AllStand};
 /// journal after it: each is the journal's entry at its place. Of a purse at turns the same holds of
 /// the front, the entries that it has seen.
 pub fn receipts_stand()
-    ensures served { (old new : Past) (request : Request) (purse : Held) (answer : Told Held) (receipts : List Receipt)
+    ensures served { (old new : Past) (request : Request) (purse : Held) (answer : Told Held)
+        (receipts : List Receipt)
         → IsServed old request purse answer new → AllStand old.entries receipts
         → AllStand new.entries (receipts ++ receipts_of (λ p. p) answer) }
-    ensures turned { (request : Request) (purse : Seated) (answer : Told Seated) (receipts : List Receipt)
+    ensures turned { (request : Request) (purse : Seated) (answer : Told Seated)
+        (receipts : List Receipt)
         → IsTurned request purse answer → AllStand purse.front receipts
         → AllStand answer.purse.front (receipts ++ receipts_of (λ p. p.purse) answer) }
 {}

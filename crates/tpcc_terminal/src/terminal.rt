@@ -79,7 +79,9 @@ impl Terminal {
     /// Keeps the receipt of an accepted answer, by a purse with a seat or without one; of a refused
     /// one there is nothing to keep. Refused only for want of memory, and then nothing has changed.
     pub fn note<P: Numbered>(&mut self, answer: &Answer<P>) -> Result<(), NoMemory>
-        ensures noted { OnOk result (self.new ≡ record self.old { receipts = self.old.receipts ++ receipts_of P.held answer.now }) }
+        ensures noted { OnOk result (self.new ≡ record self.old {
+          receipts = self.old.receipts ++ receipts_of P.held answer.now;
+        }) }
         ensures refused { OnErr result (self.new ≡ self.old) }
     {
         keep(&mut self.receipts, answer)

@@ -63,6 +63,11 @@ impl<N: Naming, T: Seating> Turns<N, T> {
         self.table.shared.peek(0) != held.ticket.wrapping_add(1)
     }
 
+    /// Whether somebody has a turn, or waits for one.
+    pub fn is_busy(&self) -> bool {
+        self.table.shared.peek(0) != self.table.shared.peek(1)
+    }
+
     /// Serves a request for a purse in a turn that is kept, by a call that makes a turn of the book.
     pub fn serve_held<F: FnOnce(&mut Register, Request, u32, u64) -> Turned>(
         &self,

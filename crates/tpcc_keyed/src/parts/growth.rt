@@ -1,5 +1,5 @@
 //! Room for more rows in each part.
-ghost use Rattle.std.specs.Prelude.{◌≡◌, ◌≤◌, ℕ, All, OnOk, map, vec_capacity};
+ghost use Rattle.std.specs.Prelude.{◌≡◌, ◌≤◌, ℕ, All, OnOk, map};
 ghost use Rattle.tpcc_keyed.specs.PartWords.{shown, HasRoom};
 
 use crate::keyed::Owned;
@@ -10,13 +10,10 @@ use tpcc_money::NoMemory;
 fn grow<T: Owned>(part: &mut Part<T>, room: usize) -> Result<(), NoMemory>
     ensures owner { part.new.owner ≡ part.old.owner }
     ensures rows { part.new.rows.items ≡ part.old.rows.items }
-    ensures capacity { vec_capacity part.old.rows ≤ vec_capacity part.new.rows }
+    ensures capacity { part.old.rows.capacity ≤ part.new.rows.capacity }
     ensures grown { OnOk result (HasRoom room part.new) }
 {
-    match part.rows.reserve(room) {
-        Ok(()) => Ok(()),
-        Err(_) => Err(NoMemory),
-    }
+    part.rows.reserve(room)
 }
 
 /// Room for so many more rows in each part. A refused growth leaves all rows and the room there was.

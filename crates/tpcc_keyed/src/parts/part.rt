@@ -1,10 +1,11 @@
 //! The rows of one district, and changes of them.
-ghost use Rattle.std.specs.Prelude.{◌≡◌, ◌<◌, ◌≤◌, OnOk, OnErr, length, remove, slice_set, true, vec_capacity};
+ghost use Rattle.std.specs.Prelude.{◌≡◌, ◌+◌, ◌<◌, ◌≤◌, IsOk, OnOk, OnErr, length, remove, slice_set, true};
 ghost use Rattle.tpcc_rows.specs.Lists.{by_key, is_ascending, inserted};
 ghost use Rattle.tpcc_keyed.specs.PartWords.{HasRoom};
 
-use crate::insertion::insert;
+use crate::insertion::place_for;
 use crate::keyed::Owned;
+use crate::parts::tail::Tail;
 use tpcc_money::NoMemory;
 use tpcc_rows::DistrictKey;
 
@@ -14,7 +15,7 @@ pub struct Part<T> {
     /// The district.
     pub owner: DistrictKey,
     /// Its rows, in ascending order of their keys.
-    pub rows: Vec<T>,
+    pub rows: Tail<T>,
 }
 
 /// Puts a row at its place; refuses only for want of memory.
@@ -24,9 +25,12 @@ pub fn put<T: Owned>(part: &mut Part<T>, row: T) -> Result<(), NoMemory>
     ensures put { OnOk result
         (part.new.rows.items ≡ inserted (by_key T.key) row part.old.rows.items) }
     ensures same { OnErr result (part.new.rows.items ≡ part.old.rows.items) }
-    ensures capacity { vec_capacity part.old.rows ≤ vec_capacity part.new.rows }
+    ensures capacity { part.old.rows.capacity ≤ part.new.rows.capacity }
+    ensures room { OnOk result (HasRoom 0 part.new) }
+    ensures succeeds { HasRoom 1 part.old → IsOk result }
 {
-    insert(&mut part.rows, row)
+    let place = place_for(part.rows.as_slice(), &row);
+    part.rows.insert(place, row)
 }
 
 /// Puts a row at its place, for which there is room.
@@ -35,9 +39,9 @@ pub fn put_in_room<T: Owned>(part: &mut Part<T>, row: T)
     requires room { HasRoom 1 part.old }
     ensures owner { part.new.owner ≡ part.old.owner }
     ensures rows { part.new.rows.items ≡ inserted (by_key T.key) row part.old.rows.items }
-    ensures capacity { vec_capacity part.old.rows ≤ vec_capacity part.new.rows }
+    ensures capacity { part.old.rows.capacity ≤ part.new.rows.capacity }
 {
-    insert(&mut part.rows, row).unwrap();
+    put(part, row).unwrap();
 }
 
 /// Another row at a place.
@@ -45,17 +49,17 @@ pub fn exchange<T: Owned>(part: &mut Part<T>, place: usize, row: T)
     requires { place < length part.old.rows.items }
     ensures owner { part.new.owner ≡ part.old.owner }
     ensures rows { part.new.rows.items ≡ slice_set part.old.rows.items place row }
-    ensures capacity { vec_capacity part.new.rows ≡ vec_capacity part.old.rows }
+    ensures capacity { part.new.rows.capacity ≡ part.old.rows.capacity }
 {
-    part.rows[place] = row;
+    part.rows.set(place, row);
 }
 
-/// The row at a place taken out.
+/// The row at a place taken out. There is room for as many rows as before it.
 pub fn take_out<T: Owned>(part: &mut Part<T>, place: usize)
     requires { place < length part.old.rows.items }
     ensures owner { part.new.owner ≡ part.old.owner }
     ensures rows { part.new.rows.items ≡ remove part.old.rows.items place }
-    ensures capacity { vec_capacity part.new.rows ≡ vec_capacity part.old.rows }
+    ensures capacity { part.old.rows.capacity ≤ part.new.rows.capacity + 1 }
 {
     part.rows.remove(place);
 }

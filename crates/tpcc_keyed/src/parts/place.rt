@@ -8,6 +8,7 @@ ghost use Rattle.tpcc_keyed.specs.PartWords.{is_part, part_numbers, IsOpened};
 
 use crate::keyed::Owned;
 use crate::parts::part::Part;
+use crate::parts::tail::Tail;
 use crate::places;
 use std::alloc::Global;
 use tpcc_money::NoMemory;
@@ -96,6 +97,7 @@ pub fn open_part<T: Owned>(
         return Err(NoMemory);
     };
     let place = place_for(parts.as_slice(), owner);
+    let rows = Tail::of(rows);
     let Ok(()) = parts.insert(place, Part { owner, rows }) else {
         return Err(NoMemory);
     };

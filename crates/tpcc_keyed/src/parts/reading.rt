@@ -8,6 +8,7 @@ ghost use Rattle.tpcc_keyed.specs.PartWords.{AreRead};
 use crate::keyed::Owned;
 use crate::parts::part::Part;
 use crate::parts::place::is_before;
+use crate::parts::tail::Tail;
 use std::alloc::Global;
 use tpcc_money::NoMemory;
 use tpcc_rows::DistrictKey;
@@ -43,7 +44,8 @@ pub fn read_run<T: Owned>(
     let Ok(run) = Vec::from_slice(alloc, &rest[..count]) else {
         return Err(NoMemory);
     };
-    let Ok(()) = parts.push(Part { owner, rows: run }) else {
+    let rows = Tail::of(run);
+    let Ok(()) = parts.push(Part { owner, rows }) else {
         return Err(NoMemory);
     };
     Ok(start + count)

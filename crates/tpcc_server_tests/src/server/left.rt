@@ -1,6 +1,6 @@
 //! Jobs that are left in mailboxes: one that nobody served, and one whose answer nobody collected.
 ghost use Rattle.std.specs.Prelude.{◌≡◌};
-ghost use Rattle.tpcc_mailbox.specs.Tokens.{identity, client_origin, serving_origin};
+ghost use Rattle.tpcc_mailbox.specs.Tokens.{identity, client_origin, idle_origin, waiting_origin, serving_origin};
 
 use super::{CountedTurn, One, Story, let_go, make_one, payment, posted, told};
 use std::alloc::Global;
@@ -11,7 +11,8 @@ use tpcc_book::{Naming, SeatedPurse, Seating, Turns};
 use tpcc_mailbox::{Client, Left};
 use tpcc_rows::Request;
 use tpcc_server::{
-    Job, JobAnswer, JobMailboxes, JobServing, JobWaiting, OpenGate, Turning, ask, serve_round,
+    Job, JobAnswer, JobIdle, JobMailboxes, JobServing, JobWaiting, OpenGate, Turning, ask,
+    serve_round,
 };
 
 #[test]
@@ -29,10 +30,10 @@ pub(super) fn asked_in_vain<N: Naming, T: Seating, R: Wait + Abort>(
     let made = AtomicU64::new(0);
     let job = Job::of(payment(), one, CountedTurn { made: &made });
     let (request, purse) = no_answer(rt, alloc, job).give_back();
-    assert!(rt; is_payment(&request) && purse.entries() == 0);
-    assert!(rt; made.load(Ordering::SeqCst) == 0);
+    let seen = (is_payment(&request), purse.entries());
     let_go(request);
-    let_go(purse)
+    let_go(purse);
+    assert!(rt; seen == (true, 0) && made.load(Ordering::SeqCst) == 0);
 }
 
 fn is_payment(request: &Request) -> bool {
@@ -51,13 +52,38 @@ fn no_answer<N: Naming, T: Seating, C: Turning, R: Wait + Abort>(
         mut serving,
     } = make_one(rt, alloc);
     mailboxes.close(&mut serving);
-    let Err(waiting) = ask(rt, &mailboxes, idle, job) else {
+    let waiting = unanswered(rt, &mailboxes, idle, job);
+    letter_of(rt, reclaimed(rt, alloc, mailboxes, waiting, serving))
+}
+
+/// Asks a job in vain.
+fn unanswered<N: Naming, T: Seating, C: Drop, R: Wait + Abort>(
+    rt: &R,
+    mailboxes: &JobMailboxes<N, T, C>,
+    idle: JobIdle<N, T, C>,
+    job: Job<N, T, C>,
+) -> JobWaiting<N, T, C>
+    requires { idle_origin idle ≡ identity mailboxes.now }
+    ensures { waiting_origin result ≡ identity mailboxes.now }
+{
+    let Err(waiting) = ask(rt, mailboxes, idle, job) else {
         panic!(rt; "no server was there")
     };
-    let Left::Letter(job) = reclaimed(rt, alloc, mailboxes, waiting, serving) else {
+    waiting
+}
+
+fn letter_of<J: Drop, A: Drop, R: Abort>(rt: &R, left: Left<J, A>) -> J {
+    let Left::Letter(letter) = left else {
         panic!(rt; "the letter was not there")
     };
-    job
+    letter
+}
+
+fn reply_of<J: Drop, A: Drop, R: Abort>(rt: &R, left: Left<J, A>) -> A {
+    let Left::Reply(reply) = left else {
+        panic!(rt; "the answer was not there")
+    };
+    reply
 }
 
 type JobLeft<N, T, C> = Left<Job<N, T, C>, JobAnswer<N, T>>;
@@ -77,13 +103,13 @@ fn reclaimed<N: Naming, T: Seating, C: Drop, R: Abort>(
     clients.push_reserved(Client::Waiting(waiting));
     let mut servings = Vec::with_capacity(alloc, 1).expect(rt, "memory for a server");
     servings.push_reserved(serving);
-    let Ok(lefts) = mailboxes.reclaim(clients, servings) else {
-        panic!(rt; "memory for what is left")
-    };
+    let lefts = mailboxes.reclaim(clients, servings).ok();
+    last_left(rt, lefts.expect(rt, "memory for what is left"))
+}
+
+fn last_left<X: Drop, R: Abort>(rt: &R, lefts: Vec<X>) -> X {
     let mut lefts = lefts;
-    let left = lefts.pop().expect(rt, "there is one");
-    let_go(lefts);
-    left
+    lefts.pop().expect(rt, "there is one")
 }
 
 #[test]
@@ -99,11 +125,14 @@ pub(super) fn not_collected<N: Naming, T: Seating, R: Wait + Abort>(
     keeper: SeatedPurse<N, T>,
 ) {
     let made = AtomicU64::new(0);
-    let answer = answer_left(rt, alloc, turns, one, keeper, CountedTurn { made: &made });
-    assert!(rt; (answer.place(), made.load(Ordering::SeqCst)) == (Some(0), 1));
+    let call = CountedTurn { made: &made };
+    let (served, answer) = answer_left(rt, alloc, turns, one, keeper, call);
+    let place = answer.place();
+    let_go(answer);
+    assert!(rt; (served, place, made.load(Ordering::SeqCst)) == (1, Some(0), 1));
 }
 
-/// Serves the only job, and takes its answer out of the mailboxes that are taken apart.
+/// Serves a round, and takes the only job's answer out of the mailboxes that are taken apart.
 fn answer_left<N: Naming, T: Seating, C: Turning, R: Wait + Abort>(
     rt: &R,
     alloc: Global,
@@ -111,7 +140,7 @@ fn answer_left<N: Naming, T: Seating, C: Turning, R: Wait + Abort>(
     purse: SeatedPurse<N, T>,
     keeper: SeatedPurse<N, T>,
     call: C,
-) -> JobAnswer<N, T> {
+) -> (u64, JobAnswer<N, T>) {
     let One {
         mailboxes,
         idle,
@@ -120,9 +149,6 @@ fn answer_left<N: Naming, T: Seating, C: Turning, R: Wait + Abort>(
     let waiting = posted(&mailboxes, idle, purse, call);
     let (served, keeper) = serve_round(rt, &mailboxes, &mut serving, turns, &mut OpenGate, keeper);
     let_go(keeper);
-    assert!(rt; served == 1);
-    let Left::Reply(answer) = reclaimed(rt, alloc, mailboxes, waiting, serving) else {
-        panic!(rt; "the answer was not there")
-    };
-    answer
+    let left = reclaimed(rt, alloc, mailboxes, waiting, serving);
+    (served, reply_of(rt, left))
 }

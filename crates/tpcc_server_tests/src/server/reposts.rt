@@ -93,6 +93,6 @@ pub(super) fn closed_meanwhile<N: Naming, T: Seating, R: Wait + Abort>(
     let_go(keeper);
     let_go(serving);
     let_go(gate);
+    let_go(mailboxes);
     assert!(rt; served == 2);
-    let_go(mailboxes)
 }

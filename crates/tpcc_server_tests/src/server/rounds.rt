@@ -1,6 +1,6 @@
 //! Rounds with limits on one thread: which jobs they find, how many, and when they pass a gate.
-ghost use Rattle.std.specs.Prelude.{◌≡◌, None};
-ghost use Rattle.tpcc_mailbox.specs.Tokens.{identity, serving_origin, serving_hand};
+ghost use Rattle.std.specs.Prelude.{◌≡◌, All, None};
+ghost use Rattle.tpcc_mailbox.specs.Tokens.{identity, idle_origin, waiting_origin, serving_origin, serving_hand};
 
 use super::{CountedTurn, Story, is_paid, last_of, let_go, posted, told};
 use std::alloc::Global;
@@ -8,7 +8,9 @@ use std::process::Abort;
 use std::sync::Wait;
 use std::sync::atomic::{AtomicU64, Ordering};
 use tpcc_book::{Naming, SeatedPurse, Seating, Turns};
-use tpcc_server::{Gate, JobMailboxes, JobServing, Turning, serve_round, serve_until_closed};
+use tpcc_server::{
+    Gate, JobIdle, JobMailboxes, JobServing, JobWaiting, Turning, serve_round, serve_until_closed,
+};
 
 /// A gate that sees whether each job is turned between its two calls, in the order of the mailboxes.
 #[derive(Drop)]
@@ -64,17 +66,36 @@ pub(super) fn limited<N: Naming, T: Seating, R: Wait + Abort>(
 ) {
     let made = AtomicU64::new(0);
     let opened = JobMailboxes::<N, T, CountedTurn>::new(alloc, 3);
-    let (mailboxes, mut idles, serving) = opened.expect(rt, "memory for three mailboxes");
-    let last = last_of(rt, &mut idles, &mailboxes);
-    let_go(last_of(rt, &mut idles, &mailboxes));
-    let first = last_of(rt, &mut idles, &mailboxes);
-    let_go(idles);
-    let first = posted(&mailboxes, first, one, CountedTurn { made: &made });
-    let last = posted(&mailboxes, last, two, CountedTurn { made: &made });
+    let (mailboxes, idles, serving) = opened.expect(rt, "memory for three mailboxes");
+    let (first, last) = outer_posted(rt, &mailboxes, idles, one, two, &made);
     one_by_one(rt, &mailboxes, turns, serving, keeper, &made);
     is_paid(rt, &mailboxes, first);
     is_paid(rt, &mailboxes, last);
     let_go(mailboxes)
+}
+
+/// Posts in the first and the last of three mailboxes.
+fn outer_posted<'a, N: Naming, T: Seating, R: Abort>(
+    rt: &R,
+    mailboxes: &JobMailboxes<N, T, CountedTurn<'a>>,
+    idles: Vec<JobIdle<N, T, CountedTurn<'a>>>,
+    one: SeatedPurse<N, T>,
+    two: SeatedPurse<N, T>,
+    made: &'a AtomicU64,
+) -> (
+    JobWaiting<N, T, CountedTurn<'a>>,
+    JobWaiting<N, T, CountedTurn<'a>>,
+)
+    requires { All (λ x. idle_origin x ≡ identity mailboxes.now) idles.items }
+    ensures first { waiting_origin result.0 ≡ identity mailboxes.now }
+    ensures last { waiting_origin result.1 ≡ identity mailboxes.now }
+{
+    let mut idles = idles;
+    let last = last_of(rt, &mut idles, mailboxes);
+    let_go(last_of(rt, &mut idles, mailboxes));
+    let first = last_of(rt, &mut idles, mailboxes);
+    let first = posted(mailboxes, first, one, CountedTurn { made });
+    (first, posted(mailboxes, last, two, CountedTurn { made }))
 }
 
 /// The limit 0 answers none, the limit 1 the first job, a round the last one, and another round none.
@@ -98,11 +119,10 @@ fn one_by_one<'a, N: Naming, T: Seating, R: Wait + Abort>(
     let (serving, watch, none, keeper) = serve_until_closed(
         rt, mailboxes, serving, turns, watch, 0, keeper,
     );
-    assert!(rt; none == 0);
     let (serving, watch, one, keeper) = serve_until_closed(
         rt, mailboxes, serving, turns, watch, 1, keeper,
     );
-    assert!(rt; one == 1 && watch.has_seen(1, 0));
+    assert!(rt; (none, one) == (0, 1) && watch.has_seen(1, 0));
     rounds(rt, mailboxes, turns, serving, keeper, watch)
 }
 

@@ -1,27 +1,29 @@
-use Rattle.std.proofs.Common.{arith, ◌≡◌, ◌++◌, map, take, sym}
-use Rattle.std.specs.Prelude.{None}
-use Rattle.tpcc_tables.specs.Positions.{row_at, lent_row}
-use Rattle.tpcc_audit.specs.Dump.{records_text, rows_of}
-use Rattle.tpcc_audit.specs.Records.{record_of}
-use Rattle.tpcc_audit.proofs.RowLemmas.{one_record, no_record, all_rows}
-use Rattle.tpcc_audit.proofs.dumping.put_rows.Goals.{in-Some+in_ok-put_row+in_ok-put, in_default}
+use Rattle.std.proofs.Common.{arith, ◌∙◌, ◌++◌}
+use Rattle.tpcc_audit.specs.Part.{AppendsPart}
+use Rattle.tpcc_audit.proofs.Parts.{at_fault}
+use Rattle.tpcc_audit.proofs.RowLemmas.{all_text, put_more, put_whole, cut_before, cut_within}
 use Rattle.tpcc_audit.proofs.dumping.put_rows.Goals as goal
 
-pub loop-position-preserved : goal.loop-position-preserved
-loop-position-preserved g c = λ start text before. elim c.match-row.branch [
-  | in-Some+in_ok-put_row+in_ok-put w ↦
-      let place = sym (rw w.in-Some.is at c.row.ensures) in
-      let written = text ++ records_text (map record_of (take c.loop-position.position (rows_of c.args.tables.now.rows c.args.table))) in
-      let more = w.in_ok-put.ensures start written (c.loop-position.invariant start text before) in
-      let next = one_record c.args.tables.now.rows c.args.table c.loop-position.position (lent_row w.in-Some.row) text place in
-      rw (w.writer-is, sym next, sym w.in_ok-put_row.ensures) more
-  | in_default w ↦
-      let place : row_at c.args.tables.now.rows c.args.table c.loop-position.position ≡ None = sym (rw w.in_default.is at c.row.ensures) in
-      let same = no_record c.args.tables.now.rows c.args.table c.loop-position.position place in
-      rw (w.writer-is, same) (c.loop-position.invariant start text before)
-]
+pub returns-in_err-bytes-clause-part : goal.returns-in_err-bytes-clause-part
+returns-in_err-bytes-clause-part g c =
+    at_fault (AppendsPart (g.W.Write.contents c.args.out.now) (g.W.Write.contents c.turns.out) (c.args.blocks.now ++ all_text c.args.tables.now.rows c.args.table)) c.from_residual.result
+    (cut_before c.args.tables.now.rows c.args.table c.turns.done (g.W.Write.contents c.args.out.now) (g.W.Write.contents c.turns.out) c.args.blocks.now c.turns.blocks c.turns.invariant.written)
 
-pub returns : goal.returns
-returns g c = λ start text before.
-    let rows = all_rows c.args.tables.now.rows c.args.table c.loop-position.position (omega (arith, c.count-position-end.ensures)) in
-    rw (sym rows) (c.loop-position.invariant start text before)
+pub returns-in_err-put-clause-part : goal.returns-in_err-put-clause-part
+returns-in_err-put-clause-part g c =
+    at_fault (AppendsPart (g.W.Write.contents c.args.out.now) (g.W.Write.contents c.put.new.out) (c.args.blocks.now ++ all_text c.args.tables.now.rows c.args.table)) c.from_residual-in_err-put.result
+    (cut_within c.args.tables.now.rows c.args.table c.turns.done c.min-count.result (g.W.Write.contents c.args.out.now) (g.W.Write.contents c.turns.out) (g.W.Write.contents c.put.new.out) c.args.blocks.now c.turns.blocks c.as_slice.result.now
+    c.turns.invariant.written (c.as_slice.ensures.value ∙ c.in_ok-bytes.ensures) c.in_err-put.ensures.part)
+
+pub turns-preserved : goal.turns-preserved
+turns-preserved g c = record {
+  within = omega (arith, c.min-count.ensures, c.turns.invariant.within, c.turns-test.true);
+  written =
+      put_more c.args.tables.now.rows c.args.table c.turns.done c.min-count.result (g.W.Write.contents c.args.out.now) (g.W.Write.contents c.turns.out) (g.W.Write.contents c.put.new.out) c.args.blocks.now c.turns.blocks c.put.new.self c.as_slice.result.now
+      c.turns.invariant.written (c.as_slice.ensures.value ∙ c.in_ok-bytes.ensures) c.in_ok-put.ensures.written;
+}
+
+pub returns-clause-written : goal.returns-clause-written
+returns-clause-written g c =
+    put_whole c.args.tables.now.rows c.args.table c.turns.done (g.W.Write.contents c.args.out.now) (g.W.Write.contents c.turns.out) c.args.blocks.now c.turns.blocks
+    (omega (arith, c.count-end.ensures, c.turns-test.false)) c.turns.invariant.written

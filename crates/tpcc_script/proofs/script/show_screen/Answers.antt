@@ -1,4 +1,4 @@
-use Rattle.tpcc_script.proofs.Parts.{flushed, flush_broken}
+use Rattle.tpcc_audit.proofs.Parts.{flushed, flush_broken}
 use Rattle.tpcc_script.proofs.script.show_screen.Goals as goal
 
 pub returns-clause-ok : goal.returns-clause-ok

@@ -1,14 +1,29 @@
-use Rattle.std.proofs.Common.{subst}
-use Rattle.std.specs.Prelude.{IfOk}
-use Rattle.tpcc_book.specs.Past.{Past}
+use Rattle.std.proofs.Common.{subst, refl, inl, List, ℕ}
+use Rattle.std.specs.Prelude.{[], Some, Err, IfOk, OnErr}
+use Rattle.tpcc_book.specs.Past.{Past, opened}
+use Rattle.tpcc_audit.proofs.Parts.{none_part}
+use Rattle.tpcc_show.specs.Shown.{served_text}
+use Rattle.tpcc_script.specs.declared.fault.ScriptFault.TheVariants.{NoMemory}
 use Rattle.tpcc_script.specs.Script.{script_of}
-use Rattle.tpcc_script.specs.Session.{seen}
-use Rattle.tpcc_script.specs.Shown.{HasShown}
+use Rattle.tpcc_script.specs.Session.{opened_book, seen}
+use Rattle.tpcc_script.specs.Shown.{HasShown, HasShownPart}
 use Rattle.tpcc_script.proofs.showing.show_named.Goals as goal
 
 pub returns-in-Ok : goal.returns-in-Ok
 returns-in-Ok g c = record {
   shown = λ bytes known.
-      subst (λ (p : Past). IfOk c.show_session.result (λ r. HasShown (seen p) (script_of bytes) c.args.parts.now (g.W.Write.contents c.args.out) (g.W.Write.contents r.0) r.1))
+      subst (λ (p : Past). IfOk c.show_session.result (HasShown (seen p) (script_of bytes) c.args.parts.now (g.W.Write.contents c.args.out.now) (g.W.Write.contents c.show_session.new.out)))
       c.in-Ok.ensures.started (c.show_session.ensures.shown bytes known);
+  part = λ bytes known.
+      subst (λ (p : Past). OnErr c.show_session.result (HasShownPart (seen p) (script_of bytes) c.args.parts.now (g.W.Write.contents c.args.out.now) (g.W.Write.contents c.show_session.new.out)))
+      c.in-Ok.ensures.started (c.show_session.ensures.part bytes known);
+}
+
+pub returns-in-Err-clause-part : goal.returns-in-Err-clause-part
+returns-in-Err-clause-part g c = λ bytes known. record {
+  book = opened c.args.opening.now;
+  screens = [];
+  ended = Err NoMemory;
+  ran = inl (record { done = []; rest = (script_of bytes).calls; calls_are = refl; wrote = record { text = []; prints = (refl, refl); added = refl } });
+  part = none_part (g.W.Write.contents c.args.out.now) (served_text [] (opened c.args.opening.now) c.args.parts.now);
 }

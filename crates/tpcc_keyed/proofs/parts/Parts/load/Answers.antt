@@ -63,7 +63,7 @@ invariant_of-self-2 g c =
     parts_kept g.T.Keyed.key c.self-2.inside.len c.self-2.inside.room parts c.self-2.invariant c.unwrap-place.result c.index_mut.result.now c.put.new.part c.index_mut.ensures.value c.put.ensures.owner
     (c.self-2.inside.len + 1) 0 (omega arith) (omega (arith, count, c.if-self.false, c.self.invariant.bound)) (omega (arith, longer, all, c.self-2.invariant.counted))
     (owns_inserted g.T.Keyed.key c.index_mut.result.now c.put.new.part c.put.ensures.owner own c.args.row (sym c.owner-2.ensures ∙ sym numbers) c.in_ok-put.ensures.put)
-    (omega (arith, c.put.new.part.rows.ok.0))
+    c.in_ok-put.ensures.room
 
 pub returns-clause-loaded : goal.returns-clause-loaded
 returns-clause-loaded g c =

@@ -16,12 +16,12 @@ insert-requires g c =
 
 pub returns-clause-opened : goal.returns-clause-opened
 returns-clause-opened g c =
-    let part : Part g.row.T.Denot = record { owner = c.args.owner; rows = c.in-Ok.rows } in
+    let part : Part g.row.T.Denot = record { owner = c.args.owner; rows = c.of-rows.result } in
     let place = c.place_for-place.ensures ∙ ap (prefix_len (λ part. not (key_before (district_numbers c.args.owner) (part_numbers part)))) c.as_slice.ensures.value in
     record {
       part = part;
       of_owner = refl;
-      empty = c.in-Ok.ensures.items;
-      roomy = c.in-Ok.ensures.capacity;
+      empty = c.of-rows.ensures.items ∙ c.in-Ok.ensures.items;
+      roomy = omega (arith, c.of-rows.ensures.capacity, c.in-Ok.ensures.capacity);
       put = c.in-Ok-insert.ensures.items ∙ ap (λ i. insert c.args.parts.now.items i part) place ∙ insert_is_inserted (by_key part_numbers) part c.args.parts.now.items;
     }

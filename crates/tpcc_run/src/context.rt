@@ -1,0 +1,21 @@
+//! What each thread of a run is lent.
+ghost use Rattle.tpcc_run.specs.Outcome.{IsPlan};
+ghost use Rattle.tpcc_run.specs.Planned.{plan_once};
+
+use crate::plan::Plan;
+use std::alloc::Global;
+use tpcc_book::{Naming, Seating, Turns};
+use tpcc_population::Scale;
+
+/// What each thread of a run is lent: the turns are those of the run's book, and `make` gives the call of each
+/// request. That it may always be called no ghost field can say of a type parameter, so each method asks for it.
+#[derive(Drop)]
+pub(crate) struct RunContext<'r, N: Naming, T: Seating, F, R> {
+    pub rt: &'r R,
+    pub alloc: Global,
+    pub turns: &'r Turns<N, T>,
+    pub make: &'r F,
+    pub scale: Scale,
+    pub plan: Plan,
+    pub ghost planned: { IsPlan plan } by { plan_once plan },
+}
