@@ -1,16 +1,15 @@
 -- Numbers and amounts are read as they are written.
-use Rattle.std.proofs.Common.{◌≡◌, refl, ap, sym, ◌∙◌, ℕ, ◌+◌, ◌-◌, ◌*◌, ◌/◌, ◌%◌, ◌≤◌, ◌<◌, ◌^◌, Bool, true, false, List, [], ◌∷◌, ◌++◌, length, take, drop, Some, arith}
+use Rattle.std.proofs.Common.{◌≡◌, refl, ap, sym, ◌∙◌, ℕ, ◌+◌, ◌-◌, ◌*◌, ◌/◌, ◌%◌, ◌≤◌, ◌<◌, ◌^◌, Bool, true, false, List, [], ◌∷◌, ◌++◌, length, take, drop, Some, arith, nat_lt}
 use Rattle.std.specs.Prelude.{◌==◌, ◌&&◌, ◌||◌, not, decimal, pos, Ok}
 use Rattle.std.specs.List.{list_all}
 use Rattle.std.proofs.Common.{length-append}
 use Rattle.std.proofs.Math.Seq.{take-append_seam, drop-append_seam}
 use Rattle.std.proofs.lemmas.List.Folds.{list_all-append}
-use Rattle.std.proofs.lemmas.Fmt.{decimal_by_steps}
+use Rattle.std.proofs.lemmas.Fmt.{decimal_by_steps, decimal_digit, decimal_step}
 use Rattle.std.proofs.lemmas.Bool.Decides.{nat_tests}
 use Rattle.tpcc_money.specs.Numerals.{is_digit, value_from, value_of, is_decimal, at_most, number_up_to, is_cents, amount_of, amount_of_parts, amount_by, greatest_amount}
-use Rattle.tpcc_money.specs.Texts.{amount_text}
+use Rattle.tpcc_money.specs.Texts.{padded, amount_text}
 use Rattle.tpcc_money.proofs.Values.{value_from-append, within}
-use Rattle.tpcc_money.proofs.DigitLemmas.{padded_two}
 use Rattle.tpcc_rows.proofs.Booleans.{both_true}
 
 -- digits that spell a number with no needless zero in front
@@ -88,6 +87,22 @@ cents_read n h =
     (ap (λ v. amount_by (at_most greatest_amount (value_from v cents))) (spelled (n / 100) whole).value
     ∙ ap (λ v. amount_by (at_most greatest_amount v)) (cents_value n)
     ∙ ap amount_by (sym (within greatest_amount n h))))
+
+padded_two_by : (n : ℕ) (one : Bool) → nat_lt n 10 ≡ one → n < 100 → padded 2 n ≡ (48 + n / 10) ∷ (48 + n % 10) ∷ []
+padded_two_by n true small within =
+    let h : n < 10 = grind (arith, nat_tests) in
+    let none : n / 10 ≡ 0 = omega arith in
+    let same : n % 10 ≡ n = omega arith in
+    rw (decimal_digit n h, none, same) refl
+padded_two_by n false large within =
+    let h : 10 ≤ n = grind (arith, nat_tests) in
+    let e : decimal n ≡ (48 + n / 10) ∷ (48 + n % 10) ∷ [] =
+        decimal_step n h (omega arith) ∙ ap (λ ds. ds ++ (48 + n % 10) ∷ []) (decimal_digit (n / 10) (omega arith)) in
+    rw e refl
+
+-- two places hold both digits
+pub padded_two : (n : ℕ) → n < 100 → padded 2 n ≡ (48 + n / 10) ∷ (48 + n % 10) ∷ []
+padded_two n h = padded_two_by n (nat_lt n 10) refl h
 
 pub amount_is_read : (n : ℕ) → n ≤ 999999999999 → amount_of (amount_text (pos n)) ≡ Ok (pos n)
 amount_is_read n h =

@@ -8,7 +8,6 @@ use Rattle.std.proofs.lemmas.List.Folds.{list_all-append}
 use Rattle.std.proofs.lemmas.Bool.Decides.{nat_tests}
 use Rattle.tpcc_money.specs.Numerals.{is_digit}
 use Rattle.tpcc_money.specs.Texts.{amount_text}
-use Rattle.tpcc_money.proofs.DigitLemmas.{padded_two}
 use Rattle.tpcc_rows.specs.declared.requests.Who.{Who}
 use Rattle.tpcc_rows.specs.declared.requests.Who.TheVariants.{Number, Name}
 use Rattle.tpcc_rows.specs.declared.requests.Line.{Line}
@@ -17,7 +16,7 @@ use Rattle.tpcc_laws.proofs.ListLemmas.{list_all-mono}
 use Rattle.tpcc_terminal.specs.RequestLines.{customer_word, order_line_word}
 use Rattle.tpcc_script.specs.Script.{is_capital, is_last_name, number_of, moment_of, cents_of, customer_of, order_line_of, order_line_of_parts, parts_of}
 use Rattle.tpcc_script.specs.Sayable.{is_number, is_moment, is_amount, is_customer_word, is_order_line}
-use Rattle.tpcc_script.proofs.NumeralLaws.{Spells, spelled, all_digits, number_is_read, amount_is_read}
+use Rattle.tpcc_script.proofs.NumeralLaws.{Spells, spelled, all_digits, number_is_read, padded_two, amount_is_read}
 use Rattle.tpcc_script.proofs.PartLaws.{is_free_of, is_word, is_brief, part_before, last_part}
 
 pub bound : (most n : ℕ) → nat_le n most ≡ true → n ≤ most
