@@ -97,7 +97,7 @@ padded_two_by n true small within =
 padded_two_by n false large within =
     let h : 10 ≤ n = grind (arith, nat_tests) in
     let e : decimal n ≡ (48 + n / 10) ∷ (48 + n % 10) ∷ [] =
-        decimal_step n h (omega arith) ∙ ap (λ ds. ds ++ (48 + n % 10) ∷ []) (decimal_digit (n / 10) (omega arith)) in
+    decimal_step n h (omega arith) ∙ ap (λ ds. ds ++ (48 + n % 10) ∷ []) (decimal_digit (n / 10) (omega arith)) in
     rw e refl
 
 -- two places hold both digits
