@@ -22,7 +22,7 @@ use tpcc_program::{
 use tpcc_rows::{Request, Table};
 use tpcc_run::{Plan, run_shown};
 use tpcc_script::{run_script, show_script};
-use tpcc_server::{Call, Turner, Turning};
+use tpcc_server::{BoxedTurn, OneTurn, TurnCall};
 use tpcc_show::{Part, put_requests};
 use tpcc_terminal::Report;
 
@@ -102,7 +102,7 @@ fn explain<R: Env + AllocGlobal + Eprint>(rt: &R, alloc: Global, fault: ProgramF
 
 /// Runs terminals and servers, and writes the report to standard output.
 fn report_plan<
-    C: Turning + Send,
+    C: OneTurn + Send,
     F: Fn(Global) -> Result<C, AllocError> + Sync,
     R: Print + Threads + Wait + Sync,
 >(rt: &R, alloc: Global, opening: &Opening, plan: &Plan, make: F) -> Result<(), ProgramFault>
@@ -124,7 +124,7 @@ fn tell_report<R: Eprint>(rt: &R, parts: &[Part], report: &Report) {
 
 /// Runs terminals and servers, and writes parts of their book to standard output.
 fn show_plan<
-    C: Turning + Send,
+    C: OneTurn + Send,
     F: Fn(Global) -> Result<C, AllocError> + Sync,
     R: Print + Eprint + Threads + Wait + Sync,
 >(
@@ -149,7 +149,7 @@ fn show_plan<
 
 /// Runs terminals and servers; writes the report, or the parts that are asked for.
 fn run_plan<
-    C: Turning + Send,
+    C: OneTurn + Send,
     F: Fn(Global) -> Result<C, AllocError> + Sync,
     R: Print + Eprint + Threads + Wait + Sync,
 >(
@@ -171,7 +171,7 @@ fn run_plan<
 
 /// The same, and tells how far the run has come whenever a terminal asks its next request.
 fn run_watched<
-    C: Turning + Send,
+    C: OneTurn + Send,
     F: Fn(Global) -> Result<C, AllocError> + Sync,
     R: Print + Eprint + Clock + Threads + Wait + Sync,
 >(
@@ -204,7 +204,7 @@ fn run_watched<
 
 /// Runs terminals and servers as [`run_plan`] does, and tells how long the opening and the requests took.
 fn run_timed<
-    C: Turning + Send,
+    C: OneTurn + Send,
     F: Fn(Global) -> Result<C, AllocError> + Sync,
     R: Print + Eprint + Clock + Threads + Wait + Sync,
 >(
@@ -275,7 +275,7 @@ fn put_asked<R: Print>(
 
 /// Does what the words ask; `watched` is whether somebody sees standard error.
 fn run<
-    C: Turning + Send,
+    C: OneTurn + Send,
     F: Fn(Global) -> Result<C, AllocError> + Sync,
     R: Print + Eprint + Clock + Input + Env + AllocGlobal + Threads + Wait + Sync,
 >(rt: &R, alloc: Global, watched: bool, make: F) -> Result<(), ProgramFault>
@@ -300,14 +300,14 @@ fn main(rt: HostRuntime) -> ExitCode {
         &rt,
         rt.alloc(),
         watched,
-        |alloc: Global| -> Result<Turner, AllocError> {
-            let call: Call = Box::new(
+        |alloc: Global| -> Result<BoxedTurn, AllocError> {
+            let call: TurnCall = Box::new(
                 alloc,
                 |register: &mut Register, request: Request, terminal: u32, number: u64| -> Turned
                     ensures { IsTurn register.old terminal number request result register.new }
                 { register.turn(request, terminal, number) },
             )?;
-            Ok(Turner::new(call))
+            Ok(BoxedTurn::new(call))
         },
     );
     match ended {

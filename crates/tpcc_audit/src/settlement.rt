@@ -1,5 +1,6 @@
 //! The settlement of a book with all purses.
 ghost use Rattle.std.specs.Prelude.{◌≡◌, ◌↔◌, IsOk, IfOk, IfErr, IfSome};
+ghost use Rattle.tpcc_book.specs.Purses.{all_parts};
 ghost use Rattle.tpcc_book.specs.Seats.{purses_of};
 ghost use Rattle.tpcc_book.specs.Serve.{rooms_of};
 ghost use Rattle.tpcc_audit.specs.Settlement.{AllSeen, IsSettled, IsUnsettled};
@@ -30,7 +31,7 @@ pub fn settle<N: Naming, T: Seating>(
     receipts: &[Receipt],
 ) -> Result<(Book<N>, Report), (Option<Book<N>>, Unsettled)>
     requires receipts { AllSeen purses.items receipts.now }
-    ensures exactly { IsOk result ↔ (rooms_of (purses_of purses.items) ≡ 10001) }
+    ensures exactly { IsOk result ↔ (rooms_of (purses_of purses.items) ≡ all_parts) }
     ensures settled { IfOk result (λ r. IsSettled turns purses.items receipts.now r.0 r.1) }
     ensures missing { IfErr result (λ e. IfSome e.0 (IsUnsettled turns purses.items receipts.now)) }
 {

@@ -12,12 +12,12 @@ use Rattle.tpcc_population.specs.declared.opening.Opening.{Opening}
 use Rattle.tpcc_book.specs.Past.{Past}
 use Rattle.tpcc_book.specs.Seats.{Seated, purses_of}
 use Rattle.tpcc_book.specs.Serve.{rooms_of}
-use Rattle.tpcc_book.specs.Purses.{Pooled}
+use Rattle.tpcc_book.specs.Purses.{Pooled, all_parts}
 use Rattle.tpcc_book.specs.Closing.{TellsBook, IsLeft, IsAudited, IsGathered}
 use Rattle.tpcc_book.specs.Gathering.{AreAll, HasSeen, AllBegin, HasJoined}
 use Rattle.tpcc_book.specs.declared.turns.knows.Knows.{Knows}
 use Rattle.tpcc_book.specs.declared.turns.knows.Stage.TheVariants.{Idle}
-use Rattle.tpcc_book.specs.Turning.{out_of, Stands, AtHome, Away, IsTurning}
+use Rattle.tpcc_book.specs.TurnRule.{out_of, Stands, AtHome, Away, IsTurning}
 use Rattle.tpcc_book.proofs.Seats.{total_le}
 use Rattle.tpcc_book.proofs.Shares.{none_out}
 
@@ -113,7 +113,7 @@ no_book : (book : Past) → None ≡ Some book → ⊥
 no_book book e = cc e
 
 -- with every part in one idle seat there is a book
-pub is_there : (start : Opening) (id : ℕ) (v : Knows) (words : List ℕ) (slots : List (Option Past)) (told : Option Past) → Last start id v words slots → TellsBook words slots told → v.stage ≡ Idle → v.parts ≡ 10001 → told ≡ None → ⊥
+pub is_there : (start : Opening) (id : ℕ) (v : Knows) (words : List ℕ) (slots : List (Option Past)) (told : Option Past) → Last start id v words slots → TellsBook words slots told → v.stage ≡ Idle → v.parts ≡ all_parts → told ≡ None → ⊥
 is_there start id v words slots told last t idle all none =
     let s = last.0 in
     let h : IsTurning start s = last.1.0 in
@@ -135,7 +135,7 @@ module _ (start : Opening) (purses : List Seated) (pool : Pooled) (told : Option
   is_left None book l e = absurd (no_book book e)
   is_left (Some x) book l e = subst (IsLeft start purses) (some_of x book e) l
 
-  pub gathers : (r : Ended) → IfOk r (λ x. (pool.parts ≡ 10001) × (told ≡ Some x.0)) → IfOk r (λ x. IsAudited pool x.0 x.1 x.2) → IfOk r (λ x. IsGathered start purses x.0 x.1 x.2)
+  pub gathers : (r : Ended) → IfOk r (λ x. (pool.parts ≡ all_parts) × (told ≡ Some x.0)) → IfOk r (λ x. IsAudited pool x.0 x.1 x.2) → IfOk r (λ x. IsGathered start purses x.0 x.1 x.2)
   gathers (Ok x) all audited =
       record {
         left = is_left told x.0 left all.1;
@@ -154,10 +154,10 @@ module _ (start : Opening) (purses : List Seated) (pool : Pooled) (told : Option
   not_ok : (e : Option Past) → IsOk {T = Past × ℕ × ℤ} (Err e) → ⊥
   not_ok e ok = cc ok
 
-  pub all_where_ok : (r : Ended) → IfOk r (λ x. (pool.parts ≡ 10001) × (told ≡ Some x.0)) → IsOk r → rooms_of (purses_of purses) ≡ 10001
+  pub all_where_ok : (r : Ended) → IfOk r (λ x. (pool.parts ≡ all_parts) × (told ≡ Some x.0)) → IsOk r → rooms_of (purses_of purses) ≡ all_parts
   all_where_ok (Ok x) all ok = all_rooms ∙ all.0
   all_where_ok (Err e) all ok = absurd (not_ok e ok)
 
-  pub ok_where_all : (r : Ended) → IfErr r (λ e. pool.parts ≡ 10001 → told ≡ None) → (pool.parts ≡ 10001 → told ≡ None → ⊥) → rooms_of (purses_of purses) ≡ 10001 → IsOk r
+  pub ok_where_all : (r : Ended) → IfErr r (λ e. pool.parts ≡ all_parts → told ≡ None) → (pool.parts ≡ all_parts → told ≡ None → ⊥) → rooms_of (purses_of purses) ≡ all_parts → IsOk r
   ok_where_all (Ok x) few there all = refl
   ok_where_all (Err e) few there all = let parts = sym all_rooms ∙ all in absurd (there parts (few parts))

@@ -10,7 +10,7 @@ use Rattle.tpcc_rows.specs.declared.entry.Entry.{Entry}
 use Rattle.tpcc_book.specs.Past.{Past}
 use Rattle.tpcc_book.specs.declared.turns.knows.Knows.{Knows}
 use Rattle.tpcc_book.specs.declared.turns.knows.Stage.TheVariants.{Idle, Out, Holds}
-use Rattle.tpcc_book.specs.Turning.{knows, out_of, IsSeated, AtHome, Away, IsTurning, Drew}
+use Rattle.tpcc_book.specs.TurnRule.{knows, out_of, IsSeated, AtHome, Away, IsTurning, Drew}
 use Rattle.tpcc_book.proofs.Seats.{total_set, each_set, apart_set, ticket_below, seated_more_drawn}
 use Rattle.tpcc_population.specs.declared.opening.Opening.{Opening}
 

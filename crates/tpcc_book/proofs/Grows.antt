@@ -10,7 +10,7 @@ use Rattle.tpcc_book.specs.Past.{Past}
 use Rattle.tpcc_book.specs.declared.turns.knows.Knows.{Knows}
 use Rattle.tpcc_book.specs.declared.turns.knows.Stage.{Stage}
 use Rattle.tpcc_book.specs.declared.turns.knows.Stage.TheVariants.{Idle, Out, Holds}
-use Rattle.tpcc_book.specs.Turning.{knows, out_of, HasTicket, Stands, IsSeated, IsTurning, Grown}
+use Rattle.tpcc_book.specs.TurnRule.{knows, out_of, HasTicket, Stands, IsSeated, IsTurning, Grown}
 use Rattle.tpcc_book.proofs.Seats.{total_set, each_set, apart_set, set_same, prefix_self, prefix_trans, heard_on}
 use Rattle.tpcc_book.proofs.Ends.{holder, some_same, is_away}
 use Rattle.tpcc_population.specs.declared.opening.Opening.{Opening}

@@ -11,12 +11,12 @@ use Rattle.tpcc_rows.specs.declared.replies.Reply.{Reply}
 use Rattle.tpcc_rows.specs.declared.refusals.Refusal.{Refusal}
 use Rattle.tpcc_rows.specs.Replay.{count_of, paid_by_request}
 use Rattle.tpcc_book.specs.Past.{Past, IsKept}
-use Rattle.tpcc_book.specs.Purses.{Held}
+use Rattle.tpcc_book.specs.Purses.{PurseView}
 use Rattle.tpcc_book.specs.Told.{Told}
 use Rattle.tpcc_book.specs.Serve.{IsServed, credited}
 use Rattle.tpcc_book.specs.Seats.{Seated, start_of, front_of, number_of, keeping, IsTurned}
 use Rattle.tpcc_book.specs.Shares.{heard_of, both_of, last_parts, freed_of, back_of}
-use Rattle.tpcc_book.specs.Turning.{knows, IsHeard, Grew}
+use Rattle.tpcc_book.specs.TurnRule.{knows, IsHeard, Grew}
 use Rattle.tpcc_book.specs.TurnSteps.{Taken, Giving, Growing, CanGrow, Shown}
 use Rattle.tpcc_book.specs.declared.turns.knows.Knows.{Knows}
 use Rattle.tpcc_book.specs.declared.turns.knows.Stage.TheVariants.{Idle, Holds}
@@ -138,20 +138,20 @@ back me one two four w old new views room is shown gone v count =
     here ∙ (λ i. knows (sym (ap start_of here) i) (sym (ap front_of here) i) (room + 1) Idle [] ∷ [])
 
 -- the rooms of a purse stay
-pub room_stays : (request : Request) (held after : Held) (outcome : Result Reply Refusal) → MatchResult outcome (λ reply. after ≡ credited held (paid_by_request request)) (λ refusal. after ≡ held) → after.room ≡ held.room
-room_stays request held after (Ok reply) is = ap (λ (h : Held). h.room) is
-room_stays request held after (Err refusal) is = ap (λ (h : Held). h.room) is
+pub room_stays : (request : Request) (held after : PurseView) (outcome : Result Reply Refusal) → MatchResult outcome (λ reply. after ≡ credited held (paid_by_request request)) (λ refusal. after ≡ held) → after.room ≡ held.room
+room_stays request held after (Ok reply) is = ap (λ (h : PurseView). h.room) is
+room_stays request held after (Err refusal) is = ap (λ (h : PurseView). h.room) is
 
-pub longer_of : (old new : Past) (request : Request) (held : Held) (answer : Told Held) → IsServed old request held answer new → IsPrefix old.entries new.entries
+pub longer_of : (old new : Past) (request : Request) (held : PurseView) (answer : Told PurseView) → IsServed old request held answer new → IsPrefix old.entries new.entries
 longer_of old new request held answer served =
     grown old new held.terminal held.entries request answer.place answer.outcome served.turn.accepts served.turn.refuses
 
-pub opening_stays : (old new : Past) (request : Request) (held : Held) (answer : Told Held) → IsServed old request held answer new → new.opening ≡ old.opening
+pub opening_stays : (old new : Past) (request : Request) (held : PurseView) (answer : Told PurseView) → IsServed old request held answer new → new.opening ≡ old.opening
 opening_stays old new request held answer served =
     same_opening old new held.terminal held.entries request answer.place answer.outcome served.turn.accepts served.turn.refuses
 
 -- one turn of the book for the purse that asked
-pub turned_within : (held after : Held) (views views' : List Knows) (purse : Seated) (me one two four : Mine) (w : Knows) (parts : ℕ) (old new : Past) (answer : Told Held) (request asked : Request) (outcome : Result Reply Refusal) (place : Option ℕ)
+pub turned_within : (held after : PurseView) (views views' : List Knows) (purse : Seated) (me one two four : Mine) (w : Knows) (parts : ℕ) (old new : Past) (answer : Told PurseView) (request asked : Request) (outcome : Result Reply Refusal) (place : Option ℕ)
     → record { purse = held; start = start_of views; front = front_of views } ≡ purse → views ≡ w ∷ [] → me ≡ keeping me parts old → old.opening ≡ me.0.start → one ≡ (both_of me.0 w, me.1) → IsServed old request held answer new
     → Shown one new two → four ≡ (back_of two.0, []) → views' ≡ four.0 ∷ []
     → asked ≡ answer.request → outcome ≡ answer.outcome → place ≡ answer.place → after ≡ answer.purse → IsKept new
@@ -164,7 +164,7 @@ turned_within held after views views' purse me one two four w parts old new answ
     let theirs : w.start ≡ purse.start = sym (ap start_of v) ∙ ap (λ (p : Seated). p.start) is in
     let mine : w.start ≡ me.0.start = heard.0 ∙ ap (λ (m : Mine). m.0.start) joined in
     let told : answer ≡ record { request = asked; outcome = outcome; place = place; purse = after } = λ i. record { request = sym e1 i; outcome = sym e2 i; place = sym e3 i; purse = sym e4 i } in
-    let it : IsServed old request purse.purse (record { request = asked; outcome = outcome; place = place; purse = after }) new = subst (λ (a : Told Held). IsServed old request purse.purse a new) told (subst (λ (h : Held). IsServed old request h answer new) (ap (λ (p : Seated). p.purse) is) served) in
+    let it : IsServed old request purse.purse (record { request = asked; outcome = outcome; place = place; purse = after }) new = subst (λ (a : Told PurseView). IsServed old request purse.purse a new) told (subst (λ (h : PurseView). IsServed old request h answer new) (ap (λ (p : Seated). p.purse) is) served) in
     let seen : front_of views' ≡ new.entries = ap front_of v' ∙ (ap (λ (m : Mine). m.0.front) gone ∙ ap (λ (m : Mine). m.0.front) shown.now_is) in
     record {
       old = old;

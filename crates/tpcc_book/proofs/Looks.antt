@@ -12,7 +12,7 @@ use Rattle.tpcc_book.specs.Past.{Past}
 use Rattle.tpcc_book.specs.declared.turns.knows.Knows.{Knows}
 use Rattle.tpcc_book.specs.declared.turns.knows.Stage.{Stage}
 use Rattle.tpcc_book.specs.declared.turns.knows.Stage.TheVariants.{Out, Holds}
-use Rattle.tpcc_book.specs.Turning.{knows, out_of, HasTicket, Stands, IsSeated, AtHome, Away, IsTurning, Took, Looked}
+use Rattle.tpcc_book.specs.TurnRule.{knows, out_of, HasTicket, Stands, IsSeated, AtHome, Away, IsTurning, Took, Looked}
 use Rattle.tpcc_book.specs.TurnSteps.{Awaits}
 use Rattle.tpcc_book.proofs.Seats.{total_set, total_le, each_set, apart_set, set_same, prefix_self}
 use Rattle.tpcc_population.specs.declared.opening.Opening.{Opening}

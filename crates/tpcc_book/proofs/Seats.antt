@@ -11,7 +11,7 @@ use Rattle.tpcc_book.specs.declared.turns.knows.Knows.{Knows}
 use Rattle.tpcc_book.specs.declared.turns.knows.Heard.{Heard}
 use Rattle.tpcc_book.specs.declared.turns.knows.Stage.{Stage}
 use Rattle.tpcc_book.specs.declared.turns.knows.Stage.TheVariants.{Idle, Out, Holds}
-use Rattle.tpcc_book.specs.Turning.{total, HasTicket, Stands, IsHeard, IsSeated}
+use Rattle.tpcc_book.specs.TurnRule.{total, HasTicket, Stands, IsHeard, IsSeated}
 use Rattle.tpcc_population.specs.declared.opening.Opening.{Opening}
 
 -- the total after a change of one seat

@@ -8,14 +8,14 @@ use Rattle.tpcc_rows.specs.declared.entry.Entry.{Entry}
 use Rattle.tpcc_book.specs.Past.{Past}
 use Rattle.tpcc_book.specs.declared.turns.knows.Knows.{Knows}
 use Rattle.tpcc_book.specs.declared.turns.knows.Stage.TheVariants.{Idle, Holds}
-use Rattle.tpcc_book.specs.Turning.{knows, Took}
+use Rattle.tpcc_book.specs.TurnRule.{knows, Took}
 use Rattle.tpcc_book.specs.TurnSteps.{Drawn, Taken, Giving, Ending}
 use Rattle.tpcc_book.specs.Seats.{Seated, start_of, front_of, IsTurned}
 use Rattle.std.specs.Prelude.{Result}
 use Rattle.tpcc_rows.specs.declared.requests.Request.{Request}
 use Rattle.tpcc_rows.specs.declared.replies.Reply.{Reply}
 use Rattle.tpcc_rows.specs.declared.refusals.Refusal.{Refusal}
-use Rattle.tpcc_book.specs.Purses.{Held}
+use Rattle.tpcc_book.specs.Purses.{PurseView}
 use Rattle.tpcc_book.specs.Told.{Told}
 use Rattle.tpcc_book.specs.Serve.{IsServed, credited}
 use Rattle.tpcc_book.specs.Turn.{entry_of, Accepts, Refuses}
@@ -76,7 +76,7 @@ taken_of me one two three ticket x book empty d t e is last =
     }
 
 -- of the terminal's entries, the journal after an accepted turn has as many as the purse
-pub own_of : (old new : Past) (request : Request) (held after : Held) (asked : Request) (outcome : Result Reply Refusal) (place : Option ℕ)
+pub own_of : (old new : Past) (request : Request) (held after : PurseView) (asked : Request) (outcome : Result Reply Refusal) (place : Option ℕ)
     → IsServed old request held (record { request = asked; outcome = outcome; place = place; purse = after }) new
     → (reply : Reply) → outcome ≡ Ok reply → count_of after.terminal new.entries ≡ after.entries
 own_of old new request held after asked outcome place served reply is =
@@ -85,7 +85,7 @@ own_of old new request held after asked outcome place served reply is =
     let credit : after ≡ credited held (paid_by_request request) = elim_ok outcome reply is served.fits.purse_is in
     let last = entry_of old held.terminal held.entries request in
     let more : count_of held.terminal (old.entries ++ last ∷ []) ≡ count_of held.terminal old.entries + 1 = count_more held.terminal old.entries last refl in
-    ap (λ (h : Held). count_of h.terminal new.entries) credit ∙ (ap (λ (p : Past). count_of held.terminal p.entries) a.new_is ∙ (more ∙ (ap (λ (n : ℕ). n + 1) (sym number) ∙ sym (ap (λ (h : Held). h.entries) credit))))
+    ap (λ (h : PurseView). count_of h.terminal new.entries) credit ∙ (ap (λ (p : Past). count_of held.terminal p.entries) a.new_is ∙ (more ∙ (ap (λ (n : ℕ). n + 1) (sym number) ∙ sym (ap (λ (h : PurseView). h.entries) credit))))
   where
     elim_ok : (o : Result Reply Refusal) (reply : Reply) → o ≡ Ok reply → MatchResult o (λ reply. after ≡ credited held (paid_by_request request)) (λ refusal. after ≡ held) → after ≡ credited held (paid_by_request request)
     elim_ok (Ok r) reply e h = h
@@ -97,7 +97,7 @@ own_of old new request held after asked outcome place served reply is =
         let one : count_of terminal (e ∷ []) ≡ 1 = rw it refl in
         sum_by-append (λ (x : Entry). cond (x.terminal == terminal) 1 0) es (e ∷ []) ∙ ap (λ (n : ℕ). count_of terminal es + n) one
 
-pub turned_of : (held after : Held) (views views' : List Knows) (purse : Seated) (me two four : Mine) (ticket : ℕ) (old new : Past) (answer : Told Held) (request asked : Request) (outcome : Result Reply Refusal) (place : Option ℕ)
+pub turned_of : (held after : PurseView) (views views' : List Knows) (purse : Seated) (me two four : Mine) (ticket : ℕ) (old new : Past) (answer : Told PurseView) (request asked : Request) (outcome : Result Reply Refusal) (place : Option ℕ)
     → record { purse = held; start = start_of views; front = front_of views } ≡ purse → views ≡ me.0 ∷ [] → Taken me ticket old two → IsServed old request held answer new
     → four ≡ (knows two.0.start new.entries two.0.parts Idle two.0.told, []) → views' ≡ four.0 ∷ []
     → asked ≡ answer.request → outcome ≡ answer.outcome → place ≡ answer.place → after ≡ answer.purse → IsKept new
@@ -105,7 +105,7 @@ pub turned_of : (held after : Held) (views views' : List Knows) (purse : Seated)
 turned_of held after views views' purse me two four ticket old new answer request asked outcome place is v t served ended v' e1 e2 e3 e4 kept =
     let begun : me.0.start ≡ purse.start = sym (ap start_of v) ∙ ap (λ (p : Seated). p.start) is in
     let told : answer ≡ record { request = asked; outcome = outcome; place = place; purse = after } = λ i. record { request = sym e1 i; outcome = sym e2 i; place = sym e3 i; purse = sym e4 i } in
-    let one : IsServed old request purse.purse (record { request = asked; outcome = outcome; place = place; purse = after }) new = subst (λ (a : Told Held). IsServed old request purse.purse a new) told (subst (λ (h : Held). IsServed old request h answer new) (ap (λ (p : Seated). p.purse) is) served) in
+    let one : IsServed old request purse.purse (record { request = asked; outcome = outcome; place = place; purse = after }) new = subst (λ (a : Told PurseView). IsServed old request purse.purse a new) told (subst (λ (h : PurseView). IsServed old request h answer new) (ap (λ (p : Seated). p.purse) is) served) in
     let seen : front_of views' ≡ new.entries = ap front_of v' ∙ ap (λ (m : Mine). m.0.front) ended in
     record {
       old = old;
@@ -133,7 +133,7 @@ same_opening old new terminal number request place (Ok reply) ok err = ap (λ (p
 same_opening old new terminal number request place (Err refusal) ok err = ap (λ (p : Past). p.opening) (err refusal refl).same
 
 -- the book may go back after a turn
-pub giving_of : (me two : Mine) (ticket : ℕ) (old new : Past) (request : Request) (held : Held) (answer : Told Held) → Taken me ticket old two → IsServed old request held answer new → Giving two ticket new
+pub giving_of : (me two : Mine) (ticket : ℕ) (old new : Past) (request : Request) (held : PurseView) (answer : Told PurseView) → Taken me ticket old two → IsServed old request held answer new → Giving two ticket new
 giving_of me two ticket old new request held answer t served =
     let turn = served.turn in
     record {

@@ -8,11 +8,12 @@ use Rattle.atomic_table.specs.Table.{State, Splits, Joins}
 use Rattle.atomic_table.proofs.Lists.{at_snoc, at_longer, set_else}
 use Rattle.tpcc_rows.specs.declared.entry.Entry.{Entry}
 use Rattle.tpcc_book.specs.Past.{Past}
+use Rattle.tpcc_book.specs.Purses.{all_parts}
 use Rattle.tpcc_book.specs.declared.turns.knows.Knows.{Knows}
 use Rattle.tpcc_book.specs.declared.turns.knows.Stage.{Stage}
 use Rattle.tpcc_book.specs.declared.turns.knows.Heard.{Heard}
 use Rattle.tpcc_book.specs.declared.turns.knows.Stage.TheVariants.{Idle, Out, Holds}
-use Rattle.tpcc_book.specs.Turning.{knows, out_of, total, HasTicket, IsHeard, IsSeated, AtHome, Away, IsTurning, no_opening}
+use Rattle.tpcc_book.specs.TurnRule.{knows, out_of, total, HasTicket, IsHeard, IsSeated, AtHome, Away, IsTurning, no_opening}
 use Rattle.tpcc_book.specs.Shares.{kept_of, given_of, heard_of, both_of, nobody, last_parts, freed_of, back_of}
 use Rattle.tpcc_book.proofs.Seats.{total_set, total_le, each_set, apart_set, set_same}
 use Rattle.tpcc_population.specs.declared.opening.Opening.{Opening}
@@ -172,7 +173,7 @@ frees start id v has few s h at =
     }
 
 -- once every part is in one idle seat no ticket is out
-pub none_out : (start : Opening) (s : State (Option Past) Knows) (id : ℕ) (v : Knows) (h : IsTurning start s) → get_elem? s.views id ≡ some v → v.stage ≡ Idle → v.parts ≡ 10001 → h.drawn ≡ h.served
+pub none_out : (start : Opening) (s : State (Option Past) Knows) (id : ℕ) (v : Knows) (h : IsTurning start s) → get_elem? s.views id ≡ some v → v.stage ≡ Idle → v.parts ≡ all_parts → h.drawn ≡ h.served
 none_out start s id v h at idle all =
     let none = knows no_opening [] 0 Idle [] in
     let out = λ (u : Knows). out_of u.stage in

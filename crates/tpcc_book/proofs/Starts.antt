@@ -8,7 +8,7 @@ use Rattle.tpcc_book.specs.Past.{Past, opened}
 use Rattle.std.specs.Prelude.{Option}
 use Rattle.tpcc_book.specs.declared.turns.knows.Knows.{Knows}
 use Rattle.tpcc_book.specs.declared.turns.knows.Stage.TheVariants.{Idle, Holds}
-use Rattle.tpcc_book.specs.Turning.{first, HasTicket, IsSeated, IsTurning}
+use Rattle.tpcc_book.specs.TurnRule.{first, HasTicket, IsSeated, IsTurning}
 use Rattle.tpcc_population.specs.declared.opening.Opening.{Opening}
 
 pub starts : (start : Opening) (book : Past) → book.opening ≡ start → book.entries ≡ [] → IsTurning start (opening (0 ∷ 0 ∷ []) (Some book ∷ []) (first start))

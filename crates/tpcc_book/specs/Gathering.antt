@@ -4,7 +4,7 @@ use mathlib.Core.Option.{some}
 use mathlib.Core.List.{IsPrefix}
 use lib.ListN.{get_elem?}
 use Rattle.tpcc_rows.specs.declared.entry.Entry.{Entry}
-use Rattle.tpcc_book.specs.Purses.{Held, Pooled}
+use Rattle.tpcc_book.specs.Purses.{PurseView, Pooled}
 use Rattle.tpcc_book.specs.Serve.{rooms_of, entries_of, paid_of}
 use Rattle.tpcc_book.specs.Seats.{Seated, purses_of}
 use Rattle.tpcc_book.specs.declared.turns.knows.Knows.{Knows}
@@ -12,7 +12,7 @@ use Rattle.tpcc_book.specs.declared.turns.knows.Heard.{Heard}
 use Rattle.tpcc_book.specs.declared.turns.knows.Stage.TheVariants.{Idle}
 
 -- what is pooled and what is left are all
-pub record AreAll (purses : List Held) (pool : Pooled) (rest : List Held) : Type 0 where
+pub record AreAll (purses : List PurseView) (pool : Pooled) (rest : List PurseView) : Type 0 where
   pub rooms : pool.parts + rooms_of rest ≡ rooms_of purses
   pub entries : pool.entries + entries_of rest ≡ entries_of purses
   pub paid : pool.paid +ℤ paid_of rest ≡ paid_of purses

@@ -9,4 +9,4 @@ pub mod Shares
 pub mod Told
 pub mod Turn
 pub mod TurnSteps
-pub mod Turning
+pub mod TurnRule

@@ -1,8 +1,8 @@
 -- What a purse is seen as, and what purses have together.
-use Rattle.std.specs.Prelude.{ℕ, ◌+◌, ℤ, ◌+ℤ◌}
+use Rattle.std.specs.Prelude.{ℕ, ◌+◌, ℤ, pos, ◌+ℤ◌}
 
 -- the terminal, how many entries it made, what it paid, and how many purses it can still split off
-pub record Held : Type 0 where
+pub record PurseView : Type 0 where
   pub terminal : ℕ
   pub entries : ℕ
   pub paid : ℤ
@@ -15,9 +15,21 @@ pub record Pooled : Type 0 where
   pub paid : ℤ
 
 -- one purse is one part, and one for each that it can still split off
-abbrev pub pool_of : Held → Pooled
+abbrev pub pool_of : PurseView → Pooled
 pool_of p = record { parts = p.room + 1; entries = p.entries; paid = p.paid }
 
-abbrev pub pooled : Pooled → Held → Pooled
+-- how many purses can be split off the first purse of a book
+abbrev pub most_purses : ℕ
+most_purses = 10000
+
+-- the parts of a book: the first purse is one, and so is each that can be split off it
+abbrev pub all_parts : ℕ
+all_parts = 10001
+
+-- the first purse of a book, before any is split off
+abbrev pub first_purse : PurseView
+first_purse = record { terminal = 0; entries = 0; paid = pos 0; room = most_purses }
+
+abbrev pub pooled : Pooled → PurseView → Pooled
 pooled pool p =
     record { parts = pool.parts + (p.room + 1); entries = pool.entries + p.entries; paid = pool.paid +ℤ p.paid }

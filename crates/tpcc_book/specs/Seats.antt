@@ -3,7 +3,7 @@ use Rattle.std.specs.Prelude.{ℕ, ◌≡◌, ◌+◌, List, [], ◌∷◌, map,
 use Rattle.atomic_table.specs.Seated.{TableId}
 use Rattle.atomic_table.specs.Table.{Me}
 use Rattle.tpcc_rows.specs.declared.entry.Entry.{Entry}
-use Rattle.tpcc_book.specs.Purses.{Held}
+use Rattle.tpcc_book.specs.Purses.{PurseView}
 use Rattle.tpcc_book.specs.declared.turns.knows.Knows.{Knows}
 use Rattle.tpcc_book.specs.declared.turns.knows.Stage.{Stage}
 use Rattle.tpcc_book.specs.declared.turns.knows.Stage.TheVariants.{Idle, Out, Holds}
@@ -13,7 +13,7 @@ use Rattle.std.specs.Result.{ForOk}
 use Rattle.tpcc_rows.specs.Replay.{count_of}
 use Rattle.tpcc_book.specs.Past.{Past, IsKept}
 use Rattle.tpcc_book.specs.Told.{Told}
-use Rattle.tpcc_book.specs.Turning.{knows, no_opening}
+use Rattle.tpcc_book.specs.TurnRule.{knows, no_opening}
 use Rattle.tpcc_book.specs.Serve.{IsServed}
 use Rattle.tpcc_population.specs.declared.opening.Opening.{Opening}
 
@@ -23,7 +23,7 @@ no_table =
 
 -- a purse, and the entries that it has seen
 pub record Seated : Type 0 where
-  pub purse : Held
+  pub purse : PurseView
   pub start : Opening
   pub front : List Entry
 
@@ -32,7 +32,7 @@ abbrev pub view_of : Seated → Knows
 view_of p = knows p.start p.front (p.purse.room + 1) Idle []
 
 -- the purses without their seats
-abbrev pub purses_of : List Seated → List Held
+abbrev pub purses_of : List Seated → List PurseView
 purses_of = map (λ p. p.purse)
 
 -- turns that have no name yet
@@ -42,7 +42,7 @@ pub record Unnamed : Type 0 where
 
 -- who keeps a turn: the purse, and the opening of its book
 pub record Keeper : Type 0 where
-  pub purse : Held
+  pub purse : PurseView
   pub start : Opening
 
 abbrev pub keeper_of : Seated → Keeper
@@ -59,7 +59,7 @@ keeping me parts book =
     (knows me.0.start book.entries parts (Holds (number_of me.0.stage) book.entries) [], (0, None) ∷ [])
 
 -- an answer with the purse alone
-abbrev pub by_purse : Told Seated → Told Held
+abbrev pub by_purse : Told Seated → Told PurseView
 by_purse answer =
     record { request = answer.request; outcome = answer.outcome; place = answer.place; purse = answer.purse.purse }
 

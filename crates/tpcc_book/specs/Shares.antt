@@ -3,7 +3,7 @@ use Rattle.std.specs.Prelude.{ℕ, ◌+◌, ◌-◌, List, [], ◌∷◌, ◌++�
 use Rattle.tpcc_book.specs.declared.turns.knows.Knows.{Knows}
 use Rattle.tpcc_book.specs.declared.turns.knows.Heard.{Heard}
 use Rattle.tpcc_book.specs.declared.turns.knows.Stage.TheVariants.{Idle}
-use Rattle.tpcc_book.specs.Turning.{knows, no_opening}
+use Rattle.tpcc_book.specs.TurnRule.{knows, no_opening}
 
 abbrev pub kept_of : Knows → Knows
 kept_of v = knows v.start v.front (v.parts - 1) v.stage v.told

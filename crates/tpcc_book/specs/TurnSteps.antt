@@ -9,7 +9,7 @@ use Rattle.tpcc_book.specs.Past.{Past}
 use Rattle.tpcc_book.specs.declared.turns.knows.Knows.{Knows}
 use Rattle.tpcc_book.specs.declared.turns.knows.Heard.{Heard}
 use Rattle.tpcc_book.specs.declared.turns.knows.Stage.TheVariants.{Out, Holds}
-use Rattle.tpcc_book.specs.Turning.{knows, IsHeard}
+use Rattle.tpcc_book.specs.TurnRule.{knows, IsHeard}
 
 -- a ticket was drawn
 pub record Drawn (me : Me (Option Past) Knows) (found : ℕ) (now : Me (Option Past) Knows) : Type 0 where

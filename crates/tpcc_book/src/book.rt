@@ -1,6 +1,7 @@
 //! The book: a register with the totals of its purses.
-ghost use Rattle.std.specs.Prelude.{◌≡◌, IfOk, pos, length};
+ghost use Rattle.std.specs.Prelude.{◌≡◌, IfOk, length};
 ghost use Rattle.tpcc_book.specs.Past.{IsKept, opened, rise_of};
+ghost use Rattle.tpcc_book.specs.Purses.{all_parts, first_purse};
 ghost use Rattle.tpcc_book.specs.Turn.{TakesTurn, MakesTurn};
 ghost use Rattle.tpcc_book.specs.Told.{answer_of};
 ghost use Rattle.tpcc_book.specs.Serve.{IsServed, rooms_of, entries_of, paid_of};
@@ -53,7 +54,7 @@ impl<N: Naming> Book<N> {
         requires cents { blanks.cents.name ≡ N.cents }
         ensures book { IfOk result (λ r. r.0 ≡ opened opening.now) }
         ensures purse { IfOk result (λ r.
-            r.1 ≡ record { terminal = 0; entries = 0; paid = pos 0; room = 10000 }) }
+            r.1 ≡ first_purse) }
     {
         let register = Register::start(alloc, opening)?;
         let (entries, entry_share) = blanks.entries.open::<Entries<N>>();
@@ -151,7 +152,7 @@ impl<N: Naming> Book<N> {
     /// The entries and the payments of all purses of the book, put together. The conditions of a call are
     /// that the purses are all there: their number and their rooms add up to 10,001.
     pub fn gather(&mut self, purses: Vec<Purse<N>>) -> (u64, Cents)
-        requires all_there { rooms_of purses.items ≡ 10001 }
+        requires all_there { rooms_of purses.items ≡ all_parts }
         ensures same { self.new ≡ self.old }
         ensures entries { (result.0 ≡ entries_of purses.items)
             × (result.0 ≡ length self.old.entries) }
@@ -170,7 +171,7 @@ impl<N: Naming> Book<N> {
 
     // The entries and the payments of all purses are the journal's length and the rise.
     pub(crate) fn audit(&mut self, pool: Pool<N>) -> (u64, Cents)
-        requires all { pool.parts ≡ 10001 }
+        requires all { pool.parts ≡ all_parts }
         ensures same { self.new ≡ self.old }
         ensures kept { IsKept self.old }
         ensures entries { (result.0 ≡ pool.entries) × (result.0 ≡ length self.old.entries) }

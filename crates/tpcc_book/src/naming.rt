@@ -1,6 +1,8 @@
 //! Which book it is: the names of its two ledgers.
 ghost use Rattle.std.specs.Prelude.{◌≡◌, ℕ};
+ghost use Rattle.tpcc_book.specs.Purses.{all_parts};
 
+use crate::purse::ALL_PARTS;
 use std::marker::{Brand, PhantomData};
 use std::sync::ledger::{Blank, Ledger};
 
@@ -27,7 +29,7 @@ pub struct Entries<N: Naming> {
 impl<N: Naming> Ledger for Entries<N> {
     ghost name = { N.entries };
 
-    ghost parts = { 10001 };
+    ghost parts = { all_parts };
 }
 
 /// The ledger of paid cents, in 10,001 parts.
@@ -38,7 +40,7 @@ pub struct PaidCents<N: Naming> {
 impl<N: Naming> Ledger for PaidCents<N> {
     ghost name = { N.cents };
 
-    ghost parts = { 10001 };
+    ghost parts = { all_parts };
 }
 
 /// The two ledgers of a book that has not been started.
@@ -49,17 +51,17 @@ pub struct Blanks {
     /// For the cents that are paid.
     pub cents: Blank,
     /// It has 10,001 parts.
-    ghost all_entries: { entries.parts ≡ 10001 },
+    ghost all_entries: { entries.parts ≡ all_parts },
     /// It has 10,001 parts.
-    ghost all_cents: { cents.parts ≡ 10001 },
+    ghost all_cents: { cents.parts ≡ all_parts },
 }
 
 impl Blanks {
     /// Two fresh ledgers.
     pub fn new() -> Blanks {
         Blanks {
-            entries: Blank::new(10_001),
-            cents: Blank::new(10_001),
+            entries: Blank::new(u64::from(ALL_PARTS)),
+            cents: Blank::new(u64::from(ALL_PARTS)),
         }
     }
 }

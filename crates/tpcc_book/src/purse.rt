@@ -1,5 +1,6 @@
 //! Purses: shares of a book's two totals.
 ghost use Rattle.std.specs.Prelude.{◌≡◌, ◌+◌, ◌-◌, ◌<◌, ◌≤◌, ◌^◌, ◌≤ℤ◌, ◌+ℤ◌, pos};
+ghost use Rattle.tpcc_book.specs.Purses.{all_parts, first_purse};
 ghost use Rattle.tpcc_book.specs.Serve.{credited};
 
 mod pool;
@@ -9,6 +10,12 @@ pub(crate) use pool::Pool;
 use std::marker::Model;
 use std::sync::ledger::{Book as LedgerBook, Share};
 use tpcc_money::Cents;
+
+/// How many purses can be split off a book's first one.
+pub const MOST_PURSES: u32 = 10_000;
+
+/// The parts of a book: one is its first purse, and one each purse that can be split off.
+pub(crate) const ALL_PARTS: u32 = MOST_PURSES + 1;
 
 /// A terminal's token for the entries that it made and the payments among them. A request is served
 /// only with a purse, and the purse's entries and cents are shares of the book's two totals: all
@@ -25,15 +32,15 @@ pub struct Purse<N: Naming> {
 
 impl<N: Naming> Model for Purse<N> {
     ghost use Rattle.std.specs.Prelude.{◌≡◌, ◌+◌, ◌<◌, ◌≤◌, ◌^◌, pos};
-    ghost use Rattle.tpcc_book.specs.Purses.{Held};
+    ghost use Rattle.tpcc_book.specs.Purses.{PurseView, most_purses};
 
-    ghost Value = { Held };
+    ghost Value = { PurseView };
 
     ghost view = { λ p.
         record { terminal = p.terminal; entries = p.entries; paid = pos p.cents; room = p.room } };
 
     ghost invariant = { λ p. (p.entry_share.parts ≡ p.room + 1) × (p.entry_share.amount ≡ p.entries)
-        × (p.cent_share.parts ≡ p.room + 1) × (p.cent_share.amount ≡ p.cents) × (p.room ≤ 10000)
+        × (p.cent_share.parts ≡ p.room + 1) × (p.cent_share.amount ≡ p.cents) × (p.room ≤ most_purses)
         × (p.cents < 2 ^ 63) };
 }
 
@@ -85,15 +92,15 @@ impl<N: Naming> Purse<N> {
     }
 
     pub(crate) fn first(entry_share: Share<Entries<N>>, cent_share: Share<PaidCents<N>>) -> Purse<N>
-        requires parts { (entry_share.parts ≡ 10001) × (cent_share.parts ≡ 10001) }
+        requires parts { (entry_share.parts ≡ all_parts) × (cent_share.parts ≡ all_parts) }
         requires amounts { (entry_share.amount ≡ 0) × (cent_share.amount ≡ 0) }
-        ensures { result ≡ record { terminal = 0; entries = 0; paid = pos 0; room = 10000 } }
+        ensures { result ≡ first_purse }
     {
         Purse {
             terminal: 0,
             entries: 0,
             cents: 0,
-            room: 10_000,
+            room: MOST_PURSES,
             entry_share,
             cent_share,
         }

@@ -4,7 +4,7 @@ ghost use Rattle.tpcc_book.specs.Past.{IsKept, Rises, opened, rise_of};
 ghost use Rattle.tpcc_rows.specs.Turn.{reply_to};
 ghost use Rattle.tpcc_book.specs.Turn.{IsTurn, TakesTurn, MakesTurn, Accepts, Refuses};
 
-use crate::steps::{commit, make_ready};
+use crate::ready::{commit, make_ready};
 use crate::turned::Turned;
 use crate::year_to_date::year_to_date;
 use std::alloc::Global;

@@ -4,7 +4,7 @@ use Rattle.std.specs.Prelude.{Option, Some, None, slice_get}
 use Rattle.std.specs.List.{list_all}
 use Rattle.tpcc_rows.specs.Moments.{has_moment_in_range}
 use Rattle.tpcc_population.specs.declared.opening.Opening.{Opening}
-use Rattle.tpcc_book.specs.Purses.{Held}
+use Rattle.tpcc_book.specs.Purses.{PurseView}
 use Rattle.tpcc_core.specs.Seats.{SeatNow}
 use Rattle.tpcc_core.specs.SeatSteps.{waiting}
 use Rattle.tpcc_core.specs.Desks.{DeskNow, place_of, item, item_in, told, collected_of}
@@ -28,12 +28,12 @@ pub seats-length : (count : ℕ) → length (seats_of count) ≡ count
 seats-length zero = refl
 seats-length (suc count) = longer (seats_of count) (seat_of (suc count)) ∙ ap suc (seats-length count)
   where
-    longer : (xs : List (SeatNow Held)) (y : SeatNow Held) → length (xs ++ y ∷ []) ≡ suc (length xs)
+    longer : (xs : List (SeatNow PurseView)) (y : SeatNow PurseView) → length (xs ++ y ∷ []) ≡ suc (length xs)
     longer [] y = refl
     longer (x ∷ xs) y = ap suc (longer xs y)
 
 -- the seat of each number
-seat_at : (count place : ℕ) (x : SeatNow Held) → slice_get (seats_of count) place ≡ Some x → x ≡ seat_of (suc place)
+seat_at : (count place : ℕ) (x : SeatNow PurseView) → slice_get (seats_of count) place ≡ Some x → x ≡ seat_of (suc place)
 seat_at zero place x is = absurd cc
 seat_at (suc count) place x is =
     ⊎_elim (λ (h : slice_get (seats_of count) place ≡ Some x). seat_at count place x h)
@@ -43,7 +43,7 @@ seat_at (suc count) place x is =
 seat_numbered : (count t : ℕ) → (item (seats_of count) t ≡ None) ⊎ (item (seats_of count) t ≡ Some (seat_of t))
 seat_numbered count t = by_place (place_of t (length (seats_of count))) refl
   where
-    by_item : (place : ℕ) → t ≡ suc place → (o : Option (SeatNow Held)) → slice_get (seats_of count) place ≡ o → (o ≡ None) ⊎ (o ≡ Some (seat_of t))
+    by_item : (place : ℕ) → t ≡ suc place → (o : Option (SeatNow PurseView)) → slice_get (seats_of count) place ≡ o → (o ≡ None) ⊎ (o ≡ Some (seat_of t))
     by_item place is None e = inl refl
     by_item place is (Some x) e = inr (ap (λ s. Some s) (seat_at count place x e ∙ ap seat_of (sym is)))
 
@@ -58,7 +58,7 @@ pub record HasBegun (d : DeskNow) (t : ℕ) : Type 0 where
   pub none_collected : collected_of d t ≡ []
   pub own : (owner : ℕ) → map (λ p. p.terminal) (purses_in (under_way d t)) ≡ owner ∷ [] → owner ≡ t
 
-begun_at : (d : DeskNow) (t : ℕ) (o : Option (SeatNow Held)) → item d.seats t ≡ o → (o ≡ None) ⊎ (o ≡ Some (seat_of t)) → HasBegun d t
+begun_at : (d : DeskNow) (t : ℕ) (o : Option (SeatNow PurseView)) → item d.seats t ≡ o → (o ≡ None) ⊎ (o ≡ Some (seat_of t)) → HasBegun d t
 begun_at d t o at (inl none) =
     let way : under_way d t ≡ home = ap (way_in d.hands) (at ∙ none) in
     record {

@@ -5,7 +5,7 @@ use Rattle.std.specs.List.{list_all}
 use Rattle.std.proofs.lemmas.List.Elements.{All-nil, All-cons, All-head, All-tail}
 use Rattle.tpcc_rows.specs.declared.requests.Request.{Request}
 use Rattle.tpcc_population.specs.declared.opening.Opening.{Opening}
-use Rattle.tpcc_book.specs.Purses.{Held}
+use Rattle.tpcc_book.specs.Purses.{PurseView, most_purses}
 use Rattle.tpcc_core.specs.declared.event.Event.{Event}
 use Rattle.tpcc_core.specs.declared.mailbox.Collected.{Collected}
 use Rattle.tpcc_core.specs.declared.mailbox.Mailbox.{Mailbox}
@@ -40,13 +40,13 @@ served_is opening terminals servers events desk after t =
     ap (λ cs. cs ++ served after t) (sym empty)
     ∙ ((after_leads opening terminals servers events desk after).trips t).served
 
-unserved_last : (part : List Request) (w : Mailbox Held) (whole : List Request) → whole ≡ part ++ unserved w → IsAllOrAllButLast part whole
+unserved_last : (part : List Request) (w : Mailbox PurseView) (whole : List Request) → whole ≡ part ++ unserved w → IsAllOrAllButLast part whole
 unserved_last part (box.Free p) whole is = inl (is ∙ append-nil part)
 unserved_last part (box.Posted l) whole is = inr (l.request, is)
 unserved_last part (box.Taken s) whole is = inl (is ∙ append-nil part)
 unserved_last part (box.Answered a) whole is = inl (is ∙ append-nil part)
 
-waiting_last : (part : List Collected) (w : Mailbox Held) (whole : List Collected) → whole ≡ part ++ waiting w → IsAllOrAllButLast part whole
+waiting_last : (part : List Collected) (w : Mailbox PurseView) (whole : List Collected) → whole ≡ part ++ waiting w → IsAllOrAllButLast part whole
 waiting_last part (box.Free p) whole is = inl (is ∙ append-nil part)
 waiting_last part (box.Posted l) whole is = inl (is ∙ append-nil part)
 waiting_last part (box.Taken s) whole is = inl (is ∙ append-nil part)
@@ -89,7 +89,7 @@ list_all-both : (es later : List Event) → list_all is_in_range es ≡ true →
 list_all-both [] later h k = k
 list_all-both (e ∷ es) later h k = and_true (is_in_range e) (list_all is_in_range (es ++ later)) (head_in_range e es h) (list_all-both es later (tail_in_range e es h) k)
 
-pub started_after : (opening : Opening) (terminals servers : ℕ) → (1 ≤ terminals) × (terminals ≤ 10000) → 1 ≤ servers → After opening terminals servers [] (started opening terminals servers)
+pub started_after : (opening : Opening) (terminals servers : ℕ) → (1 ≤ terminals) × (terminals ≤ most_purses) → 1 ≤ servers → After opening terminals servers [] (started opening terminals servers)
 started_after opening terminals servers terminals_in servers_in = record { terminals_in = terminals_in; servers_in = servers_in; in_range = refl; passes = refl }
 
 pub events_more : (opening : Opening) (terminals servers : ℕ) (events later : List Event) (desk last : DeskNow)

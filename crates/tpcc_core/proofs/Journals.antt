@@ -14,7 +14,7 @@ use Rattle.tpcc_rows.specs.Replay.{count_of}
 use Rattle.tpcc_rows.specs.Turn.{reply_to}
 use Rattle.tpcc_laws.proofs.ListLemmas.{filter-append}
 use Rattle.tpcc_book.specs.Past.{Past}
-use Rattle.tpcc_book.specs.Purses.{Held}
+use Rattle.tpcc_book.specs.Purses.{PurseView}
 use Rattle.tpcc_book.specs.Told.{Told}
 use Rattle.tpcc_book.specs.Turn.{entry_of, Accepts, Refuses}
 use Rattle.tpcc_book.specs.Serve.{IsServed}
@@ -128,7 +128,7 @@ the_entry : (a b : ℕ) (m n : ℕ) (q r : Request) (x y : Reply) → a ≡ b �
     → ◌≡◌ {A = Entry} (record { terminal = a; number = m; request = q; reply = x }) (record { terminal = b; number = n; request = r; reply = y })
 the_entry a b m n q r x y e f g h = cc
 
-turn_records : (old new : Past) (purse : Held) (request asked : Request) (place : Option ℕ) (o : Result Reply Refusal) (t : ℕ)
+turn_records : (old new : Past) (purse : PurseView) (request asked : Request) (place : Option ℕ) (o : Result Reply Refusal) (t : ℕ)
     → asked ≡ request → ForOk o (Accepts old purse.terminal purse.entries request place new) → ForErr o (Refuses old purse.terminal purse.entries request place new)
     → Records t old.entries new.entries (answer_for purse.terminal t (record { request = asked; outcome = o; place = place }))
 turn_records old new purse request asked place (Ok reply) t same accepts refuses =
@@ -155,7 +155,7 @@ turn_records old new purse request asked place (Err refusal) t same accepts refu
     (eqb_tells purse.terminal t))
 
 -- the answer of a served request, of this terminal or another
-pub serve_records : (old new : Past) (request : Request) (purse : Held) (answer : Told Held) (t : ℕ) → IsServed old request purse answer new
+pub serve_records : (old new : Past) (request : Request) (purse : PurseView) (answer : Told PurseView) (t : ℕ) → IsServed old request purse answer new
     → Records t old.entries new.entries (answer_for purse.terminal t (kept_of answer))
 serve_records old new request purse answer t served =
     turn_records old new purse request answer.request answer.place answer.outcome t served.turn.request_is served.turn.accepts served.turn.refuses

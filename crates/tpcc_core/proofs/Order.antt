@@ -3,7 +3,7 @@ use Rattle.std.proofs.Common.{◌≡◌, ◌∙◌, sym, ap, refl, subst, ℕ, z
 use Rattle.std.specs.Prelude.{Option, Some, None, slice_get, ◌↔◌}
 use Rattle.tpcc_rows.specs.declared.requests.Request.{Request}
 use Rattle.tpcc_population.specs.declared.opening.Opening.{Opening}
-use Rattle.tpcc_book.specs.Purses.{Held}
+use Rattle.tpcc_book.specs.Purses.{PurseView}
 use Rattle.tpcc_core.specs.declared.event.Event.{Event}
 use Rattle.tpcc_core.specs.declared.event.Event.TheVariants as event
 use Rattle.tpcc_core.specs.declared.mailbox.Hand.{Hand}
@@ -59,21 +59,21 @@ kept h h' k k' mates hs ks a b =
     (λ is. ks b ∙ (mates a b).0 (sym (hs a) ∙ is), λ is. hs a ∙ (mates a b).1 (sym (ks b) ∙ is))
 
 -- what is in a hand, and what was taken
-abbrev hand_of : List (Hand Held) → ℕ → Option ℕ
+abbrev hand_of : List (Hand PurseView) → ℕ → Option ℕ
 hand_of hands server = told None held_for (item hands server)
 
-abbrev taker_of : List (SeatNow Held) → ℕ → Option ℕ
+abbrev taker_of : List (SeatNow PurseView) → ℕ → Option ℕ
 taker_of seats terminal = told None (λ seat. taken_by seat.mailbox) (item seats terminal)
 
 -- ---- each event
 
-sent_taken : (b : Mailbox Held) (q : Request) → taken_by (sent b q) ≡ taken_by b
+sent_taken : (b : Mailbox PurseView) (q : Request) → taken_by (sent b q) ≡ taken_by b
 sent_taken (box.Free p) q = refl
 sent_taken (box.Posted l) q = refl
 sent_taken (box.Taken s) q = refl
 sent_taken (box.Answered a) q = refl
 
-emptied_taken : (b : Mailbox Held) → taken_by (emptied b) ≡ taken_by b
+emptied_taken : (b : Mailbox PurseView) → taken_by (emptied b) ≡ taken_by b
 emptied_taken (box.Free p) = refl
 emptied_taken (box.Posted l) = refl
 emptied_taken (box.Taken s) = refl
@@ -153,27 +153,27 @@ snoc_all f [] y all none (suc place) x is = absurd cc
 snoc_all f (z ∷ xs) y all none zero x is = all zero x is
 snoc_all f (z ∷ xs) y all none (suc place) x is = snoc_all f xs y (λ p. all (suc p)) none place x is
 
-empty_hands : (count : ℕ) (place : ℕ) (x : Hand Held) → slice_get (hands_of count) place ≡ Some x → held_for x ≡ None
+empty_hands : (count : ℕ) (place : ℕ) (x : Hand PurseView) → slice_get (hands_of count) place ≡ Some x → held_for x ≡ None
 empty_hands zero place x is = absurd cc
 empty_hands (suc count) place x is = snoc_all held_for (hands_of count) hand.Empty (empty_hands count) refl place x is
 
-free_seats : (count : ℕ) (place : ℕ) (x : SeatNow Held) → slice_get (seats_of count) place ≡ Some x → taken_by x.mailbox ≡ None
+free_seats : (count : ℕ) (place : ℕ) (x : SeatNow PurseView) → slice_get (seats_of count) place ≡ Some x → taken_by x.mailbox ≡ None
 free_seats zero place x is = absurd cc
 free_seats (suc count) place x is = snoc_all (λ seat. taken_by seat.mailbox) (seats_of count) (seat_of (suc count)) (free_seats count) refl place x is
 
 pub start_ordered : (opening : Opening) (terminals servers : ℕ) → IsOrdered (started opening terminals servers)
 start_ordered opening terminals servers a b = (
-  λ is. absurd (nothing _ b (told_none held_for (hands_of servers) (empty_hands servers) (place_of a (length (hands_of {P = Held} servers)))) is),
+  λ is. absurd (nothing _ b (told_none held_for (hands_of servers) (empty_hands servers) (place_of a (length (hands_of {P = PurseView} servers)))) is),
   λ is. absurd (nothing _ a (told_none (λ seat. taken_by seat.mailbox) (seats_of terminals) (free_seats terminals) (place_of b (length (seats_of terminals)))) is),
 )
 
 -- ---- an answer in a hand has its mailbox waiting for it
 
-taken_box : (o : Option (SeatNow Held)) (s : ℕ) → told None (λ seat. taken_by seat.mailbox) o ≡ Some s → told false (λ seat. is_taken seat.mailbox) o ≡ true
+taken_box : (o : Option (SeatNow PurseView)) (s : ℕ) → told None (λ seat. taken_by seat.mailbox) o ≡ Some s → told false (λ seat. is_taken seat.mailbox) o ≡ true
 taken_box None s is = absurd cc
 taken_box (Some seat) s is = box_taken seat.mailbox s is
   where
-    box_taken : (b : Mailbox Held) (s : ℕ) → taken_by b ≡ Some s → is_taken b ≡ true
+    box_taken : (b : Mailbox PurseView) (s : ℕ) → taken_by b ≡ Some s → is_taken b ≡ true
     box_taken (box.Free p) s is = absurd cc
     box_taken (box.Posted l) s is = absurd cc
     box_taken (box.Taken n) s is = refl
@@ -182,11 +182,11 @@ taken_box (Some seat) s is = box_taken seat.mailbox s is
 pub answer_ready_in : (d : DeskNow) (s : ℕ) → IsOrdered d → can_answer d s ≡ tests_at holds_answer d.hands s
 answer_ready_in d s ordered = by_item (item d.hands s) refl
   where
-    by_hand : (h : Hand Held) → item d.hands s ≡ Some h → tests_in (λ seat. is_taken seat.mailbox) d.seats (answer_place h d.seats) ≡ holds_answer h
+    by_hand : (h : Hand PurseView) → item d.hands s ≡ Some h → tests_in (λ seat. is_taken seat.mailbox) d.seats (answer_place h d.seats) ≡ holds_answer h
     by_hand hand.Empty at = refl
     by_hand (hand.Holds t l) at = refl
     by_hand (hand.Served t a) at = taken_box (item d.seats t) s ((ordered s t).0 (ap (told None held_for) at))
 
-    by_item : (o : Option (Hand Held)) → item d.hands s ≡ o → told false (λ h. tests_in (λ seat. is_taken seat.mailbox) d.seats (answer_place h d.seats)) o ≡ told false holds_answer o
+    by_item : (o : Option (Hand PurseView)) → item d.hands s ≡ o → told false (λ h. tests_in (λ seat. is_taken seat.mailbox) d.seats (answer_place h d.seats)) o ≡ told false holds_answer o
     by_item None at = refl
     by_item (Some h) at = by_hand h at

@@ -8,7 +8,7 @@ use Rattle.tpcc_rows.specs.declared.refusals.Refusal.{Refusal}
 use Rattle.tpcc_rows.specs.Moments.{has_moment_in_range}
 use Rattle.tpcc_rows.specs.Replay.{paid_by_request}
 use Rattle.tpcc_book.specs.Past.{Past}
-use Rattle.tpcc_book.specs.Purses.{Held}
+use Rattle.tpcc_book.specs.Purses.{PurseView}
 use Rattle.tpcc_book.specs.Told.{Told}
 use Rattle.tpcc_book.specs.Serve.{IsServed, credited}
 use Rattle.tpcc_core.specs.declared.event.Event.{Event}
@@ -67,12 +67,12 @@ pub record IsSound (d : DeskNow) : Type 0 where
 
 -- ---- an answer is by the letter's purse
 
-by_purse : (request : Request) (was is : Held) (o : Result Reply Refusal)
+by_purse : (request : Request) (was is : PurseView) (o : Result Reply Refusal)
     → MatchResult o (λ reply. is ≡ credited was (paid_by_request request)) (λ refusal. is ≡ was) → is.terminal ≡ was.terminal
-by_purse request was is (Ok reply) h = ap (λ (p : Held). p.terminal) h
-by_purse request was is (Err refusal) h = ap (λ (p : Held). p.terminal) h
+by_purse request was is (Ok reply) h = ap (λ (p : PurseView). p.terminal) h
+by_purse request was is (Err refusal) h = ap (λ (p : PurseView). p.terminal) h
 
-answers_to : (old new : Past) (letter : Letter Held) (answer : Told Held) → IsServed old letter.request letter.purse answer new → IsAnswerTo letter answer
+answers_to : (old new : Past) (letter : Letter PurseView) (answer : Told PurseView) → IsServed old letter.request letter.purse answer new → IsAnswerTo letter answer
 answers_to old new letter answer served =
     record { request = served.fits.request_is; terminal = by_purse letter.request letter.purse answer.purse answer.outcome served.fits.purse_is }
 

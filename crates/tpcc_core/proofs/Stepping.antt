@@ -5,7 +5,7 @@ use Rattle.std.specs.Prelude.{Bool, true, false, ◌&&◌, Option, Some, Result,
 use Rattle.std.proofs.lemmas.Result.{on_ok_weaker}
 use Rattle.tpcc_rows.specs.declared.requests.Request.{Request}
 use Rattle.tpcc_book.specs.Past.{Past}
-use Rattle.tpcc_book.specs.Purses.{Held}
+use Rattle.tpcc_book.specs.Purses.{PurseView}
 use Rattle.tpcc_core.specs.declared.mailbox.Hand.{Hand}
 use Rattle.tpcc_core.specs.declared.mailbox.Hand.TheVariants as hand
 use Rattle.tpcc_core.specs.declared.mailbox.Mailbox.TheVariants as box
@@ -18,7 +18,7 @@ use Rattle.tpcc_core.specs.Events.{tests_in, place_in, answer_place, can_answer,
 use Rattle.tpcc_core.proofs.Places.{changed, tested, unchanged}
 
 -- a request at a seat is a request at the desk
-pub posted_at : {T E : Type 0} (d : DeskNow) (t place : ℕ) (seat new : SeatNow Held) (request : Request) (r : Result T E)
+pub posted_at : {T E : Type 0} (d : DeskNow) (t place : ℕ) (seat new : SeatNow PurseView) (request : Request) (r : Result T E)
     → place_of t (length d.seats) ≡ Some place → slice_get d.seats place ≡ Some seat
     → OnOk r (is_free seat.mailbox ≡ true) → OnOk r (new ≡ record seat { mailbox = sent seat.mailbox request })
     → OnOk r (IsPostedAt d t request (record d { seats = slice_set d.seats place new }))
@@ -27,7 +27,7 @@ posted_at d t place seat new request (Ok v) numbered found ready is =
 posted_at d t place seat new request (Err e) numbered found ready is = ready
 
 -- a collected answer
-pub collected_at : {T E : Type 0} (d : DeskNow) (t place : ℕ) (seat new : SeatNow Held) (r : Result T E)
+pub collected_at : {T E : Type 0} (d : DeskNow) (t place : ℕ) (seat new : SeatNow PurseView) (r : Result T E)
     → place_of t (length d.seats) ≡ Some place → slice_get d.seats place ≡ Some seat
     → is_ok r ≡ is_answered seat.mailbox → OnOk r (new ≡ collected_from seat)
     → OnOk r (IsCollectedAt d t (record d { seats = slice_set d.seats place new }))
@@ -36,7 +36,7 @@ collected_at d t place seat new (Ok v) numbered found ready is =
 collected_at d t place seat new (Err e) numbered found ready is = is
 
 -- a served letter
-pub served_by : {T E : Type 0} (d : DeskNow) (s place : ℕ) (held holds : Hand Held) (after : Past) (r : Result T E)
+pub served_by : {T E : Type 0} (d : DeskNow) (s place : ℕ) (held holds : Hand PurseView) (after : Past) (r : Result T E)
     → place_of s (length d.hands) ≡ Some place → slice_get d.hands place ≡ Some held
     → OnOk r (Serves held d.book holds after)
     → OnOk r (IsServedBy d s (record d { book = after; hands = slice_set d.hands place holds }))
@@ -47,7 +47,7 @@ same-number : (a b : ℕ) → Some a ≡ Some b → a ≡ b
 same-number a b h = cc
 
 -- an answer that is in its mailbox
-pub answered_by : {T E : Type 0} (d : DeskNow) (s at place : ℕ) (seat after : SeatNow Held) (held holds : Hand Held) (r : Result T E)
+pub answered_by : {T E : Type 0} (d : DeskNow) (s at place : ℕ) (seat after : SeatNow PurseView) (held holds : Hand PurseView) (r : Result T E)
     → place_of s (length d.hands) ≡ Some at → slice_get d.hands at ≡ Some held
     → answer_place held d.seats ≡ Some place → slice_get d.seats place ≡ Some seat
     → is_ok r ≡ is_some (answer_for held) && is_taken seat.mailbox → OnOk r (IsReturned seat held after holds)
@@ -65,13 +65,13 @@ answered_by d s at place seat after held holds (Ok v) handed held_is numbered fo
     }
 answered_by d s at place seat after held holds (Err e) handed held_is numbered found ready is = is
 
-answer-for : (h : Hand Held) (seats : List (SeatNow Held)) (place : ℕ) → answer_place h seats ≡ Some place → is_some (answer_for h) ≡ true
+answer-for : (h : Hand PurseView) (seats : List (SeatNow PurseView)) (place : ℕ) → answer_place h seats ≡ Some place → is_some (answer_for h) ≡ true
 answer-for hand.Empty seats place h = cc
 answer-for (hand.Holds terminal letter) seats place h = cc
 answer-for (hand.Served terminal answer) seats place h = refl
 
 -- it is ready exactly where hand and mailbox are
-pub answer_ready : (d : DeskNow) (s at place : ℕ) (seat : SeatNow Held) (held : Hand Held) (done : Bool)
+pub answer_ready : (d : DeskNow) (s at place : ℕ) (seat : SeatNow PurseView) (held : Hand PurseView) (done : Bool)
     → place_of s (length d.hands) ≡ Some at → slice_get d.hands at ≡ Some held
     → answer_place held d.seats ≡ Some place → slice_get d.seats place ≡ Some seat
     → done ≡ is_some (answer_for held) && is_taken seat.mailbox → done ≡ can_answer d s
@@ -82,25 +82,25 @@ answer_ready d s at place seat held done handed held_is numbered found ready =
     ready ∙ ap (λ b. b && is_taken seat.mailbox) (answer-for held d.seats place numbered) ∙ sym (one ∙ two ∙ three)
 
 -- after an error nothing has changed
-pub served_none : {T E : Type 0} (d : DeskNow) (at : ℕ) (held holds : Hand Held) (after : Past) (r : Result T E)
+pub served_none : {T E : Type 0} (d : DeskNow) (at : ℕ) (held holds : Hand PurseView) (after : Past) (r : Result T E)
     → slice_get d.hands at ≡ Some held → OnErr r (holds ≡ held) → OnErr r (after ≡ d.book)
     → OnErr r (record d { book = after; hands = slice_set d.hands at holds } ≡ d)
 served_none d at held holds after (Ok v) found same book = same
 served_none d at held holds after (Err e) found same book =
     ap (λ b. record d { book = b; hands = slice_set d.hands at holds }) book ∙ ap (λ hs. record d { hands = hs }) (unchanged d.hands at held holds found same)
 
-pub answered_none : {T E : Type 0} (d : DeskNow) (at place : ℕ) (seat after : SeatNow Held) (held holds : Hand Held) (r : Result T E)
+pub answered_none : {T E : Type 0} (d : DeskNow) (at place : ℕ) (seat after : SeatNow PurseView) (held holds : Hand PurseView) (r : Result T E)
     → slice_get d.hands at ≡ Some held → slice_get d.seats place ≡ Some seat → OnErr r (after ≡ seat) → OnErr r (holds ≡ held)
     → OnErr r (record d { seats = slice_set d.seats place after; hands = slice_set d.hands at holds } ≡ d)
 answered_none d at place seat after held holds (Ok v) held_is found same kept = same
 answered_none d at place seat after held holds (Err e) held_is found same kept =
     ap (λ ss. record d { seats = ss; hands = slice_set d.hands at holds }) (unchanged d.seats place seat after found same) ∙ ap (λ hs. record d { hands = hs }) (unchanged d.hands at held holds held_is kept)
 
-same-hand : (a b : Hand Held) (o : Option (Hand Held)) → o ≡ Some a → o ≡ Some b → a ≡ b
+same-hand : (a b : Hand PurseView) (o : Option (Hand PurseView)) → o ≡ Some a → o ≡ Some b → a ≡ b
 same-hand a b o h k = cc
 
 -- the seat that an answer belongs to
-pub answer_at : (seen xs : List (SeatNow Held)) (hands : List (Hand Held)) (at place : ℕ) (first second : Hand Held) (x : SeatNow Held) (o : Option ℕ)
+pub answer_at : (seen xs : List (SeatNow PurseView)) (hands : List (Hand PurseView)) (at place : ℕ) (first second : Hand PurseView) (x : SeatNow PurseView) (o : Option ℕ)
     → seen ≡ xs → slice_get hands at ≡ Some first → slice_get hands at ≡ Some second → o ≡ answer_place first seen → o ≡ Some place
     → place < length seen → x ≡ get_or xs place x → (answer_place second xs ≡ Some place) × (slice_get xs place ≡ Some x)
 answer_at seen xs hands at place first second x o same one two numbered is bound value =

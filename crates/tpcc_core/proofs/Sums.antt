@@ -15,7 +15,7 @@ use Rattle.tpcc_rows.specs.Replay.{paid_by_entries, paid_by_request}
 use Rattle.tpcc_laws.proofs.ListLemmas.{total-append}
 use Rattle.tpcc_population.specs.declared.opening.Opening.{Opening}
 use Rattle.tpcc_book.specs.Past.{Past, IsKept}
-use Rattle.tpcc_book.specs.Purses.{Held}
+use Rattle.tpcc_book.specs.Purses.{PurseView, all_parts, most_purses}
 use Rattle.tpcc_book.specs.Turn.{entry_of, Accepts, Refuses}
 use Rattle.tpcc_book.specs.Serve.{credited}
 use Rattle.tpcc_core.specs.declared.event.Event.{Event}
@@ -49,16 +49,16 @@ total_flat f g (x ∷ xs) = total-append f (g x) (flat_map g xs) ∙ ap (λ n. t
 
 -- ---- a column of all purses, by seats and hands
 
-abbrev in_seat : (Held → ℤ) → SeatNow Held → ℤ
+abbrev in_seat : (PurseView → ℤ) → SeatNow PurseView → ℤ
 in_seat f seat = total f (purses_in seat.mailbox)
 
-abbrev in_hand : (Held → ℤ) → Hand Held → ℤ
+abbrev in_hand : (PurseView → ℤ) → Hand PurseView → ℤ
 in_hand f h = total f (purses_held h)
 
-abbrev pub worth : (Held → ℤ) → DeskNow → ℤ
+abbrev pub worth : (PurseView → ℤ) → DeskNow → ℤ
 worth f d = f d.first +ℤ (total (in_seat f) d.seats +ℤ total (in_hand f) d.hands)
 
-worth_is : (f : Held → ℤ) (d : DeskNow) → total f (purses_of d) ≡ worth f d
+worth_is : (f : PurseView → ℤ) (d : DeskNow) → total f (purses_of d) ≡ worth f d
 worth_is f d =
     ap (λ n. f d.first +ℤ n)
     (total-append f (flat_map (λ seat. purses_in seat.mailbox) d.seats) (flat_map purses_held d.hands)
@@ -67,14 +67,14 @@ worth_is f d =
 
 -- ---- events without a turn move purses
 
-worth_of_seat : (f : Held → ℤ) (d m : DeskNow) (t : ℕ) (was is : SeatNow Held) → IsChangedAt d.seats t was is m.seats → m ≡ record d { seats = m.seats } → in_seat f is ≡ in_seat f was → worth f m ≡ worth f d
+worth_of_seat : (f : PurseView → ℤ) (d m : DeskNow) (t : ℕ) (was is : SeatNow PurseView) → IsChangedAt d.seats t was is m.seats → m ≡ record d { seats = m.seats } → in_seat f is ≡ in_seat f was → worth f m ≡ worth f d
 worth_of_seat f d m t was is changed rest same =
     let seats : total (in_seat f) m.seats +ℤ in_seat f was ≡ total (in_seat f) d.seats +ℤ in_seat f is = total_changed (in_seat f) d.seats m.seats t was is changed in
     let first : f m.first ≡ f d.first = ap (λ (x : DeskNow). f x.first) rest in
     let hands : total (in_hand f) m.hands ≡ total (in_hand f) d.hands = ap (λ (x : DeskNow). total (in_hand f) x.hands) rest in
     omega (arith, ints, seats, first, hands, same)
 
-worth_of_both : (f : Held → ℤ) (d m : DeskNow) (s t : ℕ) (was is : SeatNow Held) (held holds : Hand Held) → IsChangedAt d.seats t was is m.seats → IsChangedAt d.hands s held holds m.hands
+worth_of_both : (f : PurseView → ℤ) (d m : DeskNow) (s t : ℕ) (was is : SeatNow PurseView) (held holds : Hand PurseView) → IsChangedAt d.seats t was is m.seats → IsChangedAt d.hands s held holds m.hands
     → m.first ≡ d.first → in_seat f is +ℤ in_hand f holds ≡ in_seat f was +ℤ in_hand f held → worth f m ≡ worth f d
 worth_of_both f d m s t was is held holds changed moved rest same =
     let seats : total (in_seat f) m.seats +ℤ in_seat f was ≡ total (in_seat f) d.seats +ℤ in_seat f is = total_changed (in_seat f) d.seats m.seats t was is changed in
@@ -82,43 +82,43 @@ worth_of_both f d m s t was is held holds changed moved rest same =
     let first : f m.first ≡ f d.first = ap f rest in
     omega (arith, ints, seats, hands, first, same)
 
-sent_same : (f : Held → ℤ) (b : Mailbox Held) (q : Request) → total f (purses_in (sent b q)) ≡ total f (purses_in b)
+sent_same : (f : PurseView → ℤ) (b : Mailbox PurseView) (q : Request) → total f (purses_in (sent b q)) ≡ total f (purses_in b)
 sent_same f (box.Free p) q = refl
 sent_same f (box.Posted l) q = refl
 sent_same f (box.Taken s) q = refl
 sent_same f (box.Answered a) q = refl
 
-emptied_same : (f : Held → ℤ) (b : Mailbox Held) → total f (purses_in (emptied b)) ≡ total f (purses_in b)
+emptied_same : (f : PurseView → ℤ) (b : Mailbox PurseView) → total f (purses_in (emptied b)) ≡ total f (purses_in b)
 emptied_same f (box.Free p) = refl
 emptied_same f (box.Posted l) = refl
 emptied_same f (box.Taken s) = refl
 emptied_same f (box.Answered a) = refl
 
-taken_none : (f : Held → ℤ) (b : Mailbox Held) → is_taken b ≡ true → total f (purses_in b) ≡ pos 0
+taken_none : (f : PurseView → ℤ) (b : Mailbox PurseView) → is_taken b ≡ true → total f (purses_in b) ≡ pos 0
 taken_none f (box.Free p) is = absurd cc
 taken_none f (box.Posted l) is = absurd cc
 taken_none f (box.Taken s) is = refl
 taken_none f (box.Answered a) is = absurd cc
 
-post_worth : (f : Held → ℤ) (d m : DeskNow) (t : ℕ) (q : Request) → IsPostedAt d t q m → worth f m ≡ worth f d
+post_worth : (f : PurseView → ℤ) (d m : DeskNow) (t : ℕ) (q : Request) → IsPostedAt d t q m → worth f m ≡ worth f d
 post_worth f d m t q p = worth_of_seat f d m t p.seat (record p.seat { mailbox = sent p.seat.mailbox q }) p.seats p.rest (sent_same f p.seat.mailbox q)
 
-collect_worth : (f : Held → ℤ) (d m : DeskNow) (t : ℕ) → IsCollectedAt d t m → worth f m ≡ worth f d
+collect_worth : (f : PurseView → ℤ) (d m : DeskNow) (t : ℕ) → IsCollectedAt d t m → worth f m ≡ worth f d
 collect_worth f d m t p = worth_of_seat f d m t p.seat (collected_from p.seat) p.seats p.rest (emptied_same f p.seat.mailbox)
 
-take_worth : (f : Held → ℤ) (d m : DeskNow) (s t : ℕ) → IsTakenAt d s t m → worth f m ≡ worth f d
+take_worth : (f : PurseView → ℤ) (d m : DeskNow) (s t : ℕ) → IsTakenAt d s t m → worth f m ≡ worth f d
 take_worth f d m s t p =
     let was : in_seat f p.seat ≡ f p.letter.purse +ℤ pos 0 = ap (λ b. total f (purses_in b)) p.ready in
     worth_of_both f d m s t p.seat (record p.seat { mailbox = box.Taken s }) hand.Empty (hand.Holds t p.letter) p.seats p.hands (ap (λ (x : DeskNow). x.first) p.rest) (omega (arith, ints, was))
 
-answer_worth : (f : Held → ℤ) (d m : DeskNow) (s : ℕ) → IsAnsweredBy d s m → worth f m ≡ worth f d
+answer_worth : (f : PurseView → ℤ) (d m : DeskNow) (s : ℕ) → IsAnsweredBy d s m → worth f m ≡ worth f d
 answer_worth f d m s p =
     let was : in_seat f p.seat ≡ pos 0 = taken_none f p.seat.mailbox p.ready in
     worth_of_both f d m s p.terminal p.seat (record p.seat { mailbox = box.Answered p.answer }) (hand.Served p.terminal p.answer) hand.Empty p.seats p.hands (ap (λ (x : DeskNow). x.first) p.rest) (omega (arith, ints, was))
 
 -- ---- a turn changes the purse in the hand
 
-serve_worth : (f : Held → ℤ) (d m : DeskNow) (s : ℕ) (p : IsServedBy d s m) → worth f m +ℤ f p.served.letter.purse ≡ worth f d +ℤ f p.served.answer.purse
+serve_worth : (f : PurseView → ℤ) (d m : DeskNow) (s : ℕ) (p : IsServedBy d s m) → worth f m +ℤ f p.served.letter.purse ≡ worth f d +ℤ f p.served.answer.purse
 serve_worth f d m s p =
     let hands : total (in_hand f) m.hands +ℤ in_hand f p.held ≡ total (in_hand f) d.hands +ℤ in_hand f p.holds = total_changed (in_hand f) d.hands m.hands s p.held p.holds p.hands in
     let was : in_hand f p.held ≡ f p.served.letter.purse +ℤ pos 0 = ap (in_hand f) p.served.was in
@@ -128,7 +128,7 @@ serve_worth f d m s p =
     omega (arith, ints, hands, was, is, first, seats)
 
 -- the purse grows as the book does
-record Grows (old new : Past) (was is : Held) : Type 0 where
+record Grows (old new : Past) (was is : PurseView) : Type 0 where
   pub room : is.room ≡ was.room
   pub entries : is.entries + length old.entries ≡ was.entries + length new.entries
   pub paid : is.paid +ℤ paid_by_entries old.entries ≡ was.paid +ℤ paid_by_entries new.entries
@@ -136,7 +136,7 @@ record Grows (old new : Past) (was is : Held) : Type 0 where
 paid_more : (entries : List Entry) (entry : Entry) → paid_by_entries (entries ++ entry ∷ []) ≡ paid_by_entries entries +ℤ paid_by_request entry.request
 paid_more entries entry = let more = total-append (λ (e : Entry). paid_by_request e.request) entries (entry ∷ []) in omega (arith, ints, more)
 
-grown : (old new : Past) (purse is : Held) (request : Request) (place : Option ℕ) (o : Result Reply Refusal)
+grown : (old new : Past) (purse is : PurseView) (request : Request) (place : Option ℕ) (o : Result Reply Refusal)
     → ForOk o (Accepts old purse.terminal purse.entries request place new) → ForErr o (Refuses old purse.terminal purse.entries request place new)
     → MatchResult o (λ reply. is ≡ credited purse (paid_by_request request)) (λ refusal. is ≡ purse) → Grows old new purse is
 grown old new purse is request place (Ok reply) accepts refuses fits =
@@ -144,35 +144,35 @@ grown old new purse is request place (Ok reply) accepts refuses fits =
     let entry = entry_of old purse.terminal purse.entries request in
     let longer : length new.entries ≡ length old.entries + 1 = ap (λ (p : Past). length p.entries) a.new_is ∙ length-append old.entries (entry ∷ []) in
     let paid : paid_by_entries new.entries ≡ paid_by_entries old.entries +ℤ paid_by_request request = ap (λ (p : Past). paid_by_entries p.entries) a.new_is ∙ paid_more old.entries entry in
-    let entries_is : is.entries ≡ purse.entries + 1 = ap (λ (p : Held). p.entries) fits in
-    let paid_is : is.paid ≡ purse.paid +ℤ paid_by_request request = ap (λ (p : Held). p.paid) fits in
-    record { room = ap (λ (p : Held). p.room) fits; entries = omega (arith, longer, entries_is); paid = omega (arith, ints, paid, paid_is) }
+    let entries_is : is.entries ≡ purse.entries + 1 = ap (λ (p : PurseView). p.entries) fits in
+    let paid_is : is.paid ≡ purse.paid +ℤ paid_by_request request = ap (λ (p : PurseView). p.paid) fits in
+    record { room = ap (λ (p : PurseView). p.room) fits; entries = omega (arith, longer, entries_is); paid = omega (arith, ints, paid, paid_is) }
 grown old new purse is request place (Err refusal) accepts refuses fits =
     let same = (refuses refusal refl).same in
     let longer : length new.entries ≡ length old.entries = ap (λ (p : Past). length p.entries) same in
     let paid : paid_by_entries new.entries ≡ paid_by_entries old.entries = ap (λ (p : Past). paid_by_entries p.entries) same in
-    let entries_is : is.entries ≡ purse.entries = ap (λ (p : Held). p.entries) fits in
-    let paid_is : is.paid ≡ purse.paid = ap (λ (p : Held). p.paid) fits in
-    record { room = ap (λ (p : Held). p.room) fits; entries = omega (arith, longer, entries_is); paid = omega (arith, ints, paid, paid_is) }
+    let entries_is : is.entries ≡ purse.entries = ap (λ (p : PurseView). p.entries) fits in
+    let paid_is : is.paid ≡ purse.paid = ap (λ (p : PurseView). p.paid) fits in
+    record { room = ap (λ (p : PurseView). p.room) fits; entries = omega (arith, longer, entries_is); paid = omega (arith, ints, paid, paid_is) }
 
 -- ---- the three columns
 
-abbrev room_column : Held → ℤ
+abbrev room_column : PurseView → ℤ
 room_column p = pos (p.room + 1)
 
-abbrev entries_column : Held → ℤ
+abbrev entries_column : PurseView → ℤ
 entries_column p = pos p.entries
 
-abbrev paid_column : Held → ℤ
+abbrev paid_column : PurseView → ℤ
 paid_column p = p.paid
 
 -- the parts of the book, the journal's length and its payments
 pub record Balances (d : DeskNow) : Type 0 where
-  pub rooms : worth room_column d ≡ pos 10001
+  pub rooms : worth room_column d ≡ pos all_parts
   pub entries : worth entries_column d ≡ pos (length d.book.entries)
   pub paid : worth paid_column d ≡ paid_by_entries d.book.entries
 
-quiet : (d m : DeskNow) → ((f : Held → ℤ) → worth f m ≡ worth f d) → m.book ≡ d.book → Balances d → Balances m
+quiet : (d m : DeskNow) → ((f : PurseView → ℤ) → worth f m ≡ worth f d) → m.book ≡ d.book → Balances d → Balances m
 quiet d m same book balances =
     record {
       rooms = same room_column ∙ balances.rooms;
@@ -213,7 +213,7 @@ passes_balance d (e ∷ es) n p balances = passes_balance p.0 es n p.2 (move_bal
 
 -- ---- the start
 
-none_seated : (f : Held → ℤ) (each : (t : ℕ) → in_seat f (seat_of t) ≡ pos 0) (count : ℕ) → total (in_seat f) (seats_of count) ≡ pos 0
+none_seated : (f : PurseView → ℤ) (each : (t : ℕ) → in_seat f (seat_of t) ≡ pos 0) (count : ℕ) → total (in_seat f) (seats_of count) ≡ pos 0
 none_seated f each zero = refl
 none_seated f each (suc count) =
     let more = total-append (in_seat f) (seats_of count) (seat_of (suc count) ∷ []) in
@@ -221,7 +221,7 @@ none_seated f each (suc count) =
     let rest = none_seated f each count in
     omega (arith, ints, more, last, rest)
 
-one_seated : (f : Held → ℤ) (each : (t : ℕ) → in_seat f (seat_of t) ≡ pos 1) (count : ℕ) → total (in_seat f) (seats_of count) ≡ pos count
+one_seated : (f : PurseView → ℤ) (each : (t : ℕ) → in_seat f (seat_of t) ≡ pos 1) (count : ℕ) → total (in_seat f) (seats_of count) ≡ pos count
 one_seated f each zero = refl
 one_seated f each (suc count) =
     let more = total-append (in_seat f) (seats_of count) (seat_of (suc count) ∷ []) in
@@ -229,14 +229,14 @@ one_seated f each (suc count) =
     let rest = one_seated f each count in
     omega (arith, ints, more, last, rest)
 
-none_held : (f : Held → ℤ) (count : ℕ) → total (in_hand f) (hands_of count) ≡ pos 0
+none_held : (f : PurseView → ℤ) (count : ℕ) → total (in_hand f) (hands_of count) ≡ pos 0
 none_held f zero = refl
 none_held f (suc count) =
     let more = total-append (in_hand f) (hands_of count) (hand.Empty ∷ []) in
     let rest = none_held f count in
     omega (arith, ints, more, rest)
 
-start_balances : (opening : Opening) (terminals servers : ℕ) → terminals ≤ 10000 → Balances (started opening terminals servers)
+start_balances : (opening : Opening) (terminals servers : ℕ) → terminals ≤ most_purses → Balances (started opening terminals servers)
 start_balances opening terminals servers most =
     let rooms = one_seated room_column (λ t. refl) terminals in
     let entries = none_seated entries_column (λ t. refl) terminals in
@@ -254,9 +254,9 @@ sum_is f (x ∷ xs) = let one = sum_by-cons f x xs in let rest = sum_is f xs in 
 
 adds_up : (d : DeskNow) → Balances d → IsKept d.book → AddsUp d
 adds_up d balances kept =
-    let rooms = sum_is (λ (p : Held). p.room + 1) (purses_of d) in
+    let rooms = sum_is (λ (p : PurseView). p.room + 1) (purses_of d) in
     let rooms_are = worth_is room_column d in
-    let entries = sum_is (λ (p : Held). p.entries) (purses_of d) in
+    let entries = sum_is (λ (p : PurseView). p.entries) (purses_of d) in
     let entries_are = worth_is entries_column d in
     let r = balances.rooms in let e = balances.entries in
     record {

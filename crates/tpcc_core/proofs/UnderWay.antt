@@ -4,7 +4,7 @@ use Rattle.std.specs.Prelude.{Option, Some, None}
 use Rattle.std.proofs.lemmas.Bool.Decides.{eqb_tells}
 use Rattle.std.proofs.lemmas.List.{map-append}
 use Rattle.tpcc_rows.specs.declared.requests.Request.{Request}
-use Rattle.tpcc_book.specs.Purses.{Held}
+use Rattle.tpcc_book.specs.Purses.{PurseView}
 use Rattle.tpcc_book.specs.Told.{Told}
 use Rattle.tpcc_core.specs.declared.event.Event.{Event}
 use Rattle.tpcc_core.specs.declared.event.Event.TheVariants as event
@@ -24,13 +24,13 @@ use Rattle.tpcc_core.specs.Traces.{asked_by, answer_in, answered_by}
 use Rattle.tpcc_core.proofs.Places.{same-item}
 use Rattle.tpcc_core.proofs.Items.{was_at, is_at, else_at, told_of, told_kept}
 
-abbrev pub home : Mailbox Held
+abbrev pub home : Mailbox PurseView
 home = box.Taken 0
 
-abbrev pub taker_in : Option (SeatNow Held) → Option ℕ
+abbrev pub taker_in : Option (SeatNow PurseView) → Option ℕ
 taker_in found = told None (λ seat. taken_by seat.mailbox) found
 
-abbrev pub way_in : List (Hand Held) → Option (SeatNow Held) → Mailbox Held
+abbrev pub way_in : List (Hand PurseView) → Option (SeatNow PurseView) → Mailbox PurseView
 way_in hands found = told home (λ seat. brought_back hands seat.mailbox) found
 
 -- ---- what a change of one hand does to what terminals have under way
@@ -38,29 +38,29 @@ way_in hands found = told home (λ seat. brought_back hands seat.mailbox) found
 abbrev SameBut : {X : Type 0} → List X → List X → ℕ → Type 0
 SameBut old new number = (other : ℕ) → (other ≡ number → ⊥) → item new other ≡ item old other
 
-back_else : (hands hands' : List (Hand Held)) (s : ℕ) → SameBut hands hands' s → (b : Mailbox Held) → (taken_by b ≡ Some s → ⊥) → brought_back hands' b ≡ brought_back hands b
+back_else : (hands hands' : List (Hand PurseView)) (s : ℕ) → SameBut hands hands' s → (b : Mailbox PurseView) → (taken_by b ≡ Some s → ⊥) → brought_back hands' b ≡ brought_back hands b
 back_else hands hands' s same (box.Free p) apart = refl
 back_else hands hands' s same (box.Posted l) apart = refl
 back_else hands hands' s same (box.Taken n) apart = ap (told (box.Taken n) (returned n)) (same n (λ e. apart (ap (λ k. Some k) e)))
 back_else hands hands' s same (box.Answered a) apart = refl
 
-way_else : (hands hands' : List (Hand Held)) (s : ℕ) → SameBut hands hands' s → (found : Option (SeatNow Held)) → (taker_in found ≡ Some s → ⊥) → way_in hands' found ≡ way_in hands found
+way_else : (hands hands' : List (Hand PurseView)) (s : ℕ) → SameBut hands hands' s → (found : Option (SeatNow PurseView)) → (taker_in found ≡ Some s → ⊥) → way_in hands' found ≡ way_in hands found
 way_else hands hands' s same None apart = refl
 way_else hands hands' s same (Some seat) apart = back_else hands hands' s same seat.mailbox apart
 
 -- what a mailbox taken by a server has under way is in that server's hand
-back_held : (hands : List (Hand Held)) (s : ℕ) (b : Mailbox Held) → taken_by b ≡ Some s → brought_back hands b ≡ brought_back hands (box.Taken s)
+back_held : (hands : List (Hand PurseView)) (s : ℕ) (b : Mailbox PurseView) → taken_by b ≡ Some s → brought_back hands b ≡ brought_back hands (box.Taken s)
 back_held hands s (box.Free p) is = absurd cc
 back_held hands s (box.Posted l) is = absurd cc
 back_held hands s (box.Taken n) is = ap (λ k. brought_back hands (box.Taken k)) (same-item n s is)
 back_held hands s (box.Answered a) is = absurd cc
 
-pub way_held : (hands : List (Hand Held)) (s : ℕ) (h : Hand Held) (found : Option (SeatNow Held)) → taker_in found ≡ Some s → item hands s ≡ Some h → way_in hands found ≡ returned s h
+pub way_held : (hands : List (Hand PurseView)) (s : ℕ) (h : Hand PurseView) (found : Option (SeatNow PurseView)) → taker_in found ≡ Some s → item hands s ≡ Some h → way_in hands found ≡ returned s h
 way_held hands s h None is at = absurd cc
 way_held hands s h (Some seat) is at = back_held hands s seat.mailbox is ∙ ap (told (box.Taken s) (returned s)) at
 
 -- ---- the way of a terminal over one event: what is under way before and after it, what was collected, and what was asked and told
-pub record Travels (w w' : Mailbox Held) (c c' : List Collected) (asked : List Request) (answered : List Collected) : Type 0 where
+pub record Travels (w w' : Mailbox PurseView) (c c' : List Collected) (asked : List Request) (answered : List Collected) : Type 0 where
   pub posts : unserved w ++ asked ≡ map (λ a. a.request) answered ++ unserved w'
   pub served : c ++ waiting w ++ answered ≡ c' ++ waiting w'
   pub purses : map (λ p. p.terminal) (purses_in w') ≡ map (λ p. p.terminal) (purses_in w)
@@ -68,7 +68,7 @@ pub record Travels (w w' : Mailbox Held) (c c' : List Collected) (asked : List R
 abbrev pub Trip : ℕ → DeskNow → DeskNow → List Request → List Collected → Type 0
 Trip t d m asked answered = Travels (under_way d t) (under_way m t) (collected_of d t) (collected_of m t) asked answered
 
-travels_at : (v v' w w' : Mailbox Held) (x x' c c' : List Collected) (asked : List Request) (answered : List Collected)
+travels_at : (v v' w w' : Mailbox PurseView) (x x' c c' : List Collected) (asked : List Request) (answered : List Collected)
     → w ≡ v → w' ≡ v' → c ≡ x → c' ≡ x' → Travels v v' x x' asked answered → Travels w w' c c' asked answered
 travels_at v v' w w' x x' c c' asked answered e f g h trip =
     subst (λ z. Travels z w' c c' asked answered) (sym e)
@@ -76,7 +76,7 @@ travels_at v v' w w' x x' c c' asked answered e f g h trip =
     (subst (λ z. Travels v v' z c' asked answered) (sym g)
     (subst (λ z. Travels v v' x z asked answered) (sym h) trip)))
 
-stays : (w : Mailbox Held) (c : List Collected) → Travels w w c c [] []
+stays : (w : Mailbox PurseView) (c : List Collected) → Travels w w c c [] []
 stays w c = record { posts = append-nil (unserved w); served = append-nil (c ++ waiting w); purses = refl }
 
 pub trip_stays : (t : ℕ) (d m : DeskNow) → under_way m t ≡ under_way d t → collected_of m t ≡ collected_of d t → Trip t d m [] []
@@ -86,7 +86,7 @@ trip_stays t d m way collected =
 
 -- ---- Post
 
-free_box : (b : Mailbox Held) → is_free b ≡ true → (purse : Held) × (b ≡ box.Free purse)
+free_box : (b : Mailbox PurseView) → is_free b ≡ true → (purse : PurseView) × (b ≡ box.Free purse)
 free_box (box.Free p) is = (p, refl)
 free_box (box.Posted l) is = absurd cc
 free_box (box.Taken s) is = absurd cc
@@ -95,7 +95,7 @@ free_box (box.Answered a) is = absurd cc
 post_here : (d m : DeskNow) (t : ℕ) (q : Request) → IsPostedAt d t q m → Trip t d m (q ∷ []) []
 post_here d m t q p =
     let free = free_box p.seat.mailbox p.ready in
-    let letter : Letter Held = record { request = q; purse = free.0 } in
+    let letter : Letter PurseView = record { request = q; purse = free.0 } in
     let new = record p.seat { mailbox = sent p.seat.mailbox q } in
     travels_at (box.Free free.0) (box.Posted letter) (under_way d t) (under_way m t) p.seat.collected p.seat.collected (collected_of d t) (collected_of m t) (q ∷ []) []
     (told_of home (λ seat. brought_back d.hands seat.mailbox) d.seats t p.seat (was_at d.seats m.seats t p.seat new p.seats) ∙ ap (brought_back d.hands) free.1)
@@ -119,7 +119,7 @@ post_trip d m t q p n =
 
 -- ---- Collect
 
-answered_box : (b : Mailbox Held) → is_answered b ≡ true → (answer : Told Held) × (b ≡ box.Answered answer)
+answered_box : (b : Mailbox PurseView) → is_answered b ≡ true → (answer : Told PurseView) × (b ≡ box.Answered answer)
 answered_box (box.Free p) is = absurd cc
 answered_box (box.Posted l) is = absurd cc
 answered_box (box.Taken s) is = absurd cc
@@ -194,11 +194,11 @@ answer_trip d m s ordered p n =
 -- ---- Serve: the letter in the hand becomes its answer
 
 -- an answer by the letter's purse, to its request
-pub record IsAnswerTo (letter : Letter Held) (answer : Told Held) : Type 0 where
+pub record IsAnswerTo (letter : Letter PurseView) (answer : Told PurseView) : Type 0 where
   pub request : answer.request ≡ letter.request
   pub terminal : answer.purse.terminal ≡ letter.purse.terminal
 
-answers : (letter : Letter Held) (answer : Told Held) (c : List Collected) → IsAnswerTo letter answer → Travels (box.Posted letter) (box.Answered answer) c c [] (kept_of answer ∷ [])
+answers : (letter : Letter PurseView) (answer : Told PurseView) (c : List Collected) → IsAnswerTo letter answer → Travels (box.Posted letter) (box.Answered answer) c c [] (kept_of answer ∷ [])
 answers letter answer c to =
     record {
       posts = ap (λ q. q ∷ []) (sym to.request);
@@ -234,7 +234,7 @@ serve_trip d m s ordered p to n =
 
 -- ---- one event after another
 
-pub further : (w v u : Mailbox Held) (c x z : List Collected) (asked more : List Request) (answered later : List Collected)
+pub further : (w v u : Mailbox PurseView) (c x z : List Collected) (asked more : List Request) (answered later : List Collected)
     → Travels w v c x asked answered → Travels v u x z more later → Travels w u c z (asked ++ more) (answered ++ later)
 further w v u c x z asked more answered later one two =
     record {

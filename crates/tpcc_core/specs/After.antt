@@ -4,6 +4,7 @@ use Rattle.std.specs.List.{list_all}
 use Rattle.tpcc_rows.specs.declared.requests.Request.{Request}
 use Rattle.tpcc_rows.specs.Moments.{has_moment_in_range}
 use Rattle.tpcc_population.specs.declared.opening.Opening.{Opening}
+use Rattle.tpcc_book.specs.Purses.{most_purses}
 use Rattle.tpcc_core.specs.declared.event.Event.{Event}
 use Rattle.tpcc_core.specs.declared.event.Event.TheVariants as event
 use Rattle.tpcc_core.specs.declared.mailbox.Collected.{Collected}
@@ -23,7 +24,7 @@ is_in_range event.Close = true
 
 -- some run of these events, from the desk of the opening, ends in this desk
 pub record After (opening : Opening) (terminals servers : ℕ) (events : List Event) (desk : DeskNow) : Type 0 where
-  pub terminals_in : (1 ≤ terminals) × (terminals ≤ 10000)
+  pub terminals_in : (1 ≤ terminals) × (terminals ≤ most_purses)
   pub servers_in : 1 ≤ servers
   pub in_range : list_all is_in_range events ≡ true
   pub passes : Passes (started opening terminals servers) events desk

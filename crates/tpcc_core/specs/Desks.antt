@@ -1,7 +1,7 @@
 -- What contracts see of a desk.
 use Rattle.std.specs.Prelude.{ℕ, zero, suc, Bool, List, [], length, slice_get, option_map, unwrap_or, nat_lt, if◌then◌else◌, Option, Some, None}
 use Rattle.tpcc_book.specs.Past.{Past}
-use Rattle.tpcc_book.specs.Purses.{Held}
+use Rattle.tpcc_book.specs.Purses.{PurseView}
 use Rattle.tpcc_core.specs.declared.mailbox.Hand.{Hand}
 use Rattle.tpcc_core.specs.Seats.{SeatNow, purse_at}
 use Rattle.tpcc_core.specs.declared.mailbox.Collected.{Collected}
@@ -9,9 +9,9 @@ use Rattle.tpcc_core.specs.declared.mailbox.Collected.{Collected}
 -- the book, the first purse, the terminals' seats and the servers' hands in the order of their numbers, and the closed flag
 pub record DeskNow : Type 0 where
   pub book : Past
-  pub first : Held
-  pub seats : List (SeatNow Held)
-  pub hands : List (Hand Held)
+  pub first : PurseView
+  pub seats : List (SeatNow PurseView)
+  pub hands : List (Hand PurseView)
   pub closed : Bool
 
 -- the place of a number, of so many that are numbered from 1
@@ -32,7 +32,7 @@ abbrev pub told : {X Y : Type 0} → Y → (X → Y) → Option X → Y
 told none f found = unwrap_or (option_map f found) none
 
 -- of a number of no terminal there is neither purse nor answer
-abbrev pub purse_of : DeskNow → ℕ → Option Held
+abbrev pub purse_of : DeskNow → ℕ → Option PurseView
 purse_of d terminal = told None (λ seat. purse_at seat.mailbox) (item d.seats terminal)
 
 abbrev pub collected_of : DeskNow → ℕ → List Collected

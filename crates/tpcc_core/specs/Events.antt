@@ -1,7 +1,7 @@
 -- The six events: when each is ready, and what it does to a desk.
 use Rattle.std.specs.Prelude.{ℕ, ◌≡◌, Bool, true, false, ◌&&◌, List, length, slice_get, slice_set, Option, Some, None}
 use Rattle.tpcc_rows.specs.declared.requests.Request.{Request}
-use Rattle.tpcc_book.specs.Purses.{Held}
+use Rattle.tpcc_book.specs.Purses.{PurseView}
 use Rattle.tpcc_book.specs.Told.{Told}
 use Rattle.tpcc_core.specs.declared.event.Event.{Event}
 use Rattle.tpcc_core.specs.declared.event.Event.TheVariants as event
@@ -54,15 +54,15 @@ pub record IsChangedAt {X : Type 0} (old : List X) (number : ℕ) (was is : X) (
 
 -- Post: the terminal's mailbox is free, and gets its purse with the request
 pub record IsPostedAt (old : DeskNow) (terminal : ℕ) (request : Request) (new : DeskNow) : Type 0 where
-  pub seat : SeatNow Held
+  pub seat : SeatNow PurseView
   pub seats : IsChangedAt old.seats terminal seat (record seat { mailbox = sent seat.mailbox request }) new.seats
   pub ready : is_free seat.mailbox ≡ true
   pub rest : new ≡ record old { seats = new.seats }
 
 -- Take: the letter goes from the terminal's mailbox into the server's empty hand
 pub record IsTakenAt (old : DeskNow) (server terminal : ℕ) (new : DeskNow) : Type 0 where
-  pub seat : SeatNow Held
-  pub letter : Letter Held
+  pub seat : SeatNow PurseView
+  pub letter : Letter PurseView
   pub ready : seat.mailbox ≡ box.Posted letter
   pub seats : IsChangedAt old.seats terminal seat (record seat { mailbox = box.Taken server }) new.seats
   pub hands : IsChangedAt old.hands server hand.Empty (hand.Holds terminal letter) new.hands
@@ -70,8 +70,8 @@ pub record IsTakenAt (old : DeskNow) (server terminal : ℕ) (new : DeskNow) : T
 
 -- Serve: the book serves the letter in the server's hand, which then holds its answer
 pub record IsServedBy (old : DeskNow) (server : ℕ) (new : DeskNow) : Type 0 where
-  pub held : Hand Held
-  pub holds : Hand Held
+  pub held : Hand PurseView
+  pub holds : Hand PurseView
   pub served : Serves held old.book holds new.book
   pub hands : IsChangedAt old.hands server held holds new.hands
   pub rest : new ≡ record old { book = new.book; hands = new.hands }
@@ -79,8 +79,8 @@ pub record IsServedBy (old : DeskNow) (server : ℕ) (new : DeskNow) : Type 0 wh
 -- Answer: the answer goes from the server's hand into the letter's mailbox
 pub record IsAnsweredBy (old : DeskNow) (server : ℕ) (new : DeskNow) : Type 0 where
   pub terminal : ℕ
-  pub answer : Told Held
-  pub seat : SeatNow Held
+  pub answer : Told PurseView
+  pub seat : SeatNow PurseView
   pub ready : is_taken seat.mailbox ≡ true
   pub seats : IsChangedAt old.seats terminal seat (record seat { mailbox = box.Answered answer }) new.seats
   pub hands : IsChangedAt old.hands server (hand.Served terminal answer) hand.Empty new.hands
@@ -88,7 +88,7 @@ pub record IsAnsweredBy (old : DeskNow) (server : ℕ) (new : DeskNow) : Type 0 
 
 -- Collect: the terminal has its purse and its answer
 pub record IsCollectedAt (old : DeskNow) (terminal : ℕ) (new : DeskNow) : Type 0 where
-  pub seat : SeatNow Held
+  pub seat : SeatNow PurseView
   pub ready : is_answered seat.mailbox ≡ true
   pub seats : IsChangedAt old.seats terminal seat (collected_from seat) new.seats
   pub rest : new ≡ record old { seats = new.seats }

@@ -1,7 +1,7 @@
 -- Where the letters and answers of the terminals are.
 use Rattle.std.specs.Prelude.{ℕ, ◌≡◌, ◌↔◌, List, [], ◌∷◌, Option, Some, None}
 use Rattle.tpcc_rows.specs.declared.requests.Request.{Request}
-use Rattle.tpcc_book.specs.Purses.{Held}
+use Rattle.tpcc_book.specs.Purses.{PurseView}
 use Rattle.tpcc_core.specs.declared.mailbox.Hand.{Hand}
 use Rattle.tpcc_core.specs.declared.mailbox.Hand.TheVariants as hand
 use Rattle.tpcc_core.specs.declared.mailbox.Mailbox.{Mailbox}
@@ -43,7 +43,7 @@ brought_back hands (box.Taken server) = told (box.Taken server) (returned server
 brought_back hands (box.Answered answer) = box.Answered answer
 
 -- what a terminal has under way, in its mailbox or in a hand: a letter not served yet, an answer not collected yet, or nothing but its purse
-abbrev pub under_way : DeskNow → ℕ → Mailbox Held
+abbrev pub under_way : DeskNow → ℕ → Mailbox PurseView
 under_way d terminal = told (box.Taken 0) (λ seat. brought_back d.hands seat.mailbox) (item d.seats terminal)
 
 -- the request that is not served yet

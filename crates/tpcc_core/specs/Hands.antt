@@ -1,7 +1,7 @@
 -- What contracts see of a server's hand, and what events do to it.
 use Rattle.std.specs.Prelude.{ℕ, ◌≡◌, Bool, true, false, Option, Some, None}
 use Rattle.tpcc_book.specs.Past.{Past}
-use Rattle.tpcc_book.specs.Purses.{Held}
+use Rattle.tpcc_book.specs.Purses.{PurseView}
 use Rattle.tpcc_book.specs.Told.{Told}
 use Rattle.tpcc_book.specs.Serve.{IsServed}
 use Rattle.tpcc_core.specs.declared.mailbox.Hand.{Hand}
@@ -36,10 +36,10 @@ pub record IsGiven {P : Type 0} (old : Hand P) (answer : Told P) (new : Hand P) 
   pub is : new ≡ hand.Empty
 
 -- the book serves the letter in the hand, which then holds its answer
-pub record Serves (old : Hand Held) (book : Past) (new : Hand Held) (after : Past) : Type 0 where
+pub record Serves (old : Hand PurseView) (book : Past) (new : Hand PurseView) (after : Past) : Type 0 where
   pub terminal : ℕ
-  pub letter : Letter Held
-  pub answer : Told Held
+  pub letter : Letter PurseView
+  pub answer : Told PurseView
   pub was : old ≡ hand.Holds terminal letter
   pub served : IsServed book letter.request letter.purse answer after
   pub is : new ≡ hand.Served terminal answer

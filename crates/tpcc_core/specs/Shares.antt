@@ -2,7 +2,7 @@
 use Rattle.std.specs.Prelude.{◌≡◌, List, [], ◌∷◌, ◌++◌, length}
 use Rattle.std.specs.List.{flat_map}
 use Rattle.tpcc_book.specs.Past.{rise_of}
-use Rattle.tpcc_book.specs.Purses.{Held}
+use Rattle.tpcc_book.specs.Purses.{PurseView, all_parts}
 use Rattle.tpcc_book.specs.Serve.{rooms_of, entries_of, paid_of}
 use Rattle.tpcc_core.specs.declared.mailbox.Hand.{Hand}
 use Rattle.tpcc_core.specs.declared.mailbox.Hand.TheVariants as hand
@@ -23,11 +23,11 @@ purses_held (hand.Holds terminal letter) = letter.purse ∷ []
 purses_held (hand.Served terminal answer) = answer.purse ∷ []
 
 -- the first purse, and those at terminals, in letters, in answers and in hands
-abbrev pub purses_of : DeskNow → List Held
+abbrev pub purses_of : DeskNow → List PurseView
 purses_of d = d.first ∷ (flat_map (λ seat. purses_in seat.mailbox) d.seats ++ flat_map purses_held d.hands)
 
 -- the purses are all there; their entries are the journal's, their cents the rise
 pub record AddsUp (d : DeskNow) : Type 0 where
-  pub rooms : rooms_of (purses_of d) ≡ 10001
+  pub rooms : rooms_of (purses_of d) ≡ all_parts
   pub entries : entries_of (purses_of d) ≡ length d.book.entries
   pub paid : paid_of (purses_of d) ≡ rise_of d.book

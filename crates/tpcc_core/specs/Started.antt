@@ -2,7 +2,7 @@
 use Rattle.std.specs.Prelude.{ℕ, zero, suc, ◌-◌, pos, false, List, [], ◌∷◌, ◌++◌}
 use Rattle.tpcc_population.specs.declared.opening.Opening.{Opening}
 use Rattle.tpcc_book.specs.Past.{opened}
-use Rattle.tpcc_book.specs.Purses.{Held}
+use Rattle.tpcc_book.specs.Purses.{PurseView, most_purses}
 use Rattle.tpcc_core.specs.declared.mailbox.Hand.{Hand}
 use Rattle.tpcc_core.specs.declared.mailbox.Hand.TheVariants as hand
 use Rattle.tpcc_core.specs.declared.mailbox.Mailbox.TheVariants as box
@@ -10,11 +10,11 @@ use Rattle.tpcc_core.specs.Seats.{SeatNow}
 use Rattle.tpcc_core.specs.Desks.{DeskNow}
 
 -- the seat of a terminal with an empty purse, which has collected nothing
-abbrev pub seat_of : ℕ → SeatNow Held
+abbrev pub seat_of : ℕ → SeatNow PurseView
 seat_of terminal = record { mailbox = box.Free (record { terminal = terminal; entries = 0; paid = pos 0; room = 0 }); collected = [] }
 
 -- the seats of the terminals from 1 on
-abbrev pub seats_of : ℕ → List (SeatNow Held)
+abbrev pub seats_of : ℕ → List (SeatNow PurseView)
 seats_of zero = []
 seats_of (suc k) = seats_of k ++ seat_of (suc k) ∷ []
 
@@ -27,7 +27,7 @@ abbrev pub started : Opening → ℕ → ℕ → DeskNow
 started opening terminals servers =
     record {
       book = opened opening;
-      first = record { terminal = 0; entries = 0; paid = pos 0; room = 10000 - terminals };
+      first = record { terminal = 0; entries = 0; paid = pos 0; room = most_purses - terminals };
       seats = seats_of terminals;
       hands = hands_of servers;
       closed = false;

@@ -4,7 +4,7 @@ use Rattle.tpcc_rows.specs.declared.entry.Entry.{Entry}
 use Rattle.tpcc_rows.specs.declared.requests.Request.{Request}
 use Rattle.tpcc_rows.specs.declared.replies.Reply.{Reply}
 use Rattle.tpcc_rows.specs.declared.refusals.Refusal.{Refusal}
-use Rattle.tpcc_book.specs.Purses.{Held}
+use Rattle.tpcc_book.specs.Purses.{PurseView}
 use Rattle.tpcc_core.specs.declared.event.Event.{Event}
 use Rattle.tpcc_core.specs.declared.event.Event.TheVariants as event
 use Rattle.tpcc_core.specs.declared.mailbox.Collected.{Collected}
@@ -25,7 +25,7 @@ asked_by t (event.Collect terminal) = []
 asked_by t event.Close = []
 
 -- the answer to a terminal that a hand holds
-abbrev pub answer_in : ℕ → Hand Held → List Collected
+abbrev pub answer_in : ℕ → Hand PurseView → List Collected
 answer_in t hand.Empty = []
 answer_in t (hand.Holds terminal letter) = []
 answer_in t (hand.Served terminal answer) = if terminal == t then kept_of answer ∷ [] else []

@@ -2,6 +2,7 @@
 ghost use Rattle.std.specs.Prelude.{◌≡◌, take, is_ok, ◌↔◌, ◌<◌, ◌≤◌, ◌+◌, [], length, vec_len, IfOk, IfSome, IfNone, IfErr, OnOk, OnErr, IsErrOf, Option, Some, None, true, false};
 ghost use Rattle.std.specs.Option.{option_copied};
 ghost use Rattle.tpcc_book.specs.Past.{IsKept};
+ghost use Rattle.tpcc_book.specs.Purses.{most_purses};
 ghost use Rattle.tpcc_core.specs.Started.{started};
 ghost use Rattle.tpcc_core.specs.Runs.{Moves, Passes, StopsAt};
 ghost use Rattle.tpcc_core.specs.Desks.{place_of, purse_of, collected_of};
@@ -84,7 +85,7 @@ impl<N: Naming> Desk<N> {
     ) -> Result<Desk<N>, NoMemory>
         requires entries { blanks.entries.name ≡ N.entries }
         requires cents { blanks.cents.name ≡ N.cents }
-        requires terminals { (1 ≤ terminals) × (terminals ≤ 10000) }
+        requires terminals { (1 ≤ terminals) × (terminals ≤ most_purses) }
         requires servers { 1 ≤ servers }
         ensures started { IfOk result (λ d. d ≡ started opening.now terminals servers) }
     {

@@ -2,6 +2,7 @@
 ghost use Rattle.std.specs.List.{list_all};
 ghost use Rattle.std.specs.Prelude.{◌≡◌, ◌≤◌, ℕ, List, [], ◌++◌, map, All, true};
 ghost use Rattle.tpcc_book.specs.Past.{IsKept};
+ghost use Rattle.tpcc_book.specs.Purses.{most_purses};
 ghost use Rattle.tpcc_population.specs.declared.opening.Opening.{Opening};
 ghost use Rattle.tpcc_core.specs.declared.event.Event.{Event};
 ghost use Rattle.tpcc_core.specs.After.{After, is_in_range, posted, served};
@@ -94,7 +95,7 @@ pub fn purses_add_up(opening: Opening)
 /// A run over more events goes on where the one before it ended.
 pub fn events_follow()
     ensures start { (opening : Opening) (terminals servers : ℕ) → (1 ≤ terminals)
-        × (terminals ≤ 10000) → 1 ≤ servers
+        × (terminals ≤ most_purses) → 1 ≤ servers
         → After opening terminals servers [] (started opening terminals servers) }
     ensures more { (opening : Opening) (terminals servers : ℕ) (events later : List Event)
         (desk last : DeskNow)

@@ -1,5 +1,6 @@
 //! The seats and servers that a desk starts with.
 ghost use Rattle.std.specs.Prelude.{◌≡◌, ◌≤◌, ◌-◌, pos, IfOk, OnOk};
+ghost use Rattle.tpcc_book.specs.Purses.{first_purse, most_purses};
 ghost use Rattle.tpcc_core.specs.Started.{seats_of, hands_of};
 
 use crate::seat::Seat;
@@ -14,11 +15,11 @@ pub(crate) fn seats<N: Naming>(
     first: &mut Purse<N>,
     terminals: u32,
 ) -> Result<Vec<Seat<Purse<N>>>, NoMemory>
-    requires first { first.old ≡ record { terminal = 0; entries = 0; paid = pos 0; room = 10000 } }
-    requires terminals { terminals ≤ 10000 }
+    requires first { first.old ≡ first_purse }
+    requires terminals { terminals ≤ most_purses }
     ensures seats { IfOk result (λ seats. seats.items ≡ seats_of terminals) }
     ensures first { OnOk result (first.new
-        ≡ record { terminal = 0; entries = 0; paid = pos 0; room = 10000 - terminals }) }
+        ≡ record { terminal = 0; entries = 0; paid = pos 0; room = most_purses - terminals }) }
 {
     let Ok(mut seats) = Vec::with_capacity(alloc, terminals as usize) else {
         return Err(NoMemory);

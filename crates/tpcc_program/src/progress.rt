@@ -8,7 +8,7 @@ use std::time::Clock;
 use tpcc_book::{Register, Turned};
 use tpcc_rows::Request;
 use tpcc_run::Plan;
-use tpcc_server::Turning;
+use tpcc_server::OneTurn;
 
 /// Goes to the line above at a terminal, and clears it.
 const LINE_BEFORE: &str = "\x1b[1A\x1b[2K";
@@ -73,7 +73,7 @@ impl Progress {
     }
 
     /// A call that counts its turn as done.
-    pub fn counting<C: Turning>(&self, call: C) -> Counting<'_, C> {
+    pub fn counting<C: OneTurn>(&self, call: C) -> Counting<'_, C> {
         Counting {
             call,
             done: &self.done,
@@ -119,7 +119,7 @@ pub struct Counting<'a, C> {
     done: &'a AtomicU64,
 }
 
-impl<C: Turning> Turning for Counting<'_, C> {
+impl<C: OneTurn> OneTurn for Counting<'_, C> {
     fn turn_once(
         self,
         register: &mut Register,

@@ -4,6 +4,7 @@ use Rattle.std.specs.Prelude.{Result, Ok, Err, OnErr}
 use Rattle.std.specs.Io.KnownBytes.{Appends}
 use Rattle.tpcc_population.specs.declared.opening.Opening.{Opening}
 use Rattle.tpcc_book.specs.Past.{Past}
+use Rattle.tpcc_book.specs.Purses.{all_parts}
 use Rattle.tpcc_book.specs.Serve.{rooms_of}
 use Rattle.tpcc_book.specs.Seats.{Seated, purses_of}
 use Rattle.tpcc_terminal.specs.declared.receipts.Receipt.{Receipt}
@@ -15,7 +16,7 @@ use Rattle.tpcc_run.specs.Outcome.{HasCut, HasReported, HasShownPart, HasTotals}
 
 -- a settled book has its totals
 pub totals_of : (opening : Opening) (purses : List Seated) (receipts : List Receipt) (book : Past) (report : Report)
-    → rooms_of (purses_of purses) ≡ 10001 → IsSettled opening purses receipts book report → HasTotals opening book report
+    → rooms_of (purses_of purses) ≡ all_parts → IsSettled opening purses receipts book report → HasTotals opening book report
 totals_of opening purses receipts book report all settled =
     let g = settled.gathered in
     record {

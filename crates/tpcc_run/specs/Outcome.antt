@@ -3,7 +3,7 @@ use Rattle.std.specs.Prelude.{ℕ, ⊤, ◌≡◌, ◌⊎◌, ◌≤◌, List, �
 use Rattle.std.specs.Io.KnownBytes.{Appends, Keeps}
 use Rattle.tpcc_population.specs.declared.opening.Opening.{Opening}
 use Rattle.tpcc_book.specs.Past.{Past, IsKept, rise_of}
-use Rattle.tpcc_book.specs.Purses.{Held}
+use Rattle.tpcc_book.specs.Purses.{PurseView, all_parts}
 use Rattle.tpcc_book.specs.Serve.{rooms_of, entries_of, paid_of}
 use Rattle.tpcc_terminal.specs.declared.receipts.Receipt.{Receipt}
 use Rattle.tpcc_terminal.specs.declared.report.Report.{Report}
@@ -32,8 +32,8 @@ pub record IsPlan (plan : Plan) : Type 0 where
 pub record HasTotals (opening : Opening) (book : Past) (report : Report) : Type 0 where
   pub opening_is : book.opening ≡ opening
   pub kept : IsKept book
-  pub purses : List Held
-  pub all_there : rooms_of purses ≡ 10001
+  pub purses : List PurseView
+  pub all_there : rooms_of purses ≡ all_parts
   pub entries_made : report.entries ≡ entries_of purses
   pub entries_is : report.entries ≡ length book.entries
   pub paid_by : report.paid ≡ paid_of purses

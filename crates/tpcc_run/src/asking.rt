@@ -9,7 +9,7 @@ use crate::operator::Operator;
 use std::sync::Wait;
 use tpcc_book::{Naming, SeatedPurse, Seating};
 use tpcc_rows::{Delivery, Reply, Request};
-use tpcc_server::{JobAnswer, Turning};
+use tpcc_server::{JobAnswer, OneTurn};
 use tpcc_terminal::Terminal;
 use tpcc_terminal::laws::receipts_stand;
 
@@ -25,7 +25,7 @@ pub(crate) struct Asked<'s, N: Naming, T: Seating, C> {
 }
 
 /// Asks one request, by a call of its own, and keeps its receipt.
-pub(crate) fn ask_once<'s, N: Naming, T: Seating, C: Turning, R: Wait>(
+pub(crate) fn ask_once<'s, N: Naming, T: Seating, C: OneTurn, R: Wait>(
     rt: &R,
     operator: Operator<'s, N, T, C>,
     request: Request,

@@ -11,7 +11,7 @@ pub enum RunFault {
     /// A growth or a thread was refused.
     #[error("fault 3 NoMemory")]
     NoMemory,
-    /// The writer failed or took nothing.
+    /// The writer failed, took nothing, or was interrupted 1,001 times in a row.
     #[error("fault 4 Write")]
     Write,
 }

@@ -16,7 +16,7 @@ use std::thread::Threads;
 use tpcc_audit::{DumpFault, settle};
 use tpcc_book::{Blanks, Book, Naming, SeatedPurse, Seating, Turns, UnnamedTurns};
 use tpcc_population::{Opening, Scale};
-use tpcc_server::Turning;
+use tpcc_server::OneTurn;
 use tpcc_show::{Part, show};
 use tpcc_terminal::{Receipt, Report};
 
@@ -30,7 +30,7 @@ use tpcc_terminal::{Receipt, Report};
 #[tactic(auto, using(crate::proofs::Reported::reported))]
 pub fn run<
     W: Write + Drop,
-    C: Turning + Send,
+    C: OneTurn + Send,
     F: Fn(Global) -> Result<C, AllocError> + Sync,
     R: Threads + Wait + Sync,
 >(rt: &R, alloc: Global, opening: &Opening, plan: &Plan, out: W, make: F) -> Result<W, RunFault>
@@ -50,7 +50,7 @@ pub fn run<
 /// Faults as of [`run`]; NoMemory also where a growth was refused while a part was written.
 pub fn run_shown<
     W: Write,
-    C: Turning + Send,
+    C: OneTurn + Send,
     F: Fn(Global) -> Result<C, AllocError> + Sync,
     R: Threads + Wait + Sync,
 >(
@@ -77,7 +77,7 @@ pub fn run_shown<
 fn run_named<
     N: Naming + Send + Sync,
     W: Write,
-    C: Turning + Send,
+    C: OneTurn + Send,
     F: Fn(Global) -> Result<C, AllocError> + Sync,
     R: Threads + Wait + Sync,
 >(
@@ -115,7 +115,7 @@ struct SettledBook<N: Naming> {
 
 fn settle_book<
     N: Naming + Send + Sync,
-    C: Turning + Send,
+    C: OneTurn + Send,
     F: Fn(Global) -> Result<C, AllocError> + Sync,
     R: Threads + Wait + Sync,
 >(
@@ -143,7 +143,7 @@ fn settle_book<
 fn run_seated<
     N: Naming + Send + Sync,
     T: Seating + Send + Sync,
-    C: Turning + Send,
+    C: OneTurn + Send,
     F: Fn(Global) -> Result<C, AllocError> + Sync,
     R: Threads + Wait + Sync,
 >(

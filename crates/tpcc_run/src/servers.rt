@@ -9,7 +9,7 @@ use std::alloc::{AllocError, Global};
 use std::sync::Wait;
 use std::thread::{JoinHandle, Scope, Threads};
 use tpcc_book::{Naming, SeatedPurse, Seating};
-use tpcc_server::{JobMailboxes, JobServing, OpenGate, Turning, serve_until_closed};
+use tpcc_server::{JobMailboxes, JobServing, OneTurn, OpenGate, serve_until_closed};
 
 /// The thread of a server, which gives the server's purse back.
 pub(crate) type ServerHandle<N, T> = JoinHandle<SeatedPurse<N, T>>;
@@ -25,7 +25,7 @@ impl<
     's,
     N: Naming + Send + Sync,
     T: Seating + Send + Sync,
-    C: Turning + Send,
+    C: OneTurn + Send,
     F: Fn(Global) -> Result<C, AllocError> + Sync,
     R: Threads + Wait + Sync,
 > RunContext<'s, N, T, F, R> {

@@ -1,5 +1,6 @@
 //! The threads of a run: those of its terminals, and those that serve them, if any.
 ghost use Rattle.std.specs.Prelude.{◌≡◌, ◌+◌, ◌≤◌, ◌<◌, All, IfSome};
+ghost use Rattle.tpcc_book.specs.Purses.{most_purses};
 ghost use Rattle.tpcc_mailbox.specs.Tokens.{identity, idle_origin, serving_origin};
 ghost use Rattle.tpcc_audit.specs.Settlement.{AllSeen};
 ghost use Rattle.tpcc_run.specs.Outcome.{IsService};
@@ -16,20 +17,20 @@ use std::thread;
 use std::thread::{Scope, Threads};
 use tpcc_book::{Naming, SeatedPurse, Seating};
 use tpcc_mailbox::Mailboxes;
-use tpcc_server::{Job, JobAnswer, JobIdle, JobMailboxes, JobServing, Turning};
+use tpcc_server::{Job, JobAnswer, JobIdle, JobMailboxes, JobServing, OneTurn};
 
 impl<
     's,
     N: Naming + Send + Sync,
     T: Seating + Send + Sync,
-    C: Turning + Send,
+    C: OneTurn + Send,
     F: Fn(Global) -> Result<C, AllocError> + Sync,
     R: Threads + Wait + Sync,
 > RunContext<'s, N, T, F, R> {
     /// Runs all threads to their end, and gathers the purses and receipts that come back.
     pub(crate) fn gather(&self, first: SeatedPurse<N, T>) -> Gathered<N, T>
         requires make { F.IsAlwaysCallable self.now.make.now }
-        requires room { first.purse.room ≡ 10000 }
+        requires room { first.purse.room ≡ most_purses }
         ensures seen { AllSeen result.purses.items result.receipts.items }
     {
         let Some(servers) = servers_of(self.plan.service) else {

@@ -13,14 +13,14 @@ use std::alloc::{AllocError, Global};
 use std::sync::Wait;
 use std::thread::{Scope, Threads};
 use tpcc_book::{Naming, SeatedPurse, Seating};
-use tpcc_server::Turning;
+use tpcc_server::OneTurn;
 use tpcc_terminal::Terminal;
 
 impl<
     's,
     N: Naming + Send + Sync,
     T: Seating + Send + Sync,
-    C: Turning + Send,
+    C: OneTurn + Send,
     F: Fn(Global) -> Result<C, AllocError> + Sync,
     R: Threads + Wait + Sync,
 > RunContext<'s, N, T, F, R> {

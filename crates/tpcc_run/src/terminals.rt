@@ -13,7 +13,7 @@ use std::sync::Wait;
 use tpcc_book::{Naming, Seating};
 use tpcc_money::{Moment, NoMemory};
 use tpcc_rows::Request;
-use tpcc_server::Turning;
+use tpcc_server::OneTurn;
 use tpcc_terminal::Terminal;
 
 /// What a terminal asks.
@@ -58,7 +58,7 @@ impl<
     'r,
     N: Naming,
     T: Seating,
-    C: Turning,
+    C: OneTurn,
     F: Fn(Global) -> Result<C, AllocError>,
     R: Wait,
 > RunContext<'r, N, T, F, R> {

@@ -8,7 +8,7 @@ use std::alloc::{AllocError, Global};
 use std::sync::Wait;
 use tpcc_book::{Naming, SeatedPurse, Seating, Turns};
 use tpcc_rows::Request;
-use tpcc_server::{Errand, Job, JobAnswer, JobIdle, JobMailboxes, Turning, ask};
+use tpcc_server::{Errand, Job, JobAnswer, JobIdle, JobMailboxes, OneTurn, ask};
 
 /// How one terminal's requests are served, one after another.
 #[derive(Drop)]
@@ -27,7 +27,7 @@ pub(crate) struct Client<'s, N: Naming, T: Seating, C> {
     ghost origin: { idle_origin idle ≡ identity mailboxes.now },
 }
 
-impl<'s, N: Naming, T: Seating, C: Turning> Way<'s, N, T, C> {
+impl<'s, N: Naming, T: Seating, C: OneTurn> Way<'s, N, T, C> {
     /// Serves a request for a purse by a call, and gives the way back with the answer. None where the job is
     /// still out when nobody serves any more.
     pub(crate) fn ask<R: Wait>(
@@ -53,7 +53,7 @@ impl<'s, N: Naming, T: Seating, C: Turning> Way<'s, N, T, C> {
     }
 }
 
-impl<'s, N: Naming, T: Seating, C: Turning> Client<'s, N, T, C> {
+impl<'s, N: Naming, T: Seating, C: OneTurn> Client<'s, N, T, C> {
     // Posts the job, and waits for its answer.
     fn ask<R: Wait>(
         self,

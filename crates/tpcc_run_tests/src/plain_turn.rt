@@ -1,13 +1,13 @@
 //! A call without a box.
 use tpcc_book::{Register, Turned};
 use tpcc_rows::Request;
-use tpcc_server::Turning;
+use tpcc_server::OneTurn;
 
 /// Makes one turn.
 #[derive(Drop)]
 pub struct PlainTurn;
 
-impl Turning for PlainTurn {
+impl OneTurn for PlainTurn {
     fn turn_once(
         self,
         register: &mut Register,

@@ -11,7 +11,7 @@ use Rattle.tpcc_rows.specs.Replay.{count_of}
 use Rattle.tpcc_rows.specs.Turn.{reply_to}
 use Rattle.tpcc_population.specs.declared.opening.Opening.{Opening}
 use Rattle.tpcc_book.specs.Past.{Past, opened}
-use Rattle.tpcc_book.specs.Purses.{Held}
+use Rattle.tpcc_book.specs.Purses.{PurseView}
 use Rattle.tpcc_book.specs.Told.{Told}
 use Rattle.tpcc_book.specs.Serve.{IsServed}
 use Rattle.tpcc_script.specs.Book.{terminal}
@@ -26,7 +26,7 @@ count-push t entries e own =
     let is : (e.terminal == t) ≡ true = grind (arith, nat_tests) in
     sum_by_push (λ x. cond (x.terminal == t) 1 0) entries e ∙ ap (λ (b : Bool). count_of t entries + cond b 1 0) is
 
-at_hand-by : (old new : Past) (purse : Held) (request asked : Request) (o : Result Reply Refusal) (place : Option ℕ) (after : Held)
+at_hand-by : (old new : Past) (purse : PurseView) (request asked : Request) (o : Result Reply Refusal) (place : Option ℕ) (after : PurseView)
     → purse.terminal ≡ terminal → purse.entries ≡ count_of terminal old.entries
     → IsServed old request purse (record { request = asked; outcome = o; place = place; purse = after }) new → IsAtHand new (Some after)
 at_hand-by old new purse request asked (Ok reply) place after own all served =
@@ -36,8 +36,8 @@ at_hand-by old new purse request asked (Ok reply) place after own all served =
     record {
       purse = after;
       held_is = refl;
-      terminal_is = ap (λ (p : Held). p.terminal) grown ∙ own;
-      entries = ap (λ (p : Held). p.entries) grown ∙ ap (λ n. n + 1) all ∙ sym counted ∙ ap (λ (p : Past). count_of terminal p.entries) (sym accepts.new_is);
+      terminal_is = ap (λ (p : PurseView). p.terminal) grown ∙ own;
+      entries = ap (λ (p : PurseView). p.entries) grown ∙ ap (λ n. n + 1) all ∙ sym counted ∙ ap (λ (p : Past). count_of terminal p.entries) (sym accepts.new_is);
     }
 at_hand-by old new purse request asked (Err r) place after own all served =
     let refuses = served.turn.refuses r refl in
@@ -45,27 +45,27 @@ at_hand-by old new purse request asked (Err r) place after own all served =
     record {
       purse = after;
       held_is = refl;
-      terminal_is = ap (λ (p : Held). p.terminal) same ∙ own;
-      entries = ap (λ (p : Held). p.entries) same ∙ all ∙ ap (λ (p : Past). count_of terminal p.entries) (sym refuses.same);
+      terminal_is = ap (λ (p : PurseView). p.terminal) same ∙ own;
+      entries = ap (λ (p : PurseView). p.entries) same ∙ all ∙ ap (λ (p : Past). count_of terminal p.entries) (sym refuses.same);
     }
 
 -- the purse comes back with every entry of its terminal
-pub at_hand : (old new : Past) (purse : Held) (request : Request) (answer : Told Held)
+pub at_hand : (old new : Past) (purse : PurseView) (request : Request) (answer : Told PurseView)
     → purse.terminal ≡ terminal → purse.entries ≡ count_of terminal old.entries
     → IsServed old request purse answer new → IsAtHand new (Some answer.purse)
 at_hand old new purse request answer own all served =
     at_hand-by old new purse request answer.request answer.outcome answer.place answer.purse own all served
 
-same-held : (a b : Held) → Some a ≡ Some b → a ≡ b
+same-held : (a b : PurseView) → Some a ≡ Some b → a ≡ b
 same-held a b h = cc
 
 -- the purse that was taken out made each entry of its terminal, and so did the one that is put back
-pub back_at_hand : (old new : Past) (held taken : Option Held) (purse back : Held) (request : Request) (answer : Told Held)
+pub back_at_hand : (old new : Past) (held taken : Option PurseView) (purse back : PurseView) (request : Request) (answer : Told PurseView)
     → (at : IsAtHand old held) → taken ≡ held → taken ≡ Some purse → back ≡ answer.purse
     → IsServed old request purse answer new → IsAtHand new (Some back)
 back_at_hand old new held taken purse back request answer at out is put served =
     let same = same-held purse at.purse (sym is ∙ out ∙ at.held_is) in
-    rw put (at_hand old new purse request answer (ap (λ (p : Held). p.terminal) same ∙ at.terminal_is) (ap (λ (p : Held). p.entries) same ∙ at.entries) served)
+    rw put (at_hand old new purse request answer (ap (λ (p : PurseView). p.terminal) same ∙ at.terminal_is) (ap (λ (p : PurseView). p.entries) same ∙ at.entries) served)
 
 -- a run from the session of an opening
 pub has_run : (opening : Opening) (start left : Past) (script : Script) (old new : Option (List ℕ)) (result : Result ℕ ScriptFault)

@@ -10,7 +10,7 @@ use Rattle.tpcc_rows.specs.Conditions.{first_broken}
 use Rattle.tpcc_rows.specs.Replay.{count_of, results_of}
 use Rattle.tpcc_rows.specs.Turn.{reply_to}
 use Rattle.tpcc_book.specs.Past.{Past}
-use Rattle.tpcc_book.specs.Purses.{Held}
+use Rattle.tpcc_book.specs.Purses.{PurseView}
 use Rattle.tpcc_book.specs.Serve.{IsServed}
 use Rattle.tpcc_book.specs.Told.{Told}
 use Rattle.tpcc_book.specs.Turn.{after, turn_refusal}
@@ -46,7 +46,7 @@ shows-refusal old new request (Some first) r screen is told same e =
 shows-refusal old new request None r screen is told same e =
     inr (record { request = refl; free = is; shown = e ∙ ap refused_screen (sym (same-refusal refused.NoMemory r told)); left = same })
 
-shows-answer : (old new : Past) (purse : Held) (request asked : Request) (o : Result Reply Refusal) (place : Option ℕ) (later : Held) (screen : List ℕ)
+shows-answer : (old new : Past) (purse : PurseView) (request asked : Request) (o : Result Reply Refusal) (place : Option ℕ) (later : PurseView) (screen : List ℕ)
     → purse.terminal ≡ terminal → purse.entries ≡ count_of terminal old.entries
     → IsServed old request purse (record { request = asked; outcome = o; place = place; purse = later }) new → screen ≡ answer_screen o
     → Shows (seen old) (Ask request) screen (seen new)
@@ -60,19 +60,19 @@ shows-answer old new purse request asked (Err r) place later screen own all serv
     let by = ap₂ (λ t n. turn_refusal old.state old.entries t n request) own all in
     shows-refusal (seen old) (seen new) request (turn_refusal old.state old.entries purse.terminal purse.entries request) r screen (sym by) refuses.first (ap seen refuses.same) e
 
-same-held : (a b : Held) → Some a ≡ Some b → a ≡ b
+same-held : (a b : PurseView) → Some a ≡ Some b → a ≡ b
 same-held a b h = cc
 
 -- the screen of what a session's book answered the purse that was taken out
-pub shows_answer : (old new : Past) (held taken : Option Held) (purse : Held) (request : Request) (answer : Told Held) (screen : List ℕ)
+pub shows_answer : (old new : Past) (held taken : Option PurseView) (purse : PurseView) (request : Request) (answer : Told PurseView) (screen : List ℕ)
     → (at : IsAtHand old held) → taken ≡ held → taken ≡ Some purse
     → IsServed old request purse answer new → screen ≡ answer_screen answer.outcome → Shows (seen old) (Ask request) screen (seen new)
 shows_answer old new held taken purse request answer screen at out is served e =
     let same = same-held purse at.purse (sym is ∙ out ∙ at.held_is) in
     shows-answer old new purse request answer.request answer.outcome answer.place answer.purse screen
-    (ap (λ (p : Held). p.terminal) same ∙ at.terminal_is) (ap (λ (p : Held). p.entries) same ∙ at.entries) served e
+    (ap (λ (p : PurseView). p.terminal) same ∙ at.terminal_is) (ap (λ (p : PurseView). p.entries) same ∙ at.entries) served e
 
-pub served_answer : (old new : Past) (held taken : Option Held) (purse : Held) (request : Request) (answer : Told Held)
+pub served_answer : (old new : Past) (held taken : Option PurseView) (purse : PurseView) (request : Request) (answer : Told PurseView)
     → (at : IsAtHand old held) → taken ≡ held → taken ≡ Some purse
     → IsServed old request purse answer new → HasServed (seen old) (Ask request) (seen new)
 served_answer old new held taken purse request answer at out is served = record {

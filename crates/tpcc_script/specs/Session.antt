@@ -4,7 +4,7 @@ use Rattle.tpcc_population.specs.declared.opening.Opening.{Opening}
 use Rattle.tpcc_population.specs.Opening.{opening_state}
 use Rattle.tpcc_rows.specs.Replay.{count_of}
 use Rattle.tpcc_book.specs.Past.{Past}
-use Rattle.tpcc_book.specs.Purses.{Held}
+use Rattle.tpcc_book.specs.Purses.{PurseView}
 use Rattle.tpcc_script.specs.Book.{Book, terminal}
 
 -- a book, as a script sees it
@@ -16,8 +16,8 @@ abbrev pub opened_book : Opening → Book
 opened_book opening = record { opening = opening; state = opening_state opening; journal = [] }
 
 -- the purse is there between two requests, and made each entry of its terminal
-pub record IsAtHand (past : Past) (held : Option Held) : Type 0 where
-  pub purse : Held
+pub record IsAtHand (past : Past) (held : Option PurseView) : Type 0 where
+  pub purse : PurseView
   pub held_is : held ≡ Some purse
   pub terminal_is : purse.terminal ≡ terminal
   pub entries : purse.entries ≡ count_of terminal past.entries

@@ -4,7 +4,7 @@ ghost use Rattle.tpcc_book.specs.Turn.{IsTurn, TakesTurn, MakesTurn};
 ghost use Rattle.tpcc_book.specs.Seats.{IsTurned};
 
 use crate::errand::Errand;
-use crate::turning::{Call, Turner, Turning};
+use crate::one_turn::{BoxedTurn, OneTurn, TurnCall};
 use std::marker::Model;
 use std::sync::Wait;
 use tpcc_book::{Answer, HeldTurn, Naming, Register, SeatedPurse, Seating, Turned, Turns};
@@ -29,7 +29,7 @@ impl<N: Naming, T: Seating, C> Model for Job<N, T, C> {
 }
 
 /// What clauses see of a job. No value of it is made.
-pub struct Letter<N: Naming, T: Seating> {
+pub struct JobLabel<N: Naming, T: Seating> {
     /// The job's request.
     pub request: Request,
     /// The job's purse.
@@ -52,7 +52,7 @@ pub type JobWaiting<N, T, C> = Waiting<Job<N, T, C>, JobAnswer<N, T>>;
 pub type JobServing<N, T, C> = Serving<Job<N, T, C>, JobAnswer<N, T>>;
 
 impl<N: Naming, T: Seating, C> Answers<Job<N, T, C>> for Answer<SeatedPurse<N, T>> {
-    type Label = Letter<N, T>;
+    type Label = JobLabel<N, T>;
 
     ghost label = { λ job. record { request = job.request; purse = job.purse } };
 
@@ -60,19 +60,19 @@ impl<N: Naming, T: Seating, C> Answers<Job<N, T, C>> for Answer<SeatedPurse<N, T
     ghost fits = { λ letter answer. IsTurned letter.request letter.purse answer };
 }
 
-impl<N: Naming, T: Seating> Job<N, T, Turner> {
+impl<N: Naming, T: Seating> Job<N, T, BoxedTurn> {
     /// A job of a boxed call, which has to make a turn wherever it is called. It takes no memory.
-    pub fn new(request: Request, purse: SeatedPurse<N, T>, call: Call) -> Job<N, T, Turner>
-        requires takes { TakesTurn (Call.pre call) }
-        requires turns { MakesTurn (Call.post call) }
+    pub fn new(request: Request, purse: SeatedPurse<N, T>, call: TurnCall) -> Job<N, T, BoxedTurn>
+        requires takes { TakesTurn (TurnCall.pre call) }
+        requires turns { MakesTurn (TurnCall.post call) }
         ensures request { result.request ≡ request }
         ensures purse { result.purse ≡ purse }
     {
-        Job::of(request, purse, Turner::new(call))
+        Job::of(request, purse, BoxedTurn::new(call))
     }
 }
 
-impl<N: Naming, T: Seating, C: Turning> Job<N, T, C> {
+impl<N: Naming, T: Seating, C: OneTurn> Job<N, T, C> {
     /// A job of a call that is known to make a turn. It takes no memory.
     pub fn of(request: Request, purse: SeatedPurse<N, T>, call: C) -> Job<N, T, C>
         ensures request { result.request ≡ request }
@@ -126,7 +126,7 @@ impl<N: Naming, T: Seating, C: Drop> Job<N, T, C> {
     }
 }
 
-impl<N: Naming, T: Seating, C: Turning> Errand<N, T> for Job<N, T, C> {
+impl<N: Naming, T: Seating, C: OneTurn> Errand<N, T> for Job<N, T, C> {
     ghost request = { λ job. job.request };
 
     ghost purse = { λ job. job.purse };

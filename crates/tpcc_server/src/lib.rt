@@ -9,14 +9,14 @@ mod asking;
 mod errand;
 mod gate;
 mod job;
+mod one_turn;
 mod pause;
 mod serving;
 mod stand;
-mod turning;
 
 pub use asking::ask;
 pub use errand::Errand;
 pub use gate::{Gate, OpenGate};
-pub use job::{Job, JobAnswer, JobIdle, JobMailboxes, JobServing, JobWaiting, Letter};
+pub use job::{Job, JobAnswer, JobIdle, JobLabel, JobMailboxes, JobServing, JobWaiting};
+pub use one_turn::{BoxedTurn, OneTurn, TurnCall};
 pub use serving::{serve_round, serve_until_closed};
-pub use turning::{Call, Turner, Turning};

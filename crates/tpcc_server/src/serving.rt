@@ -8,16 +8,16 @@ ghost use Rattle.tpcc_server.specs.Stands.{keeper_in};
 use crate::errand::Errand;
 use crate::gate::Gate;
 use crate::job::{JobMailboxes, JobServing};
+use crate::one_turn::OneTurn;
 use crate::pause::Pause;
 use crate::stand::Stand;
-use crate::turning::Turning;
 use std::sync::Wait;
 use tpcc_book::{HeldTurn, Naming, SeatedPurse, Seating, Turns};
 
 /// Looks at each mailbox once, in order, and answers the jobs that it finds, each in a turn of its own. It gives
 /// their number. The server's own purse keeps the book's turn from one job to the next while nobody else waits for it,
 /// and comes back without it.
-pub fn serve_round<N: Naming, T: Seating, C: Turning, G: Gate, R: Wait>(
+pub fn serve_round<N: Naming, T: Seating, C: OneTurn, G: Gate, R: Wait>(
     rt: &R,
     mailboxes: &JobMailboxes<N, T, C>,
     serving: &mut JobServing<N, T, C>,
@@ -82,7 +82,7 @@ fn pass_after<N: Naming, T: Seating, G: Gate>(
 }
 
 // A round that ends once it has answered so many jobs.
-fn serve_some<N: Naming, T: Seating, C: Turning, G: Gate, R: Wait>(
+fn serve_some<N: Naming, T: Seating, C: OneTurn, G: Gate, R: Wait>(
     rt: &R,
     mailboxes: &JobMailboxes<N, T, C>,
     serving: &mut JobServing<N, T, C>,
@@ -125,7 +125,7 @@ fn serve_some<N: Naming, T: Seating, C: Turning, G: Gate, R: Wait>(
 /// Between two jobs the purse keeps the book's turn, unless somebody else waits for it, the gate may hold the
 /// server up, or there was no job for long. While another server keeps the turn it stands by for some milliseconds
 /// before its next round, so that the turn goes from one to the other seldom.
-pub fn serve_until_closed<N: Naming, T: Seating, C: Turning, G: Gate, R: Wait>(
+pub fn serve_until_closed<N: Naming, T: Seating, C: OneTurn, G: Gate, R: Wait>(
     rt: &R,
     mailboxes: &JobMailboxes<N, T, C>,
     serving: JobServing<N, T, C>,

@@ -23,7 +23,7 @@ use tpcc_book::{Blanks, Naming, Register, SeatedPurse, Seating, Turned, Turns, U
 use tpcc_money::{Cents, Moment};
 use tpcc_population::{Opening, Scale};
 use tpcc_rows::{Payment, Request, Who};
-use tpcc_server::{Job, JobIdle, JobMailboxes, JobServing, JobWaiting, Turning};
+use tpcc_server::{Job, JobIdle, JobMailboxes, JobServing, JobWaiting, OneTurn};
 
 /// What happens at the turns of a new book.
 #[derive(Clone, Copy)]
@@ -113,7 +113,7 @@ struct CountedTurn<'a> {
     made: &'a AtomicU64,
 }
 
-impl<'a> Turning for CountedTurn<'a> {
+impl<'a> OneTurn for CountedTurn<'a> {
     fn turn_once(
         self,
         register: &mut Register,
@@ -179,7 +179,7 @@ fn make_one<N: Naming, T: Seating, C: Drop, R: Abort>(rt: &R, alloc: Global) -> 
 }
 
 /// Posts a payment that is turned by this call.
-fn posted<N: Naming, T: Seating, C: Turning>(
+fn posted<N: Naming, T: Seating, C: OneTurn>(
     mailboxes: &JobMailboxes<N, T, C>,
     idle: JobIdle<N, T, C>,
     purse: SeatedPurse<N, T>,

@@ -11,7 +11,7 @@ use Rattle.tpcc_rows.specs.declared.replies.Reply.{Reply}
 use Rattle.tpcc_rows.specs.declared.refusals.Refusal.{Refusal}
 use Rattle.tpcc_rows.specs.Replay.{paid_by_request}
 use Rattle.tpcc_book.specs.Past.{Past}
-use Rattle.tpcc_book.specs.Purses.{Held}
+use Rattle.tpcc_book.specs.Purses.{PurseView}
 use Rattle.tpcc_book.specs.Told.{Told}
 use Rattle.tpcc_book.specs.Turn.{Accepts, Refuses, entry_of}
 use Rattle.tpcc_book.specs.Serve.{IsServed, credited}
@@ -50,7 +50,7 @@ one_stands entries r h zero d below = h
 one_stands entries r h (suc k) d below = absurd (omega (arith, below))
 
 -- the entry of an accepted request stands at the place that was told
-own_stands : (old new : Past) (request asked : Request) (purse after : Held) (outcome : Result Reply Refusal) (place : Option ℕ)
+own_stands : (old new : Past) (request asked : Request) (purse after : PurseView) (outcome : Result Reply Refusal) (place : Option ℕ)
     → asked ≡ request → ForOk outcome (Accepts old purse.terminal purse.entries request place new)
     → MatchResult outcome (λ reply. after ≡ credited purse (paid_by_request request)) (λ refusal. after ≡ purse)
     → AllStand new.entries (receipts_at after asked outcome place)
@@ -61,16 +61,16 @@ own_stands old new request asked purse after (Ok reply) (Some k) same ok fits =
     let e = entry_of old purse.terminal purse.entries request in
     let r : Receipt = record { terminal = after.terminal; number = after.entries - 1; place = k; request = asked; reply = reply } in
     let at : k ≡ length old.entries = cc a.place_is in
-    let number : after.entries - 1 ≡ purse.entries = ap (λ (h : Held). h.entries - 1) fits ∙ omega arith in
-    let is : e ≡ entry_of_receipt r = λ i. record { terminal = sym (ap (λ (h : Held). h.terminal) fits) i; number = sym number i; request = sym same i; reply = sym a.reply_is i } in
+    let number : after.entries - 1 ≡ purse.entries = ap (λ (h : PurseView). h.entries - 1) fits ∙ omega arith in
+    let is : e ≡ entry_of_receipt r = λ i. record { terminal = sym (ap (λ (h : PurseView). h.terminal) fits) i; number = sym number i; request = sym same i; reply = sym a.reply_is i } in
     let read : slice_get new.entries k ≡ Some e =
     (λ i. slice_get (a.new_is i).entries (at i)) ∙ read_last old.entries e in
     one_stands new.entries r (record { at = read ∙ ap Some is })
 
-pub served_stand : (old new : Past) (request : Request) (purse : Held) (answer : Told Held) (receipts : List Receipt)
+pub served_stand : (old new : Past) (request : Request) (purse : PurseView) (answer : Told PurseView) (receipts : List Receipt)
     → IsServed old request purse answer new → AllStand old.entries receipts → AllStand new.entries (receipts ++ receipts_of (λ p. p) answer)
 served_stand old new request purse answer receipts served stood =
-    All-append (Stands new.entries) receipts (receipts_of (λ (p : Held). p) answer)
+    All-append (Stands new.entries) receipts (receipts_of (λ (p : PurseView). p) answer)
     (stay old.entries new.entries receipts (grown old new purse.terminal purse.entries request answer.place answer.outcome served.turn.accepts served.turn.refuses) stood)
     (own_stands old new request answer.request purse answer.purse answer.outcome answer.place served.fits.request_is served.turn.accepts served.fits.purse_is)
 

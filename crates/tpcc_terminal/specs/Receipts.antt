@@ -4,19 +4,19 @@ use Rattle.tpcc_rows.specs.declared.entry.Entry.{Entry}
 use Rattle.tpcc_rows.specs.declared.requests.Request.{Request}
 use Rattle.tpcc_rows.specs.declared.replies.Reply.{Reply}
 use Rattle.tpcc_rows.specs.declared.refusals.Refusal.{Refusal}
-use Rattle.tpcc_book.specs.Purses.{Held}
+use Rattle.tpcc_book.specs.Purses.{PurseView}
 use Rattle.tpcc_book.specs.Told.{Told}
 use Rattle.tpcc_terminal.specs.declared.receipts.Receipt.{Receipt}
 
 -- one receipt where there is a reply and its place; its number is that of the purse's last entry
-abbrev pub receipts_at : Held → Request → Result Reply Refusal → Option ℕ → List Receipt
+abbrev pub receipts_at : PurseView → Request → Result Reply Refusal → Option ℕ → List Receipt
 receipts_at purse request (Ok reply) (Some place) =
     record { terminal = purse.terminal; number = purse.entries - 1; place = place; request = request; reply = reply } ∷ []
 receipts_at purse request (Ok reply) None = []
 receipts_at purse request (Err refusal) place = []
 
 -- the receipts of an answer: one of an accepted request, none of a refused one
-abbrev pub receipts_of : {P : Type 0} → (P → Held) → Told P → List Receipt
+abbrev pub receipts_of : {P : Type 0} → (P → PurseView) → Told P → List Receipt
 receipts_of held answer = receipts_at (held answer.purse) answer.request answer.outcome answer.place
 
 -- the journal's entry that a receipt is of

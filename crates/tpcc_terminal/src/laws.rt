@@ -4,7 +4,7 @@ ghost use mathlib.Core.List.{IsPrefix};
 ghost use Rattle.tpcc_rows.specs.declared.entry.Entry.{Entry};
 ghost use Rattle.tpcc_rows.specs.declared.requests.Request.{Request};
 ghost use Rattle.tpcc_book.specs.Past.{Past};
-ghost use Rattle.tpcc_book.specs.Purses.{Held};
+ghost use Rattle.tpcc_book.specs.Purses.{PurseView};
 ghost use Rattle.tpcc_book.specs.Serve.{IsServed};
 ghost use Rattle.tpcc_book.specs.Seats.{Seated, IsTurned};
 ghost use Rattle.tpcc_book.specs.Told.{Told};
@@ -15,7 +15,7 @@ ghost use Rattle.tpcc_terminal.specs.Receipts.{receipts_of, AllStand};
 /// journal after it: each is the journal's entry at its place. Of a purse at turns the same holds of
 /// the front, the entries that it has seen.
 pub fn receipts_stand()
-    ensures served { (old new : Past) (request : Request) (purse : Held) (answer : Told Held)
+    ensures served { (old new : Past) (request : Request) (purse : PurseView) (answer : Told PurseView)
         (receipts : List Receipt)
         → IsServed old request purse answer new → AllStand old.entries receipts
         → AllStand new.entries (receipts ++ receipts_of (λ p. p) answer) }

@@ -1,6 +1,6 @@
 //! Receipts of accepted requests.
 ghost use Rattle.std.specs.Prelude.{◌≡◌, ◌++◌, ◌<◌, ◌-◌, OnOk, OnErr, IfOk, vec_capacity, vec_len};
-ghost use Rattle.tpcc_book.specs.Purses.{Held};
+ghost use Rattle.tpcc_book.specs.Purses.{PurseView};
 ghost use Rattle.tpcc_terminal.specs.Receipts.{receipts_of};
 
 use std::alloc::Global;
@@ -26,7 +26,7 @@ pub struct Receipt {
 /// A purse, with a seat or without, tells its terminal and how many entries it has made.
 pub trait Numbered {
     /// What it is seen as without its seat.
-    ghost held: { Self → Held };
+    ghost held: { Self → PurseView };
 
     /// The terminal whose purse it is.
     fn terminal(&self) -> u32

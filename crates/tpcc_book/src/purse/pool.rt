@@ -1,6 +1,6 @@
 //! The shares of purses, put together.
 ghost use Rattle.std.specs.Prelude.{◌≡◌, ◌<◌, pos};
-ghost use Rattle.tpcc_book.specs.Purses.{pool_of, pooled};
+ghost use Rattle.tpcc_book.specs.Purses.{all_parts, pool_of, pooled};
 
 use crate::naming::{Entries, Naming, PaidCents};
 use crate::purse::Purse;
@@ -21,14 +21,14 @@ pub(crate) struct Pool<N: Naming> {
 
 impl<N: Naming> Model for Pool<N> {
     ghost use Rattle.std.specs.Prelude.{◌≡◌, ◌*◌, ◌≤◌, ◌^◌, pos};
-    ghost use Rattle.tpcc_book.specs.Purses.{Pooled};
+    ghost use Rattle.tpcc_book.specs.Purses.{Pooled, all_parts};
 
     ghost Value = { Pooled };
 
     ghost view = { λ p. record { parts = p.parts; entries = p.entries; paid = pos p.cents } };
 
     ghost invariant = { λ p. (p.entry_share.parts ≡ p.parts) × (p.entry_share.amount ≡ p.entries)
-        × (p.cent_share.parts ≡ p.parts) × (p.cent_share.amount ≡ p.cents) × (p.parts ≤ 10001)
+        × (p.cent_share.parts ≡ p.parts) × (p.cent_share.amount ≡ p.cents) × (p.parts ≤ all_parts)
         × (p.entries ≤ p.parts * 2 ^ 64) × (p.cents ≤ p.parts * 2 ^ 64) };
 }
 
@@ -86,7 +86,7 @@ impl<N: Naming> Pool<N> {
         entries: &mut LedgerBook<Entries<N>>,
         cents: &mut LedgerBook<PaidCents<N>>,
     ) -> (u64, Cents)
-        requires all { self.parts ≡ 10001 }
+        requires all { self.parts ≡ all_parts }
         requires entries { entries.old.total < 9223372036854775808 }
         requires cents { cents.old.total < 9223372036854775808 }
         ensures entries { (entries.new.total ≡ entries.old.total) × (result.0 ≡ self.entries)

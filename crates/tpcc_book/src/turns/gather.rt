@@ -4,14 +4,14 @@ ghost use Rattle.std.specs.Slots.{slots_items, slots_len, IsFull};
 ghost use Rattle.tpcc_book.specs.declared.turns.knows.Stage.TheVariants.{Idle};
 ghost use Rattle.tpcc_book.specs.Closing.{TellsBook, IsLeft, IsGathered, IsAudited};
 ghost use Rattle.tpcc_book.specs.Gathering.{HasJoined};
-ghost use Rattle.tpcc_book.specs.Purses.{pooled};
+ghost use Rattle.tpcc_book.specs.Purses.{all_parts, pooled};
 ghost use Rattle.tpcc_book.specs.Seats.{purses_of, view_of};
 ghost use Rattle.tpcc_book.specs.Serve.{rooms_of};
 ghost use Rattle.tpcc_book.specs.Shares.{both_of};
 
 use crate::book::Book;
 use crate::naming::Naming;
-use crate::purse::Pool;
+use crate::purse::{ALL_PARTS, Pool};
 use crate::turns::Turns;
 use crate::turns::knows::Knows;
 use crate::turns::seated::{SeatedPurse, Seating};
@@ -40,7 +40,7 @@ impl<N: Naming, T: Seating> Turns<N, T> {
         self,
         purses: Vec<SeatedPurse<N, T>>,
     ) -> Result<(Book<N>, u64, Cents), Option<Book<N>>>
-        ensures exactly { IsOk result ↔ (rooms_of (purses_of purses.items) ≡ 10001) }
+        ensures exactly { IsOk result ↔ (rooms_of (purses_of purses.items) ≡ all_parts) }
         ensures gathered { IfOk result (λ r. IsGathered self purses.items r.0 r.1 r.2) }
         ensures left { IfErr result (λ book. IfSome book (IsLeft self purses.items)) }
     {
@@ -124,11 +124,11 @@ fn audited<N: Naming>(
     pool: Pool<N>,
 ) -> Result<(Book<N>, u64, Cents), Option<Book<N>>>
     ensures missing { IfErr result (λ left. left ≡ book) }
-    ensures few { IfErr result (λ left. pool.parts ≡ 10001 → book ≡ None) }
-    ensures all { IfOk result (λ r. (pool.parts ≡ 10001) × (book ≡ Some r.0)) }
+    ensures few { IfErr result (λ left. pool.parts ≡ all_parts → book ≡ None) }
+    ensures all { IfOk result (λ r. (pool.parts ≡ all_parts) × (book ≡ Some r.0)) }
     ensures audited { IfOk result (λ r. IsAudited pool r.0 r.1 r.2) }
 {
-    if pool.parts() != 10_001 {
+    if pool.parts() != ALL_PARTS {
         return Err(book);
     }
     let Some(mut book) = book else {

@@ -15,7 +15,7 @@ pub struct TurnRule<N> {
 }
 
 impl<N: Naming> TableRule<Option<Book<N>>, Knows, Opening> for TurnRule<N> {
-    ghost use Rattle.tpcc_book.specs.Turning.{IsTurning, first};
+    ghost use Rattle.tpcc_book.specs.TurnRule.{IsTurning, first};
 
     ghost holds = { IsTurning };
 
@@ -26,7 +26,7 @@ impl<N: Naming> TableRule<Option<Book<N>>, Knows, Opening> for TurnRule<N> {
 pub struct Draw;
 
 impl<N: Naming> Play<Option<Book<N>>, Knows> for Draw {
-    ghost use Rattle.tpcc_book.specs.Turning.{Drew};
+    ghost use Rattle.tpcc_book.specs.TurnRule.{Drew};
 
     ghost then = { Drew };
 }
@@ -35,7 +35,7 @@ impl<N: Naming> Play<Option<Book<N>>, Knows> for Draw {
 pub struct Look;
 
 impl<N: Naming> Play<Option<Book<N>>, Knows> for Look {
-    ghost use Rattle.tpcc_book.specs.Turning.{Looked};
+    ghost use Rattle.tpcc_book.specs.TurnRule.{Looked};
 
     ghost then = { Looked };
 }
@@ -44,7 +44,7 @@ impl<N: Naming> Play<Option<Book<N>>, Knows> for Look {
 pub struct Grow;
 
 impl<N: Naming> Play<Option<Book<N>>, Knows> for Grow {
-    ghost use Rattle.tpcc_book.specs.Turning.{Grown};
+    ghost use Rattle.tpcc_book.specs.TurnRule.{Grown};
 
     ghost then = { Grown };
 }
@@ -53,7 +53,7 @@ impl<N: Naming> Play<Option<Book<N>>, Knows> for Grow {
 pub struct End;
 
 impl<N: Naming> Play<Option<Book<N>>, Knows> for End {
-    ghost use Rattle.tpcc_book.specs.Turning.{Ended};
+    ghost use Rattle.tpcc_book.specs.TurnRule.{Ended};
 
     ghost then = { Ended };
 }

@@ -1,7 +1,7 @@
 //! Purses with a seat at the turns.
 ghost use Rattle.std.specs.Prelude.{◌≡◌, ◌+◌, ◌<◌, [], ◌∷◌, pos};
 ghost use Rattle.tpcc_book.specs.declared.turns.knows.Stage.TheVariants.{Idle};
-ghost use Rattle.tpcc_book.specs.Turning.{knows};
+ghost use Rattle.tpcc_book.specs.TurnRule.{knows};
 ghost use Rattle.tpcc_book.specs.Seats.{start_of, front_of};
 
 use crate::naming::Naming;
@@ -38,7 +38,7 @@ pub struct SeatedPurse<N: Naming, T: Seating> {
 impl<N: Naming, T: Seating> Model for SeatedPurse<N, T> {
     ghost use Rattle.std.specs.Prelude.{◌≡◌, ◌+◌, [], ◌∷◌};
     ghost use Rattle.tpcc_book.specs.declared.turns.knows.Stage.TheVariants.{Idle};
-    ghost use Rattle.tpcc_book.specs.Turning.{knows};
+    ghost use Rattle.tpcc_book.specs.TurnRule.{knows};
     ghost use Rattle.tpcc_book.specs.Seats.{Seated, start_of, front_of};
 
     ghost Value = { Seated };

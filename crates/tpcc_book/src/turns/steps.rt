@@ -2,7 +2,7 @@
 ghost use Rattle.std.specs.Prelude.{◌≡◌, ◌<◌, ℕ, List, [], ◌∷◌, Option, Some};
 ghost use Rattle.atomic_table.specs.Table.{rest};
 ghost use Rattle.tpcc_book.specs.declared.turns.knows.Stage.TheVariants.{Idle, Out, Holds};
-ghost use Rattle.tpcc_book.specs.Turning.{knows, Took, Grew};
+ghost use Rattle.tpcc_book.specs.TurnRule.{knows, Took, Grew};
 ghost use Rattle.tpcc_book.specs.TurnSteps.{Drawn, Awaits, Taken, Giving, Ending, Growing, CanGrow, Shown};
 ghost use Rattle.tpcc_book.specs.Shares.{both_of, last_parts, freed_of, back_of};
 ghost use Rattle.tpcc_rows.specs.declared.entry.Entry.{Entry};

@@ -1,5 +1,6 @@
 //! Turns at a new book.
-ghost use Rattle.std.specs.Prelude.{◌≡◌, [], ◌∷◌, IfOk, pos, Some};
+ghost use Rattle.std.specs.Prelude.{◌≡◌, [], ◌∷◌, IfOk, Some};
+ghost use Rattle.tpcc_book.specs.Purses.{first_purse};
 
 use crate::book::Book;
 use crate::naming::{Blanks, Naming};
@@ -25,9 +26,10 @@ pub struct UnnamedTurns<N: Naming> {
 }
 
 impl<N: Naming> Model for UnnamedTurns<N> {
-    ghost use Rattle.std.specs.Prelude.{◌≡◌, [], pos};
+    ghost use Rattle.std.specs.Prelude.{◌≡◌, []};
+    ghost use Rattle.tpcc_book.specs.Purses.{first_purse};
     ghost use Rattle.tpcc_book.specs.Seats.{Unnamed};
-    ghost use Rattle.tpcc_book.specs.Turning.{first};
+    ghost use Rattle.tpcc_book.specs.TurnRule.{first};
 
     ghost Value = { Unnamed };
 
@@ -36,7 +38,7 @@ impl<N: Naming> Model for UnnamedTurns<N> {
     ghost invariant = { λ t. (t.seat.table_id ≡ t.table.shared.table_id)
         × (t.table.shared.table_id.words ≡ 2) × (t.table.shared.table_id.slots ≡ 1)
         × (t.seat.me ≡ (first t.table.shared.key, []))
-        × (t.purse ≡ record { terminal = 0; entries = 0; paid = pos 0; room = 10000 }) };
+        × (t.purse ≡ first_purse) };
 }
 
 impl<N: Naming> UnnamedTurns<N> {
@@ -63,11 +65,7 @@ impl<N: Naming> UnnamedTurns<N> {
         requires name { self.table ≡ T.table }
         ensures turns { result.0 ≡ self.opening }
         ensures purse { result.1
-            ≡ record {
-              purse = record { terminal = 0; entries = 0; paid = pos 0; room = 10000 };
-              start = self.opening;
-              front = [];
-            } }
+            ≡ record { purse = first_purse; start = self.opening; front = [] } }
     {
         let UnnamedTurns { table, seat, purse } = self;
         (Turns::of(table), SeatedPurse::of(purse, seat.into_badge()))

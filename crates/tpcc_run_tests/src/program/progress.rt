@@ -12,7 +12,7 @@ use tpcc_population::{Opening, Scale};
 use tpcc_program::{Line, Progress};
 use tpcc_rows::{Request, StockQuery};
 use tpcc_run::{Plan, Service};
-use tpcc_server::Turning;
+use tpcc_server::OneTurn;
 
 /// A clock that stands at a millisecond, and a count of the lines that were written.
 #[derive(Drop)]

@@ -11,7 +11,7 @@ use tpcc_book::{Naming, SeatedPurse, Seating, Turns};
 use tpcc_mailbox::{Client, Left};
 use tpcc_rows::Request;
 use tpcc_server::{
-    Job, JobAnswer, JobIdle, JobMailboxes, JobServing, JobWaiting, OpenGate, Turning, ask,
+    Job, JobAnswer, JobIdle, JobMailboxes, JobServing, JobWaiting, OneTurn, OpenGate, ask,
     serve_round,
 };
 
@@ -41,7 +41,7 @@ fn is_payment(request: &Request) -> bool {
 }
 
 /// Closes new mailboxes, asks the job there, and reclaims it.
-fn no_answer<N: Naming, T: Seating, C: Turning, R: Wait + Abort>(
+fn no_answer<N: Naming, T: Seating, C: OneTurn, R: Wait + Abort>(
     rt: &R,
     alloc: Global,
     job: Job<N, T, C>,
@@ -133,7 +133,7 @@ pub(super) fn not_collected<N: Naming, T: Seating, R: Wait + Abort>(
 }
 
 /// Serves a round, and takes the only job's answer out of the mailboxes that are taken apart.
-fn answer_left<N: Naming, T: Seating, C: Turning, R: Wait + Abort>(
+fn answer_left<N: Naming, T: Seating, C: OneTurn, R: Wait + Abort>(
     rt: &R,
     alloc: Global,
     turns: &Turns<N, T>,

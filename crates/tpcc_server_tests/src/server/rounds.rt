@@ -9,7 +9,7 @@ use std::sync::Wait;
 use std::sync::atomic::{AtomicU64, Ordering};
 use tpcc_book::{Naming, SeatedPurse, Seating, Turns};
 use tpcc_server::{
-    Gate, JobIdle, JobMailboxes, JobServing, JobWaiting, Turning, serve_round, serve_until_closed,
+    Gate, JobIdle, JobMailboxes, JobServing, JobWaiting, OneTurn, serve_round, serve_until_closed,
 };
 
 /// A gate that sees whether each job is turned between its two calls, in the order of the mailboxes.
@@ -126,7 +126,7 @@ fn one_by_one<'a, N: Naming, T: Seating, R: Wait + Abort>(
     rounds(rt, mailboxes, turns, serving, keeper, watch)
 }
 
-fn rounds<N: Naming, T: Seating, C: Turning, R: Wait + Abort>(
+fn rounds<N: Naming, T: Seating, C: OneTurn, R: Wait + Abort>(
     rt: &R,
     mailboxes: &JobMailboxes<N, T, C>,
     turns: &Turns<N, T>,

@@ -1,7 +1,7 @@
 use Rattle.std.proofs.Common.{◌≡◌, ◌+◌, [], ◌∙◌, ap, sym}
 use Rattle.tpcc_book.specs.declared.turns.knows.Stage.TheVariants.{Idle}
 use Rattle.tpcc_book.specs.Purses.{pool_of}
-use Rattle.tpcc_book.specs.Turning.{knows}
+use Rattle.tpcc_book.specs.TurnRule.{knows}
 use Rattle.tpcc_book.specs.Seats.{Seated, view_of, start_of, front_of}
 use Rattle.tpcc_book.proofs.Shares.{alone}
 use Rattle.tpcc_book.proofs.Gathers.{popped_is}

@@ -1,7 +1,7 @@
 use Rattle.std.proofs.Common.{◌≡◌, ◌+◌, ◌<◌, [], ◌∙◌, ap, sym, arith}
 use Rattle.tpcc_book.specs.declared.turns.knows.Knows.{Knows}
 use Rattle.tpcc_book.specs.declared.turns.knows.Stage.TheVariants.{Idle}
-use Rattle.tpcc_book.specs.Turning.{knows}
+use Rattle.tpcc_book.specs.TurnRule.{knows}
 use Rattle.tpcc_book.specs.Seats.{Seated, start_of, front_of}
 use Rattle.tpcc_book.proofs.Shares.{splits, alone}
 use Rattle.tpcc_book.proofs.turns.seated.SeatedPurse.split.Goals as goal

@@ -6,7 +6,7 @@ use tpcc_rows::Request;
 
 /// What makes one turn of a register, once: it takes the request, the terminal and the number of entries
 /// that the terminal made.
-pub trait Turning: Drop {
+pub trait OneTurn: Drop {
     /// Makes the turn, and spends the call.
     fn turn_once(
         self,
@@ -19,30 +19,30 @@ pub trait Turning: Drop {
 }
 
 /// A boxed call of a turn's form.
-pub type Call = Box<dyn FnMut(&mut Register, Request, u32, u64) -> Turned + Send>;
+pub type TurnCall = Box<dyn FnMut(&mut Register, Request, u32, u64) -> Turned + Send>;
 
 /// A boxed call that is known to make a turn.
 #[derive(Drop)]
-pub struct Turner {
+pub struct BoxedTurn {
     /// The call.
-    pub call: Call,
+    pub call: TurnCall,
     /// It may be called with any register, request, terminal and number.
-    pub ghost takes: { TakesTurn (Call.pre call) },
+    pub ghost takes: { TakesTurn (TurnCall.pre call) },
     /// Each call of it makes a turn.
-    pub ghost turns: { MakesTurn (Call.post call) },
+    pub ghost turns: { MakesTurn (TurnCall.post call) },
 }
 
-impl Turner {
+impl BoxedTurn {
     /// The call, with what is known of it. It takes no memory.
-    pub fn new(call: Call) -> Turner
-        requires takes { TakesTurn (Call.pre call) }
-        requires turns { MakesTurn (Call.post call) }
+    pub fn new(call: TurnCall) -> BoxedTurn
+        requires takes { TakesTurn (TurnCall.pre call) }
+        requires turns { MakesTurn (TurnCall.post call) }
     {
-        Turner { call }
+        BoxedTurn { call }
     }
 }
 
-impl Turning for Turner {
+impl OneTurn for BoxedTurn {
     fn turn_once(
         self,
         register: &mut Register,
@@ -50,7 +50,7 @@ impl Turning for Turner {
         terminal: u32,
         number: u64,
     ) -> Turned {
-        let Turner { call } = self;
+        let BoxedTurn { call } = self;
         let mut call = call;
         call(register, request, terminal, number)
     }

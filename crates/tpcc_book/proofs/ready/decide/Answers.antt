@@ -1,6 +1,6 @@
 use Rattle.tpcc_book.specs.Ready.{state_of, room_in}
 use Rattle.tpcc_book.proofs.Decides.{decided-ready, decided-refused}
-use Rattle.tpcc_book.proofs.steps.decide.Goals as goal
+use Rattle.tpcc_book.proofs.ready.decide.Goals as goal
 
 pub returns-clause-ready : goal.returns-clause-ready
 returns-clause-ready c =

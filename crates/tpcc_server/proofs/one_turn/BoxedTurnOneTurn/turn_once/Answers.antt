@@ -1,6 +1,6 @@
 use Rattle.std.proofs.Common.{arith}
 use Rattle.tpcc_server.proofs.Boxes.{held-called}
-use Rattle.tpcc_server.proofs.turning.TurnerTurning.turn_once.Goals as goal
+use Rattle.tpcc_server.proofs.one_turn.BoxedTurnOneTurn.turn_once.Goals as goal
 
 pub returns : goal.returns
 returns g c =

@@ -6,6 +6,7 @@ use lib.ListN.{get_elem?}
 use Rattle.atomic_table.specs.Table.{State, Me, Step}
 use Rattle.tpcc_rows.specs.declared.entry.Entry.{Entry}
 use Rattle.tpcc_book.specs.Past.{Past}
+use Rattle.tpcc_book.specs.Purses.{all_parts}
 use Rattle.tpcc_book.specs.declared.turns.knows.Knows.{Knows}
 use Rattle.tpcc_book.specs.declared.turns.knows.Heard.{Heard}
 use Rattle.tpcc_book.specs.declared.turns.knows.Stage.{Stage}
@@ -23,7 +24,7 @@ knows start front parts stage told =
 
 -- the first seat has every part, and has seen nothing
 abbrev pub first : Opening → Knows
-first start = knows start [] 10001 Idle []
+first start = knows start [] all_parts Idle []
 
 -- how many tickets a seat has
 abbrev pub out_of : Stage → ℕ
@@ -83,7 +84,7 @@ pub record IsTurning (start : Opening) (s : State (Option Past) Knows) : Type 0 
   pub drawn : ℕ
   pub words : s.words ≡ (drawn % 2 ^ 64) ∷ (served % 2 ^ 64) ∷ []
   pub outs : served + total (λ v. out_of v.stage) s.views ≡ drawn
-  pub parts : total (λ v. v.parts) s.views ≡ 10001
+  pub parts : total (λ v. v.parts) s.views ≡ all_parts
   pub each : (j : ℕ) (v : Knows) → get_elem? s.views j ≡ some v → IsSeated start log served drawn v
   pub apart : (i j : ℕ) (v w : Knows) (n : ℕ) → get_elem? s.views i ≡ some v → get_elem? s.views j ≡ some w → HasTicket v.stage n → HasTicket w.stage n → i ≡ j
   pub book : AtHome start log s.homes s.views ⊎ Away served s.homes s.views

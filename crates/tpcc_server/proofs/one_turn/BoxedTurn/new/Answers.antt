@@ -1,4 +1,4 @@
-use Rattle.tpcc_server.proofs.turning.Turner.new.Goals as goal
+use Rattle.tpcc_server.proofs.one_turn.BoxedTurn.new.Goals as goal
 
 pub invariant_of-result : goal.invariant_of-result
 invariant_of-result g c =
