@@ -1,6 +1,6 @@
 #!/usr/bin/env bash
 # Requests a second of runs for 1 to 64 terminals: by their own turns (`--direct`) and by 1, 2 and 4 servers, beside the
-# same requests served one after another on one thread (bench/serial), and beside the plain program of bench/plain on one
+# same requests served one after another on one thread with their receipts (bench/serial), and beside the plain program of bench/plain on one
 # thread and with a thread a terminal behind `std::sync::Mutex`. All in one run, as a table for docs/BENCH.md; each ratio
 # is to the serial program of the same row. bench/plot.sh draws it.
 #
@@ -43,7 +43,7 @@ scale="--seeded --warehouses $warehouses --customers $customers --items $items"
 echo "| Terminals | Serial, requests/s | Direct | 1 server | 2 servers | 4 servers | Plain, one thread | Plain, mutex |"
 echo "|---|---|---|---|---|---|---|---|"
 for terminals in ${TERMINALS:-1 2 4 8 16 64}; do
-    alone=$(rate "$BUILT/tpcc_serial/out/tpcc_serial $terminals" "$warehouses $customers $items")
+    alone=$(rate "$BUILT/tpcc_serial/out/tpcc_serial $terminals" "$warehouses $customers $items 1")
     row="| $terminals | $alone | $(beside "$product run $scale --terminals $terminals --direct --cards") |"
     for servers in 1 2 4; do
         row+=" $(beside "$product run $scale --terminals $terminals --servers $servers --cards") |"
