@@ -34,7 +34,7 @@ fn dumped<R: Abort>(rt: &R, alloc: Global, tables: &Tables) -> Vec<u8> {
 }
 
 #[test]
-fn commas_and_quotes_within_a_text(rt: HostRuntime) {
+fn commas_and_quotes_within_a_text_are_quoted(rt: HostRuntime) {
     let mut tables = Tables::empty(rt.alloc());
     assert!(rt; tables.load(Row::Warehouse(warehouse())).is_ok());
     let text = dumped(&rt, rt.alloc(), &tables);

@@ -11,7 +11,7 @@ fn shows<R: Abort>(rt: &R, screen: Result<Screen, NoMemory>, shown: &str) {
 }
 
 #[test]
-fn a_customer_who_never_ordered(rt: HostRuntime) {
+fn a_customer_who_never_ordered_has_no_order(rt: HostRuntime) {
     let status = Reply::Status(Status {
         warehouse: 1,
         district: 1,
@@ -30,7 +30,7 @@ fn a_customer_who_never_ordered(rt: HostRuntime) {
 }
 
 #[test]
-fn refusals(rt: HostRuntime) {
+fn each_refusal_is_shown_with_its_number(rt: HostRuntime) {
     for (refusal, shown) in [
         (Refusal::Stranger(1), "refused 10 Stranger 1\n"),
         (Refusal::JournalFull, "refused 11 JournalFull\n"),
@@ -49,7 +49,7 @@ fn refusals(rt: HostRuntime) {
 }
 
 #[test]
-fn a_broken_condition(rt: HostRuntime) {
+fn a_broken_condition_is_shown_with_its_place(rt: HostRuntime) {
     shows(
         &rt,
         broken_screen(rt.alloc(), 5, 1, 2, 8),

@@ -42,7 +42,7 @@ fn is_refused_after<R: Threads + Wait + Abort + Sync>(rt: &R, alloc: Global, gra
 /// At the first call of all, at that of a terminal or the delivery runner, and at the first one behind
 /// the 69 of their cards, which is the runner's when all others are joined.
 #[test]
-fn calls_that_are_refused_memory(rt: HostRuntime) {
+fn a_run_whose_calls_are_refused_memory_says_so(rt: HostRuntime) {
     for granted in [0, 1, 40, 69] {
         assert!(rt; is_refused_after(&rt, rt.alloc(), granted));
     }

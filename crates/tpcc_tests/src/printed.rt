@@ -11,7 +11,7 @@ fn is_printed(rt: &(impl Abort + AllocGlobal), value: impl Display + Drop, expec
 }
 
 #[test]
-fn amounts_and_rates(rt: HostRuntime) {
+fn amounts_and_rates_print_their_decimals(rt: HostRuntime) {
     is_printed(&rt, Cents::new(5), "0.05");
     is_printed(&rt, Cents::new(-5), "-0.05");
     is_printed(&rt, Cents::new(i64::MIN), "-92233720368547758.08");
@@ -20,7 +20,7 @@ fn amounts_and_rates(rt: HostRuntime) {
 }
 
 #[test]
-fn faults_and_refusals(rt: HostRuntime) {
+fn faults_and_refusals_print_their_lines(rt: HostRuntime) {
     is_printed(&rt, AmountFault::Shape, "Shape");
     is_printed(&rt, AmountFault::Range, "Range");
     is_printed(&rt, TextFault::TooLong, "TooLong");

@@ -22,7 +22,7 @@ fn are_as_expected(rt: &impl Abort, sizes: &[(usize, usize)]) {
 }
 
 #[test]
-fn rows(rt: HostRuntime) {
+fn each_row_has_its_size(rt: HostRuntime) {
     let sizes = [
         (size_of::<Text<24>>(), 24 + 2usize),
         // Three texts of 20 bytes, one of 2 and one of 9, which is made even.
@@ -54,7 +54,7 @@ fn rows(rt: HostRuntime) {
 }
 
 #[test]
-fn requests(rt: HostRuntime) {
+fn each_request_has_its_size(rt: HostRuntime) {
     let sizes = [
         // Four numbers, who pays, H_DATE, H_AMOUNT.
         (size_of::<Payment>(), 4 * 4 + 20 + 4 + 8usize),
@@ -64,7 +64,7 @@ fn requests(rt: HostRuntime) {
 }
 
 #[test]
-fn replies(rt: HostRuntime) {
+fn replies_and_entries_have_their_sizes(rt: HostRuntime) {
     let sizes = [
         // Five numbers, two amounts, I_NAME, the brand: 63.
         (size_of::<EnteredLine>(), 5 * 4 + 2 * 8 + 26 + 1 + 1usize),

@@ -3,7 +3,7 @@ use tpcc_program::ProgramFault;
 use tpcc_run::RunFault;
 
 #[test]
-fn a_purse_that_is_missing(rt: HostRuntime) {
+fn a_purse_that_is_missing_is_status_5(rt: HostRuntime) {
     let fault = ProgramFault::Run(RunFault::Missing);
     let line = fault.to_string(rt.alloc()).expect(&rt, "memory for a line");
     assert!(rt; line.as_str() == "fault 1 Missing" && fault.status() == 5);

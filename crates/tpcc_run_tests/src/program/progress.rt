@@ -61,7 +61,7 @@ fn plan() -> Plan {
 }
 
 #[test]
-fn a_line_a_second(rt: HostRuntime) -> Result<(), Fail> {
+fn a_line_is_written_once_a_second(rt: HostRuntime) -> Result<(), Fail> {
     let watch = Watch {
         now: AtomicU64::new(5_000),
         lines: AtomicU64::new(0),
