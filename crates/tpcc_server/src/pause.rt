@@ -6,10 +6,10 @@ use std::thread;
 use std::time::Duration;
 
 /// How often a thread yields before it sleeps.
-const YIELDS: u32 = 400;
+const YIELDS: u32 = 100;
 
 /// How long a thread sleeps, in nanoseconds.
-const SLEEP: u64 = 200_000;
+const SLEEP: u64 = 50_000;
 
 /// What a thread does until others have done their part: it yields its processor, and after many times it sleeps.
 #[derive(Drop)]

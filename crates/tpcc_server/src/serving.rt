@@ -123,8 +123,8 @@ fn serve_some<N: Naming, T: Seating, C: OneTurn, G: Gate, R: Wait>(
 /// Makes rounds until it has answered `limit` jobs, or has made one whole round after it saw the
 /// mailboxes closed. It gives the server, the gate and its own purse back, and the number of jobs that it answered.
 /// Between two jobs the purse keeps the book's turn, unless somebody else waits for it, the gate may hold the
-/// server up, or there was no job for long. While another server keeps the turn it stands by for some milliseconds
-/// before its next round, so that the turn goes from one to the other seldom.
+/// server up, or there was no job for long. While another server keeps the turn it stands by for some hundredths
+/// of a second before its next round, so that the turn goes from one to the other seldom.
 pub fn serve_until_closed<N: Naming, T: Seating, C: OneTurn, G: Gate, R: Wait>(
     rt: &R,
     mailboxes: &JobMailboxes<N, T, C>,

@@ -8,7 +8,7 @@ use std::sync::Wait;
 use tpcc_book::{HeldTurn, Naming, SeatedPurse, Seating, Turns};
 
 /// How often a server that stands by looks again whether the book is free.
-const LOOKS: u32 = 410;
+const LOOKS: u32 = 500;
 
 /// A server's purse: without a turn, or with one that it keeps.
 #[derive(Drop)]
