@@ -15,6 +15,7 @@ const MOST_WAITING: usize = 65_536;
 /// Bytes that were put and not yet written, so that they go out in blocks.
 #[derive(Drop)]
 pub struct Blocks {
+    /// At most MOST_WAITING, the first put first.
     bytes: Vec<u8>,
 }
 

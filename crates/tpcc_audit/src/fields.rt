@@ -13,7 +13,9 @@ use tpcc_rows::{Address, Text};
 /// Whole fields, one behind another.
 #[derive(Drop)]
 pub struct Fields {
+    /// Where numbers, amounts and moments become texts.
     alloc: Global,
+    /// The fields as `csv` keeps them.
     row: ByteRecord,
 }
 

@@ -10,7 +10,9 @@ use tpcc_rows::{Refusal, Reply, Request};
 /// holds an answer holds what a book answered.
 #[derive(Drop)]
 pub struct Answer<P> {
+    /// The request, its outcome and the place of its entry.
     turned: Turned,
+    /// The purse that was handed in, as the turn left it.
     purse: P,
 }
 

@@ -25,8 +25,11 @@ use tpcc_tables::tables::Tables;
 /// sum of W_YTD rose since the opening.
 #[derive(Drop)]
 pub struct Book<N: Naming> {
+    /// Rows, queue and journal.
     register: Register,
+    /// The ledger whose total is the journal's length.
     entries: LedgerBook<Entries<N>>,
+    /// The ledger whose total is the rise of the sum of W_YTD, in cents.
     cents: LedgerBook<PaidCents<N>>,
 }
 

@@ -14,12 +14,17 @@ use tpcc_tables::tables::Tables;
 /// What was found out of a request that nothing refuses.
 #[derive(Clone, Copy)]
 pub enum Prepared {
+    /// Whether its rows are written or it is rolled back.
     NewOrder(tpcc_new_order::Prepared),
+    /// The key of the paying customer.
     Payment(tpcc_payment::Prepared),
     /// Nothing: the reply is long, and is made in the second half.
     Status,
+    /// The whole answer, which is short.
     Level(Level),
+    /// Nothing: the queue has room for it.
     Ticket,
+    /// What the run will answer.
     Run(PreparedRun),
 }
 

@@ -22,11 +22,17 @@ pub(crate) const ALL_PARTS: u32 = MOST_PURSES + 1;
 /// purses of a book together have the journal's length and the rise of the warehouses.
 #[derive(Drop)]
 pub struct Purse<N: Naming> {
+    /// The number of its terminal; 0 of the book's first purse.
     terminal: u32,
+    /// How many entries were made by it.
     entries: u64,
+    /// What the payments among them paid, in cents.
     cents: u64,
+    /// How many purses can still be split off.
     room: u32,
+    /// Its share of the ledger of entries: as many as it made.
     entry_share: Share<Entries<N>>,
+    /// Its share of the ledger of cents: as many as it paid.
     cent_share: Share<PaidCents<N>>,
 }
 

@@ -94,7 +94,9 @@ fn make_room(journal: &mut Journal) -> Result<(), Refusal>
 /// All that a turn needs so that it can't fail, with the copy of its request for the journal.
 #[derive(Drop)]
 pub(crate) struct Ready {
+    /// What was found out of the rows.
     pub prepared: Prepared,
+    /// The request, for its entry in the journal.
     pub copy: Request,
 }
 

@@ -22,11 +22,15 @@ use tpcc_tables::tables::Tables;
 /// one transaction at a time, and each entry's reply is what its request gave at its place.
 #[derive(Drop)]
 pub struct Register {
+    /// The opening whose rows it began with.
     opening: Opening,
     // The sum of W_YTD over the opening's rows, in cents.
     opening_year_to_date: i128,
+    /// The rows as the last entry left them.
     tables: Tables,
+    /// The deliveries that were queued and aren't done.
     queue: Queue,
+    /// The entries, the oldest first.
     journal: Journal,
 }
 

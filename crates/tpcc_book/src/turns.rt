@@ -38,7 +38,9 @@ pub use unnamed::UnnamedTurns;
 /// the book's opening; what purses have seen of the journal stands in them.
 #[derive(Drop)]
 pub struct Turns<N: Naming, T: Seating> {
+    /// Both words, the book's slot and the seats' rule.
     table: Table<Option<Book<N>>, Knows, Opening, TurnRule<N>, Global>,
+    /// Which table it is, for its type alone.
     of: PhantomData<T>,
 }
 

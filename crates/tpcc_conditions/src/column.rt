@@ -22,6 +22,7 @@ pub enum Column {
     PaidBy(u32, u32, u32),
     /// O_OL_CNT of a warehouse and district.
     LineCounts(u32, u32),
+    /// One for each ORDER row of a warehouse and district.
     Orders(u32, u32),
     /// One for each ORDER-LINE row of a warehouse and district.
     Lines(u32, u32),

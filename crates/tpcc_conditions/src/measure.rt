@@ -11,15 +11,25 @@ use tpcc_tables::tables::Tables;
 /// The kind of a column.
 #[derive(Clone, Copy)]
 pub enum Measure {
+    /// D_YTD in cents, for each warehouse.
     DistrictTotals,
+    /// H_AMOUNT in cents, for each warehouse.
     PaidIntoWarehouse,
+    /// H_AMOUNT in cents, for each district.
     PaidIntoDistrict,
+    /// H_AMOUNT in cents, for each customer who paid.
     PaidBy,
+    /// O_OL_CNT, for each district.
     LineCounts,
+    /// ORDER rows, for each district.
     Orders,
+    /// ORDER-LINE rows, for each district.
     Lines,
+    /// ORDER-LINE rows, for each order.
     LinesOf,
+    /// NEW-ORDER rows, for each district.
     NewOrders,
+    /// The amounts of delivered lines in cents, for each customer of their orders.
     DeliveredTo,
 }
 

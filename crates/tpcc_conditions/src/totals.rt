@@ -11,14 +11,23 @@ use tpcc_tables::tables::Tables;
 /// The sums of each measure; a measure of which nothing is known is added up when it is asked for.
 #[derive(Drop)]
 pub struct Totals {
+    /// The cents paid into each warehouse, of its HISTORY rows.
     pub paid_into_warehouse: Option<Sums>,
+    /// The cents paid into each district, of its HISTORY rows.
     pub paid_into_district: Option<Sums>,
+    /// The cents paid by each customer, of the HISTORY rows that name it.
     pub paid_by: Option<Sums>,
+    /// The sum of O_OL_CNT of each district.
     pub line_counts: Option<Sums>,
+    /// How many ORDER rows each district has.
     pub orders: Option<Sums>,
+    /// How many ORDER-LINE rows each district has.
     pub lines: Option<Sums>,
+    /// How many ORDER-LINE rows each order has.
     pub lines_of: Option<Sums>,
+    /// How many NEW-ORDER rows each district has.
     pub new_orders: Option<Sums>,
+    /// The cents of the delivered lines of each customer's orders.
     pub delivered_to: Option<Sums>,
 }
 

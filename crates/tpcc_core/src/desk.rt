@@ -24,10 +24,15 @@ use tpcc_rows::Request;
 /// A book, the mailboxes and purses of its terminals, and the hands of its servers. It has no thread.
 #[derive(Drop)]
 pub struct Desk<N: Naming> {
+    /// What its servers serve.
     book: Book<N>,
+    /// The book's first purse, from which the terminals' purses are split.
     first: Purse<N>,
+    /// The terminals, number 1 first.
     seats: Vec<Seat<Purse<N>>>,
+    /// The servers, number 1 first.
     servers: Vec<Server<Purse<N>>>,
+    /// Whether the mailboxes are closed.
     closed: bool,
 }
 

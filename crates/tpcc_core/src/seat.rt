@@ -15,7 +15,9 @@ use tpcc_rows::Request;
 /// A terminal's mailbox and what it collected. There is room for one more answer unless the mailbox is free.
 #[derive(Drop)]
 pub(crate) struct Seat<P> {
+    /// What is in its mailbox, or its purse.
     mailbox: Mailbox<P>,
+    /// The answers that it collected, the first first.
     collected: Vec<Collected>,
 }
 

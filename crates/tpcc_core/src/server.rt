@@ -15,6 +15,7 @@ use tpcc_book::{Answer, Book, Naming, Purse};
 /// A server, which has one hand.
 #[derive(Drop)]
 pub(crate) struct Server<P> {
+    /// Nothing, a letter or an answer.
     hand: Hand<P>,
 }
 

@@ -13,7 +13,9 @@ use std::marker::PhantomData;
 /// What lies in the slot of a mailbox.
 #[derive(Drop)]
 pub enum Mail<J, A> {
+    /// What the client posted.
     Letter(J),
+    /// What a server answered.
     Reply(A),
 }
 
@@ -21,6 +23,7 @@ pub enum Mail<J, A> {
 pub enum Phase<J> {
     /// The client hasn't fetched its empty slot yet.
     Fresh,
+    /// Nothing of the client's is under way.
     Free,
     /// This letter was posted and its answer not collected.
     Sent(J),
@@ -42,13 +45,17 @@ pub enum Role<J> {
 /// closed the mailboxes or seen them closed, and the mailboxes whose letters it answered. No value of it
 /// is made.
 pub struct View<J> {
+    /// What it is at the table for, one behind another.
     pub roles: LinkedList<Role<J>>,
+    /// Whether it knows that the mailboxes are closed.
     pub closed: bool,
+    /// The numbers of the mailboxes whose letters it answered, the first answered first.
     pub answered: LinkedList<u64>,
 }
 
 /// The rule by which words, slots and views stand to one another.
 pub struct MailboxRule<A> {
+    /// The type of the answers, for its own type alone.
     answers: PhantomData<A>,
 }
 

@@ -17,8 +17,11 @@ pub type MailboxSeat<J, A> = Seat<Option<Mail<J, A>>, View<J>>;
 /// Mailboxes for letters `J` and answers `A`, numbered from 0. Threads share them by reference.
 #[derive(Drop)]
 pub struct Mailboxes<J, A: Answers<J>> {
+    /// Words, slots and the rule of both.
     pub(crate) table: MailboxTable<J, A>,
+    /// How many mailboxes there are.
     pub(crate) count: usize,
+    /// Where `reclaim` takes memory.
     pub(crate) alloc: Global,
     ghost sized: { (table.shared.table_id.slots ≡ count)
         × (table.shared.table_id.words ≡ words_of count)

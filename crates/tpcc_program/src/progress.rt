@@ -18,6 +18,7 @@ const LINE_BEFORE: &str = "\x1b[1A\x1b[2K";
 pub struct Progress {
     /// How many requests the terminals and the delivery runner ask.
     asked: u64,
+    /// How many of them are done, refused ones too.
     done: AtomicU64,
     /// When the last line was written, in milliseconds of the monotonic clock.
     told: AtomicU64,
@@ -99,7 +100,9 @@ impl Display for Line {
 // A line in place of the one before, if there is one.
 #[derive(Clone, Copy, Drop)]
 struct Told {
+    /// Whether a line was told before, whose place it takes.
     again: bool,
+    /// What is told.
     line: Line,
 }
 
@@ -115,7 +118,9 @@ impl Display for Told {
 /// A call that makes one turn, and counts it.
 #[derive(Drop)]
 pub struct Counting<'a, C> {
+    /// The call that makes the turn.
     call: C,
+    /// How many turns were made, of all threads.
     done: &'a AtomicU64,
 }
 

@@ -116,8 +116,11 @@ impl Display for Seconds {
 /// A reader whose first call says that the opening stands.
 #[derive(Drop)]
 pub struct Opened<'a, T, R> {
+    /// The reader that is read.
     input: R,
+    /// Whose clock is asked.
     rt: &'a T,
+    /// What is told of the first call.
     timing: &'a Timing,
 }
 
@@ -133,8 +136,11 @@ impl<T: Clock, R: Read> Read for Opened<'_, T, R> {
 /// A writer whose first call says that the requests are served.
 #[derive(Drop)]
 pub struct Served<'a, T, W> {
+    /// The writer that is written.
     out: W,
+    /// Whose clock is asked.
     rt: &'a T,
+    /// What is told of the first call.
     timing: &'a Timing,
 }
 

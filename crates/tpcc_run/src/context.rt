@@ -11,11 +11,18 @@ use tpcc_population::Scale;
 /// request. That it may always be called no ghost field can say of a type parameter, so each method asks for it.
 #[derive(Drop)]
 pub(crate) struct RunContext<'r, N: Naming, T: Seating, F, R> {
+    /// Threads, clock and waiting.
     pub rt: &'r R,
+    /// Where the run takes memory.
     pub alloc: Global,
+    /// The turns of the run's book.
     pub turns: &'r Turns<N, T>,
+    /// Makes the call of each request.
     pub make: &'r F,
+    /// The scale of the opening.
     pub scale: Scale,
+    /// How many terminals, servers and cards, and from which seed.
     pub plan: Plan,
+    /// The plan is in its ranges.
     pub ghost planned: { IsPlan plan } by { plan_once plan },
 }

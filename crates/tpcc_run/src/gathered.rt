@@ -13,8 +13,11 @@ use tpcc_terminal::Receipt;
 /// The purses that came back, with their receipts, and the fault that the run is to end with.
 #[derive(Drop)]
 pub(crate) struct Gathered<N: Naming, T: Seating> {
+    /// The terminals' and servers' purses.
     pub purses: Vec<SeatedPurse<N, T>>,
+    /// The terminals' receipts, those of one behind those of another.
     pub receipts: Vec<Receipt>,
+    /// Want of memory where there was some, else the last fault that was noted.
     pub fault: Option<RunFault>,
 }
 

@@ -12,7 +12,9 @@ use tpcc_population::Scale;
 /// What a terminal's thread gives back: the terminal, unless its job is still out, and what stopped it.
 #[derive(Drop)]
 pub(crate) struct Back<'s, N: Naming, T: Seating, C> {
+    /// None while its job is still posted or with a server.
     pub operator: Option<Operator<'s, N, T, C>>,
+    /// Why it stopped before its last card.
     pub fault: Option<RunFault>,
 }
 
@@ -20,10 +22,15 @@ pub(crate) struct Back<'s, N: Naming, T: Seating, C> {
 /// this scale and seed, and has asked all that its role asks of so many cards, each by one turn of the book.
 #[derive(Clone, Copy)]
 pub(crate) struct ComesBack {
+    /// Whether it asks its cards or deliveries.
     pub role: Role,
+    /// The scale of the run's opening.
     pub scale: Scale,
+    /// The seed of its draws.
     pub seed: u64,
+    /// The moment of each of its requests.
     pub moment: Moment,
+    /// How many cards it has to ask.
     pub cards: u32,
 }
 

@@ -109,7 +109,9 @@ fn run_named<
 /// The book of a run at its end, and what it comes to.
 #[derive(Drop)]
 struct SettledBook<N: Naming> {
+    /// The book, all purses of it handed in.
     book: Book<N>,
+    /// Its entries, what was paid, and the rise.
     report: Report,
 }
 

@@ -17,7 +17,9 @@ pub(crate) type ServerHandle<N, T> = JoinHandle<SeatedPurse<N, T>>;
 /// How many serve, and how many jobs each but the first serves before it ends; 0 is without end.
 #[derive(Clone, Copy)]
 pub(crate) struct Servers {
+    /// How many threads serve.
     pub count: u32,
+    /// After how many jobs each but the first ends; 0 is never.
     pub retire: u32,
 }
 

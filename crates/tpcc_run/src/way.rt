@@ -22,8 +22,11 @@ pub(crate) enum Way<'s, N: Naming, T: Seating, C> {
 /// The right to post in one mailbox.
 #[derive(Drop)]
 pub(crate) struct Client<'s, N: Naming, T: Seating, C> {
+    /// The run's mailboxes.
     mailboxes: &'s JobMailboxes<N, T, C>,
+    /// The right to post into this client's.
     idle: JobIdle<N, T, C>,
+    /// The mailbox is one of these.
     ghost origin: { idle_origin idle ≡ identity mailboxes.now },
 }
 

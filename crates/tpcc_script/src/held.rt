@@ -15,6 +15,7 @@ use tpcc_audit::Blocks;
 /// Screens that were made and not yet written, so that they go out in blocks.
 #[derive(Drop)]
 pub struct Held {
+    /// The screens' bytes, one behind another.
     blocks: Blocks,
 }
 

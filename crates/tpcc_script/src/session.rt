@@ -15,7 +15,9 @@ use tpcc_terminal::{Screen, screen};
 /// A book, with the purse of terminal 1, which makes each of the script's requests.
 #[derive(Drop)]
 pub(crate) struct Session<N: Naming> {
+    /// What its requests are served by.
     book: Book<N>,
+    /// The purse of terminal 1; None only while it is served with.
     purse: Option<Purse<N>>,
 }
 

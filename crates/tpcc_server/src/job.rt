@@ -15,8 +15,11 @@ use tpcc_rows::Request;
 /// running it or giving it back spends it.
 #[derive(Drop)]
 pub struct Job<N: Naming, T: Seating, C> {
+    /// What is to be served.
     request: Request,
+    /// By whose purse.
     purse: SeatedPurse<N, T>,
+    /// What makes the turn.
     call: C,
 }
 

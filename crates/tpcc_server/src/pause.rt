@@ -14,6 +14,7 @@ const SLEEP: u64 = 50_000;
 /// What a thread does until others have done their part: it yields its processor, and after many times it sleeps.
 #[derive(Drop)]
 pub(crate) struct Pause {
+    /// How often was waited in a row, up to YIELDS.
     turns: u32,
     /// Nobody wakes a thread at this word: sleeps end by themselves.
     word: AtomicU64,

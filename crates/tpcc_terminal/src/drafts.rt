@@ -12,6 +12,7 @@ use tpcc_rows::{Few, Line, Lines, Order, Payment, Request, StatusQuery, StockQue
 /// The number of a last name (4.3.2.3), 0 to 999, seen as that number.
 #[derive(Clone, Copy)]
 pub struct NameNumber {
+    /// Its three digits are the name's three syllables.
     number: u32,
 }
 
@@ -47,7 +48,9 @@ impl NameNumber {
 /// A customer by last name or by C_ID (2.5.1.2, 2.6.1.2).
 #[derive(Clone, Copy)]
 pub enum DrawnCustomer {
+    /// The middle one of those with the name of this number.
     Name(NameNumber),
+    /// The one with this C_ID.
     Number(u32),
 }
 
@@ -65,35 +68,50 @@ impl DrawnCustomer {
 /// Of a New-Order (2.4.1).
 #[derive(Clone, Copy)]
 pub struct OrderDraft {
+    /// D_ID of the order, 1 to 10.
     pub district: u32,
+    /// C_ID of who orders.
     pub customer: u32,
+    /// Its 5 to 15 lines, in the order in which they were drawn.
     pub lines: Few<Line, 15>,
 }
 
 /// Of a Payment (2.5.1): the district that is paid, the one of the customer who pays, and H_AMOUNT in cents.
 #[derive(Clone, Copy)]
 pub struct PaymentDraft {
+    /// D_ID that is paid, in the terminal's own warehouse.
     pub district: u32,
+    /// C_W_ID of who pays.
     pub customer_warehouse: u32,
+    /// C_D_ID of who pays.
     pub customer_district: u32,
+    /// Who pays, of that district.
     pub customer: DrawnCustomer,
+    /// H_AMOUNT in cents.
     pub cents: u32,
 }
 
 /// Of an Order-Status (2.6.1).
 #[derive(Clone, Copy)]
 pub struct StatusDraft {
+    /// D_ID of the customer, in the terminal's own warehouse.
     pub district: u32,
+    /// Whose last order is asked for.
     pub customer: DrawnCustomer,
 }
 
 /// Of any card: a Delivery draws its carrier (2.7.1.2), a Stock-Level its threshold (2.8.1.2).
 #[derive(Clone, Copy)]
 pub enum Draft {
+    /// An order.
     NewOrder(OrderDraft),
+    /// A payment.
     Payment(PaymentDraft),
+    /// A question for a customer's last order.
     OrderStatus(StatusDraft),
+    /// O_CARRIER_ID, 1 to 10.
     Delivery(u32),
+    /// The threshold of S_QUANTITY, 10 to 20.
     StockLevel(u32),
 }
 

@@ -7,8 +7,11 @@ use tpcc_population::Scale;
 /// A terminal's own warehouse (2.4.1.1) and district (2.8.1.1), and the scale that it draws rows of.
 #[derive(Clone, Copy, Debug)]
 pub struct Home {
+    /// W_ID, from 1 on.
     pub warehouse: u32,
+    /// D_ID, 1 to 10.
     pub district: u32,
+    /// How many rows there are to draw from.
     pub scale: Scale,
 }
 

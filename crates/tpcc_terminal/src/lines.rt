@@ -12,7 +12,9 @@ use tpcc_rows::{Address, Text};
 /// Lines of ASCII text, each ended by a line feed.
 #[derive(Drop)]
 pub struct Screen {
+    /// Where its texts are made.
     alloc: Global,
+    /// The lines up to now.
     bytes: Vec<u8>,
 }
 

@@ -20,12 +20,19 @@ use tpcc_rows::Request;
 /// draws of the next card are made ahead, so that a refused [`Terminal::next`] has changed nothing.
 #[derive(Drop)]
 pub struct Terminal {
+    /// Where its requests and receipts lie.
     alloc: Global,
+    /// Its number, from 1 on.
     number: u32,
+    /// The scale of the population that it draws from.
     scale: Scale,
+    /// What its next card asks, drawn already.
     draft: Draft,
+    /// The cards of its deck that are left behind the next one.
     cards: Vec<Card>,
+    /// Where its further draws come from.
     stream: Stream,
+    /// One for each of its entries, the first first.
     receipts: Vec<Receipt>,
 }
 

@@ -12,10 +12,15 @@ use tpcc_money::Cents;
 /// book is at hand, so until then they are kept in 128 bits, which the sums of 10,001 purses always fit.
 #[derive(Drop)]
 pub(crate) struct Pool<N: Naming> {
+    /// How many of the book's 10,001 parts are in it.
     parts: u32,
+    /// The sum of the purses' entries.
     entries: u128,
+    /// The sum of what they paid, in cents.
     cents: u128,
+    /// Their shares of the ledger of entries, as one.
     entry_share: Share<Entries<N>>,
+    /// Their shares of the ledger of cents, as one.
     cent_share: Share<PaidCents<N>>,
 }
 

@@ -20,10 +20,15 @@ use tpcc_rows::Request;
 /// purse that asks; no other turn comes until this one is ended.
 #[derive(Drop)]
 pub struct HeldTurn<N: Naming, T: Seating> {
+    /// The keeper's own purse; requests are served by those of others.
     purse: Purse<N>,
+    /// The keeper's seat, which holds the book.
     seat: Place<N>,
+    /// The ticket that is served, modulo 2^64.
     ticket: u64,
+    /// The book, out of its slot.
     book: Book<N>,
+    /// Which table it is, for its type alone.
     of: PhantomData<T>,
 }
 

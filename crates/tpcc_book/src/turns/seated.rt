@@ -30,8 +30,11 @@ impl Seating for Brand {
 /// of the journal that the purse has seen, from the first one on.
 #[derive(Drop)]
 pub struct SeatedPurse<N: Naming, T: Seating> {
+    /// The purse itself.
     pub(crate) purse: Purse<N>,
+    /// Its seat, put away while it has no ticket.
     pub(crate) badge: Badge<Knows>,
+    /// Which table it is, for its type alone.
     pub(crate) of: PhantomData<T>,
 }
 

@@ -20,8 +20,11 @@ use tpcc_population::Opening;
 /// names them with a type that stands for their table.
 #[derive(Drop)]
 pub struct UnnamedTurns<N: Naming> {
+    /// Both words and the new book in its slot.
     table: Table<Option<Book<N>>, Knows, Opening, TurnRule<N>, Global>,
+    /// The first seat, which has all parts.
     seat: Place<N>,
+    /// The book's first purse.
     purse: Purse<N>,
 }
 
