@@ -17,10 +17,12 @@ enum Story {
     Receipts,
 }
 
+/// Tells a story of a book that is named here.
 fn told<R: Abort>(rt: &R, alloc: Global, story: Story) {
     at_book::<Brand, R>(rt, alloc, Blanks::new(), story)
 }
 
+/// Tells it of a book of the plain opening, with the book's first purse.
 fn at_book<N: Naming, R: Abort>(rt: &R, alloc: Global, blanks: Blanks, story: Story)
     requires entries { blanks.entries.name ≡ N.entries }
     requires cents { blanks.cents.name ≡ N.cents }
@@ -31,6 +33,7 @@ fn at_book<N: Naming, R: Abort>(rt: &R, alloc: Global, blanks: Blanks, story: St
     happens(rt, alloc, &mut book, &mut first, story)
 }
 
+/// The story itself.
 fn happens<N: Naming, R: Abort>(
     rt: &R,
     alloc: Global,
@@ -68,6 +71,7 @@ fn the_second_purse_of_a_terminal_is_a_stranger(rt: HostRuntime) {
     told(&rt, rt.alloc(), Story::TwoPurses)
 }
 
+/// Both purses are of terminal 5, and the journal already has an entry of it when the second pays.
 fn two_purses<N: Naming, R: Abort>(rt: &R, book: &mut Book<N>, first: &mut Purse<N>) {
     assert!(rt; first.room() == 10_000);
     let (paid, one) = asked(book, first.split(5), payment(100));
@@ -128,6 +132,7 @@ fn two_receipts<N: Naming, R: Abort>(
     assert!(rt; are_both(terminal.receipts().as_slice()));
 }
 
+/// Payments of 1.00, 0.99 and 2.00, each noted by the terminal.
 fn pay_three<N: Naming, R: Abort>(
     rt: &R,
     book: &mut Book<N>,

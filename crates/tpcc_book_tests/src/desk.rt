@@ -16,10 +16,12 @@ enum Story {
     KeptLetter,
 }
 
+/// Tells a story of a desk whose book is named here.
 fn told<R: Abort>(rt: &R, alloc: Global, story: Story) {
     at_a_desk::<Brand, R>(rt, alloc, Blanks::new(), story)
 }
 
+/// Tells it of a desk of the plain opening, with two terminals and two servers.
 fn at_a_desk<N: Naming, R: Abort>(rt: &R, alloc: Global, blanks: Blanks, story: Story)
     requires entries { blanks.entries.name ≡ N.entries }
     requires cents { blanks.cents.name ≡ N.cents }
@@ -30,6 +32,7 @@ fn at_a_desk<N: Naming, R: Abort>(rt: &R, alloc: Global, blanks: Blanks, story: 
     happens(rt, alloc, &mut desk, story)
 }
 
+/// The story itself.
 fn happens<N: Naming, R: Abort>(rt: &R, alloc: Global, desk: &mut Desk<N>, story: Story) {
     match story {
         Story::Overtaking => overtaken(rt, alloc, desk),
@@ -37,6 +40,7 @@ fn happens<N: Naming, R: Abort>(rt: &R, alloc: Global, desk: &mut Desk<N>, story
     }
 }
 
+/// One event more; the test ends where there is no memory for it.
 fn push<R: Abort>(rt: &R, events: &mut Vec<Event>, event: Event) {
     let Ok(()) = events.push(event) else {
         panic!(rt; "memory for an event")
@@ -55,6 +59,7 @@ fn push_payment<R: Abort>(rt: &R, events: &mut Vec<Event>, terminal: u32) {
     );
 }
 
+/// A server takes the letter of a terminal.
 fn push_take<R: Abort>(rt: &R, events: &mut Vec<Event>, server: u32, terminal: u32) {
     push(rt, events, Event::Take { server, terminal });
 }

@@ -29,10 +29,12 @@ fn a_book_is_left_where_a_purse_is_missing(rt: HostRuntime) {
     told(&rt, rt.alloc(), Story::OneWithheld)
 }
 
+/// Tells a story of turns whose book is named here.
 fn told<R: Wait + Abort>(rt: &R, alloc: Global, story: Story) {
     at_turns::<Brand, R>(rt, alloc, Blanks::new(), story)
 }
 
+/// Tells it of turns at a book of the plain opening.
 fn at_turns<N: Naming, R: Wait + Abort>(rt: &R, alloc: Global, blanks: Blanks, story: Story)
     requires entries { blanks.entries.name ≡ N.entries }
     requires cents { blanks.cents.name ≡ N.cents }
@@ -43,6 +45,7 @@ fn at_turns<N: Naming, R: Wait + Abort>(rt: &R, alloc: Global, blanks: Blanks, s
     at_named_turns::<N, Brand, R>(rt, alloc, turns, story)
 }
 
+/// Tells it of turns whose table is named: three requests, and what book and purses come to.
 fn at_named_turns<N: Naming, T: Seating, R: Wait + Abort>(
     rt: &R,
     alloc: Global,

@@ -8,10 +8,12 @@ use tpcc_rows::{Line, Lines, Order, Payment, Request, StatusQuery, StockQuery, T
 /// What a test says where memory is refused before the call that it is about.
 pub const BEFORE: &str = "memory to begin with";
 
+/// The least scale there is.
 pub fn scale(rt: &impl Abort) -> Scale {
     Scale::new(1, 10, 100).expect(rt, "a scale")
 }
 
+/// Its plain opening.
 pub fn opening(rt: &impl Abort) -> Opening {
     Opening::Plain { scale: scale(rt) }
 }
@@ -45,6 +47,7 @@ pub fn payment() -> Payment {
     }
 }
 
+/// A delivery of warehouse 1 by carrier 3.
 pub fn ticket() -> Ticket {
     Ticket {
         warehouse: 1,

@@ -17,6 +17,7 @@ fn a_book_serves_each_kind_of_request(rt: HostRuntime) {
     assert!(rt; told(&rt, rt.alloc()).is_ok() || told(&rt, rt.alloc()).is_ok());
 }
 
+/// Serves and looks at a book that is named here.
 fn told<R: Abort + AllocGlobal>(rt: &R, alloc: Global) -> Result<(), NoMemory> {
     at_book::<Brand, R>(rt, alloc, Blanks::new())
 }

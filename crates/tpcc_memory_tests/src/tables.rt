@@ -14,6 +14,7 @@ use tpcc_population::{fill, opening_is_sound};
 use tpcc_rows::{Entered, Order, Refusal, Row, RowRef, Table};
 use tpcc_tables::{LoadFault, Tables};
 
+/// The plain opening's tables, on which every transaction can be made.
 fn filled(rt: &(impl Abort + AllocGlobal)) -> Tables
     ensures stocked { IsStocked result.rows }
 {
@@ -32,6 +33,7 @@ fn an_opening_is_filled(rt: HostRuntime) {
     assert!(rt; tables.count(Table::OrderLine) == 500);
 }
 
+/// The row that is lent, to be loaded elsewhere.
 fn copied(row: RowRef<'_>) -> Row {
     match row {
         RowRef::Warehouse(row) => Row::Warehouse(*row),
@@ -76,6 +78,7 @@ fn rows_are_loaded(rt: HostRuntime) {
     assert!(rt; check(&tables).is_ok());
 }
 
+/// Loads all rows of other tables.
 fn load_all(rt: &impl Abort, tables: &mut Tables, from: &Tables) {
     for table in OWNERS_FIRST {
         for place in 0..from.count(table) {
@@ -85,10 +88,12 @@ fn load_all(rt: &impl Abort, tables: &mut Tables, from: &Tables) {
     }
 }
 
+/// Whether the order was entered and not rolled back.
 fn is_accepted(entered: Result<Entered, Refusal>) -> bool {
     matches!(entered, Ok(Entered::Accepted(_)))
 }
 
+/// Enters an order, again where memory was refused and nothing changed.
 fn enter_one(rt: &impl Abort, tables: &mut Tables, order: &Order)
     requires stocked { IsStocked tables.old.rows }
 {
@@ -107,6 +112,7 @@ fn an_order_is_entered(rt: HostRuntime) {
     assert!(rt; tables.count(Table::OrderLine) == 505 && check(&tables).is_ok());
 }
 
+/// Makes a payment, again where memory was refused and nothing changed.
 fn pay_one(rt: &impl Abort, tables: &mut Tables) {
     if let Err(refusal) = pay(tables, &payment()) {
         assert!(rt; refusal == Refusal::NoMemory);
@@ -122,6 +128,7 @@ fn a_payment_is_made(rt: HostRuntime) {
     pay_one(&rt, &mut filled(&rt))
 }
 
+/// Queues a delivery, again where memory was refused and nothing changed.
 fn queue_one(rt: &impl Abort, tables: &Tables, waiting: &mut Queue) {
     if let Err(refusal) = queue(tables, waiting, ticket()) {
         assert!(rt; refusal == Refusal::NoMemory && waiting.len() == 0);

@@ -35,10 +35,12 @@ enum Story {
     ClosedMeanwhile,
 }
 
+/// Tells a story of a book that is named here.
 fn told<R: Threads + Wait + Clock + Abort + Sync>(rt: &R, alloc: Global, story: Story) {
     at_a_book::<Brand, R>(rt, alloc, Blanks::new(), story)
 }
 
+/// Tells it of turns at a book of the plain opening.
 fn at_a_book<N: Naming + Send + Sync, R: Threads + Wait + Clock + Abort + Sync>(
     rt: &R,
     alloc: Global,
@@ -56,6 +58,7 @@ fn at_a_book<N: Naming + Send + Sync, R: Threads + Wait + Clock + Abort + Sync>(
     at_its_turns::<N, Brand, R>(rt, alloc, turns, story)
 }
 
+/// Tells it of turns whose table is named, with four purses of the book.
 fn at_its_turns<
     N: Naming + Send + Sync,
     T: Seating + Send + Sync,

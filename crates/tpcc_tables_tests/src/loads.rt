@@ -18,12 +18,14 @@ fn is_same_table(rt: &impl Abort, left: &Tables, right: &Tables, table: Table) {
     }
 }
 
+/// All rows of all tables are equal, place by place.
 fn are_same(rt: &impl Abort, left: &Tables, right: &Tables) {
     for table in Table::ALL {
         is_same_table(rt, left, right, table);
     }
 }
 
+/// Tables that were loaded row by row are those of the opening.
 pub fn are_loaded(rt: &(impl Abort + AllocGlobal), opening: &Tables) {
     are_same(rt, &loaded(rt, opening, Change::Nothing), opening)
 }

@@ -16,6 +16,7 @@ use tpcc_payment::{Payment, pay};
 use tpcc_rows::{Entered, Field, Line, Lines, Order, Paid, Refusal, Who};
 use tpcc_tables::Tables;
 
+/// An order's line, of warehouse 1.
 fn line(item: u32, quantity: u32) -> Line {
     Line {
         item,
@@ -42,6 +43,7 @@ fn order(rt: &(impl Abort + AllocGlobal)) -> Order {
     }
 }
 
+/// The total of an order that was accepted.
 fn total(entered: Result<Entered, Refusal>) -> Option<Cents> {
     match entered {
         Ok(Entered::Accepted(reply)) => Some(reply.total),
@@ -74,6 +76,7 @@ fn payment(customer: u32, cents: i64) -> Payment {
     }
 }
 
+/// C_BALANCE behind a payment.
 fn balance(paid: Result<Paid, Refusal>) -> Result<Cents, Refusal> {
     match paid {
         Ok(reply) => Ok(reply.balance),
@@ -105,6 +108,7 @@ fn paid_twice(tables: &mut Tables) -> (bool, Result<Cents, Refusal>) {
     (is_paid, balance(pay(tables, &payment(3, 100))))
 }
 
+/// The two payments where a column is one greatest payment below its limit.
 fn paid_near(
     rt: &(impl Abort + AllocGlobal),
     opening: &Tables,
@@ -131,6 +135,7 @@ fn a_payment_reaches_the_limit_of_a_column_and_none_goes_past_it(rt: HostRuntime
     told(&rt, Story::Limits)
 }
 
+/// The order that a run delivered in this district.
 fn order_in(run: Delivery, district: u32) -> Option<u32> {
     match run {
         Delivery::District(run) if run.district == district => run.order,

@@ -5,6 +5,7 @@ use std::process::Abort;
 use tpcc_money::{AmountFault, Cents, Rate};
 use tpcc_rows::{Field, Refusal, TextFault};
 
+/// The value's text is this one.
 fn is_printed(rt: &(impl Abort + AllocGlobal), value: impl Display + Drop, expected: &str) {
     let text = value.to_string(rt.alloc()).expect(rt, "memory for a text");
     assert!(rt; text.as_str() == expected, "{expected}");

@@ -15,6 +15,7 @@ use tpcc_rows::{
     WarehouseRow,
 };
 
+/// In each pair the size in bytes is the expected one.
 fn are_as_expected(rt: &impl Abort, sizes: &[(usize, usize)]) {
     for (size, expected) in sizes {
         assert_eq!(rt; size, expected);

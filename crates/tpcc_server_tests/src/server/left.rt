@@ -36,6 +36,7 @@ pub(super) fn asked_in_vain<N: Naming, T: Seating, R: Wait + Abort>(
     assert!(rt; seen == (true, 0) && made.load(Ordering::SeqCst) == 0);
 }
 
+/// Whether it is the request that was asked.
 fn is_payment(request: &Request) -> bool {
     *request == payment()
 }
@@ -72,6 +73,7 @@ fn unanswered<N: Naming, T: Seating, C: Drop, R: Wait + Abort>(
     waiting
 }
 
+/// The letter that was never taken.
 fn letter_of<J: Drop, A: Drop, R: Abort>(rt: &R, left: Left<J, A>) -> J {
     let Left::Letter(letter) = left else {
         panic!(rt; "the letter was not there")
@@ -79,6 +81,7 @@ fn letter_of<J: Drop, A: Drop, R: Abort>(rt: &R, left: Left<J, A>) -> J {
     letter
 }
 
+/// The answer that was never collected.
 fn reply_of<J: Drop, A: Drop, R: Abort>(rt: &R, left: Left<J, A>) -> A {
     let Left::Reply(reply) = left else {
         panic!(rt; "the answer was not there")
@@ -107,6 +110,7 @@ fn reclaimed<N: Naming, T: Seating, C: Drop, R: Abort>(
     last_left(rt, lefts.expect(rt, "memory for what is left"))
 }
 
+/// What is left for the last client.
 fn last_left<X: Drop, R: Abort>(rt: &R, lefts: Vec<X>) -> X {
     let mut lefts = lefts;
     lefts.pop().expect(rt, "there is one")
