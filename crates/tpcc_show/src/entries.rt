@@ -1,82 +1,82 @@
 //! The journal's entries, one after another.
-ghost use Rattle.std.specs.Prelude.{◌++◌, OnErr, OnOk};
+ghost use Rattle.std.specs.Prelude.{◌≡◌, ◌++◌, IfOk, OnErr, OnOk, flat_map};
 ghost use Rattle.tpcc_audit.specs.Part.{AppendsPart, Passes};
 ghost use Rattle.tpcc_terminal.specs.RequestLines as lines;
 ghost use Rattle.tpcc_terminal.specs.Screens as screens;
-ghost use Rattle.tpcc_show.specs.Shown.{journal_screens};
 
 use std::alloc::Global;
 use std::io::Write;
 use tpcc_audit::{Blocks, DumpFault};
+use tpcc_money::NoMemory;
 use tpcc_rows::Entry;
-use tpcc_terminal::{reply_screen, request_line};
+use tpcc_terminal::{Screen, reply_screen, request_line};
 
-#[tactic(auto, using(tpcc_audit::proofs::Parts::none_part))]
-fn put_line<W: Write>(
-    alloc: Global,
-    blocks: &mut Blocks,
-    out: &mut W,
-    entry: &Entry,
-) -> Result<(), DumpFault>
-    ensures written { OnOk result (Passes (W.contents out.old) (W.contents out.new)
-        (blocks.old ++ lines.request_line entry.now.request) blocks.new) }
-    ensures part { OnErr result (AppendsPart (W.contents out.old) (W.contents out.new)
-        (blocks.old ++ lines.request_line entry.now.request)) }
-{
-    let line = request_line(alloc, &entry.request)?;
-    blocks.put(out, line.bytes())?;
-    Ok(())
+/// What is written of each entry.
+pub trait EntryText {
+    ghost use Rattle.std.specs.Prelude.{ℕ, List};
+    ghost use Rattle.tpcc_rows.specs.declared.entry.Entry.{Entry};
+
+    /// An entry's text.
+    ghost text: { Entry → List ℕ };
+
+    /// Makes it. Refused only for want of memory.
+    fn make(alloc: Global, entry: &Entry) -> Result<Screen, NoMemory>
+        ensures text { IfOk result (λ made. made ≡ text entry.now) };
 }
 
-#[tactic(auto, using(tpcc_audit::proofs::Parts::none_part))]
-fn put_screen<W: Write>(
-    alloc: Global,
-    blocks: &mut Blocks,
-    out: &mut W,
-    entry: &Entry,
-) -> Result<(), DumpFault>
-    ensures written { OnOk result (Passes (W.contents out.old) (W.contents out.new)
-        (blocks.old ++ screens.reply_screen entry.now.reply) blocks.new) }
-    ensures part { OnErr result (AppendsPart (W.contents out.old) (W.contents out.new)
-        (blocks.old ++ screens.reply_screen entry.now.reply)) }
-{
-    let screen = reply_screen(alloc, &entry.reply)?;
-    blocks.put(out, screen.bytes())?;
-    Ok(())
-}
+/// The line of its request.
+pub struct RequestLines;
 
-/// Puts the line of each request.
-pub fn put_lines<W: Write>(
-    alloc: Global,
-    blocks: &mut Blocks,
-    out: &mut W,
-    entries: &[Entry],
-) -> Result<(), DumpFault>
-    ensures written { OnOk result (Passes (W.contents out.old) (W.contents out.new)
-        (blocks.old ++ lines.journal_lines entries.now) blocks.new) }
-    ensures part { OnErr result (AppendsPart (W.contents out.old) (W.contents out.new)
-        (blocks.old ++ lines.journal_lines entries.now)) }
-{
-    for entry in entries {
-        put_line(alloc, blocks, out, entry)?;
+impl EntryText for RequestLines {
+    ghost text = { λ entry. lines.request_line entry.request };
+
+    fn make(alloc: Global, entry: &Entry) -> Result<Screen, NoMemory> {
+        request_line(alloc, &entry.request)
     }
+}
+
+/// The screen of its stored reply.
+pub struct ReplyScreens;
+
+impl EntryText for ReplyScreens {
+    ghost text = { λ entry. screens.reply_screen entry.reply };
+
+    fn make(alloc: Global, entry: &Entry) -> Result<Screen, NoMemory> {
+        reply_screen(alloc, &entry.reply)
+    }
+}
+
+#[tactic(auto, using(tpcc_audit::proofs::Parts::none_part))]
+fn put_entry<T: EntryText, W: Write>(
+    alloc: Global,
+    blocks: &mut Blocks,
+    out: &mut W,
+    entry: &Entry,
+) -> Result<(), DumpFault>
+    ensures written { OnOk result (Passes (W.contents out.old) (W.contents out.new)
+        (blocks.old ++ T.text entry.now) blocks.new) }
+    ensures part { OnErr result (AppendsPart (W.contents out.old) (W.contents out.new)
+        (blocks.old ++ T.text entry.now)) }
+{
+    let text = T::make(alloc, entry)?;
+    blocks.put(out, text.bytes())?;
     Ok(())
 }
 
-/// Puts the screen of each stored reply.
-pub fn put_screens<W: Write>(
+/// Puts the text of each entry, in their order.
+pub fn put_each<T: EntryText, W: Write>(
     alloc: Global,
     blocks: &mut Blocks,
     out: &mut W,
     entries: &[Entry],
 ) -> Result<(), DumpFault>
     ensures written { OnOk result (Passes (W.contents out.old) (W.contents out.new)
-        (blocks.old ++ journal_screens entries.now) blocks.new) }
+        (blocks.old ++ flat_map T.text entries.now) blocks.new) }
     ensures part { OnErr result (AppendsPart (W.contents out.old) (W.contents out.new)
-        (blocks.old ++ journal_screens entries.now)) }
+        (blocks.old ++ flat_map T.text entries.now)) }
 {
     for entry in entries {
-        put_screen(alloc, blocks, out, entry)?;
+        put_entry::<T, W>(alloc, blocks, out, entry)?;
     }
     Ok(())
 }

@@ -7,7 +7,7 @@ ghost use Rattle.tpcc_audit.specs.Part.{AppendsPart, Passes};
 ghost use Rattle.tpcc_terminal.specs.Screens as screens;
 ghost use Rattle.tpcc_show.specs.Shown.{book_report, headed_text, heading, named_line, part_text, parts_text, screens_shown, served_text, shown_text};
 
-use crate::entries::{put_lines, put_screens};
+use crate::entries::{ReplyScreens, RequestLines, put_each};
 use crate::parts::Part;
 use crate::screens::{check_screen, results_screen};
 use std::alloc::Global;
@@ -163,7 +163,7 @@ fn show_part<N: Naming, W: Write>(
 {
     match part {
         Part::Screens => put_shown(alloc, blocks, out, book, screens),
-        Part::Journal => put_lines(alloc, blocks, out, book.journal().entries()),
+        Part::Journal => put_each::<RequestLines, W>(alloc, blocks, out, book.journal().entries()),
         Part::Results => put_results(alloc, blocks, out, book.journal()),
         Part::Check => put_check(alloc, blocks, out, book.tables()),
         Part::Report => put_report(alloc, blocks, out, book),
@@ -189,7 +189,7 @@ fn put_shown<N: Naming, W: Write>(
             blocks.put(out, screens)?;
             Ok(())
         }
-        None => put_screens(alloc, blocks, out, book.journal().entries()),
+        None => put_each::<ReplyScreens, W>(alloc, blocks, out, book.journal().entries()),
     }
 }
 

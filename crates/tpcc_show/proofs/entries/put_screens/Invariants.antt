@@ -1,7 +1,0 @@
-use Rattle.std.proofs.Common.{◌++◌, take}
-use Rattle.tpcc_audit.specs.Part.{Passes}
-use Rattle.tpcc_show.specs.Shown.{journal_screens}
-use Rattle.tpcc_show.proofs.entries.put_screens.Given as goal
-
-abbrev pub invariant-loop-entry : goal.invariant-loop-entry
-invariant-loop-entry g l = Passes (g.W.Write.contents l.fn.out) (g.W.Write.contents l.out) (l.fn.blocks ++ journal_screens (take l.entry-index l.entries)) l.blocks
