@@ -1,4 +1,4 @@
-//! What each thread of a run is lent.
+//! What a run is lent, and what each of its threads is lent of it.
 ghost use Rattle.tpcc_run.specs.Outcome.{IsPlan};
 ghost use Rattle.tpcc_run.specs.Planned.{plan_once};
 
@@ -6,6 +6,21 @@ use crate::plan::Plan;
 use std::alloc::Global;
 use tpcc_book::{Naming, Seating, Turns};
 use tpcc_population::Scale;
+
+/// What whoever asks for a run lends it.
+#[derive(Drop)]
+pub(crate) struct Lent<'r, F, R> {
+    /// Threads, clock and waiting.
+    pub rt: &'r R,
+    /// Where the run takes memory.
+    pub alloc: Global,
+    /// Makes the call of each request.
+    pub make: &'r F,
+    /// How many terminals, servers and cards, and from which seed.
+    pub plan: Plan,
+    /// The plan is in its ranges.
+    pub ghost planned: { IsPlan plan } by { plan_once plan },
+}
 
 /// What each thread of a run is lent: the turns are those of the run's book, and `make` gives the call of each
 /// request. That it may always be called no ghost field can say of a type parameter, so each method asks for it.

@@ -4,7 +4,7 @@ ghost use Rattle.tpcc_population.specs.declared.opening.Opening.{Opening};
 ghost use Rattle.tpcc_audit.specs.Settlement.{AllSeen};
 ghost use Rattle.tpcc_run.specs.Outcome.{HasCut, HasReported, HasShown, HasShownPart, HasTotals, IsPlan};
 
-use crate::context::RunContext;
+use crate::context::{Lent, RunContext};
 use crate::fault::RunFault;
 use crate::gathered::Gathered;
 use crate::plan::Plan;
@@ -69,7 +69,13 @@ pub fn run_shown<
     ensures part { OnErr result
         (HasShownPart opening.now parts.now (W.contents out.old) (W.contents out.new)) }
 {
-    run_named::<Brand, W, C, F, R>(rt, alloc, opening, plan, parts, out, &make, Blanks::new())
+    let lent = Lent {
+        rt,
+        alloc,
+        make: &make,
+        plan: *plan,
+    };
+    run_named::<Brand, W, C, F, R>(&lent, opening, parts, out, Blanks::new())
 }
 
 // The same with a name for the book.
@@ -81,17 +87,13 @@ fn run_named<
     F: Fn(Global) -> Result<C, AllocError> + Sync,
     R: Threads + Wait + Sync,
 >(
-    rt: &R,
-    alloc: Global,
+    lent: &Lent<'_, F, R>,
     opening: &Opening,
-    plan: &Plan,
     parts: &[Part],
     out: &mut W,
-    make: &F,
     blanks: Blanks,
 ) -> Result<Report, RunFault>
-    requires plan { IsPlan plan.now }
-    requires make { F.IsAlwaysCallable make.now }
+    requires make { F.IsAlwaysCallable lent.now.make.now }
     requires entries { blanks.entries.name ≡ N.entries }
     requires cents { blanks.cents.name ≡ N.cents }
     ensures shown { IfOk result (λ report.
@@ -99,8 +101,8 @@ fn run_named<
     ensures part { OnErr result
         (HasShownPart opening.now parts.now (W.contents out.old) (W.contents out.new)) }
 {
-    let settled = settle_book::<N, C, F, R>(rt, alloc, opening, plan, make, blanks)?;
-    let shown = show_settled(alloc, &settled, parts, out, opening);
+    let settled = settle_book::<N, C, F, R>(lent, opening, blanks)?;
+    let shown = show_settled(lent.alloc, &settled, parts, out, opening);
     // Let go by a call, which keeps the book's parts out of this function's proof.
     drop(settled);
     shown
@@ -115,30 +117,22 @@ struct SettledBook<N: Naming> {
     report: Report,
 }
 
+// The book at the end of a run of all threads.
 fn settle_book<
     N: Naming + Send + Sync,
     C: OneTurn + Send,
     F: Fn(Global) -> Result<C, AllocError> + Sync,
     R: Threads + Wait + Sync,
->(
-    rt: &R,
-    alloc: Global,
-    opening: &Opening,
-    plan: &Plan,
-    make: &F,
-    blanks: Blanks,
-) -> Result<SettledBook<N>, RunFault>
-    requires plan { IsPlan plan.now }
-    requires make { F.IsAlwaysCallable make.now }
+>(lent: &Lent<'_, F, R>, opening: &Opening, blanks: Blanks) -> Result<SettledBook<N>, RunFault>
+    requires make { F.IsAlwaysCallable lent.now.make.now }
     requires entries { blanks.entries.name ≡ N.entries }
     requires cents { blanks.cents.name ≡ N.cents }
     ensures settled { IfOk result (λ s. HasTotals opening.now s.book s.report) }
 {
-    let scale = scale_of(opening);
-    let Ok(turns) = UnnamedTurns::<N>::start(alloc, opening, blanks) else {
+    let Ok(turns) = UnnamedTurns::<N>::start(lent.alloc, opening, blanks) else {
         return Err(RunFault::NoMemory);
     };
-    run_seated::<N, Brand, C, F, R>(rt, alloc, scale, plan, make, turns)
+    run_seated::<N, Brand, C, F, R>(lent, scale_of(opening), turns)
 }
 
 // What the run comes to, with a name for the seats.
@@ -148,27 +142,19 @@ fn run_seated<
     C: OneTurn + Send,
     F: Fn(Global) -> Result<C, AllocError> + Sync,
     R: Threads + Wait + Sync,
->(
-    rt: &R,
-    alloc: Global,
-    scale: Scale,
-    plan: &Plan,
-    make: &F,
-    turns: UnnamedTurns<N>,
-) -> Result<SettledBook<N>, RunFault>
-    requires plan { IsPlan plan.now }
-    requires make { F.IsAlwaysCallable make.now }
+>(lent: &Lent<'_, F, R>, scale: Scale, turns: UnnamedTurns<N>) -> Result<SettledBook<N>, RunFault>
+    requires make { F.IsAlwaysCallable lent.now.make.now }
     requires name { turns.table ≡ T.table }
     ensures settled { IfOk result (λ s. HasTotals turns.opening s.book s.report) }
 {
     let (turns, first) = turns.named::<T>();
     let context = RunContext {
-        rt,
-        alloc,
+        rt: lent.rt,
+        alloc: lent.alloc,
         turns: &turns,
-        make,
+        make: lent.make,
         scale,
-        plan: *plan,
+        plan: lent.plan,
     };
     let all = context.gather(first);
     end_run(turns, all)
