@@ -18,7 +18,7 @@ use Rattle.tpcc_script.specs.Book.{terminal}
 use Rattle.tpcc_script.specs.declared.fault.ScriptFault.{ScriptFault}
 use Rattle.tpcc_script.specs.Script.{Script}
 use Rattle.tpcc_script.specs.Run.{HasRun, IsCounted}
-use Rattle.tpcc_script.specs.Session.{IsAtHand, opened_book, seen}
+use Rattle.tpcc_script.specs.Session.{IsAtHand, opened_book, book_of}
 
 -- one more entry of the terminal
 count-push : (t : ℕ) (entries : List Entry) (e : Entry) → e.terminal ≡ t → count_of t (entries ++ e ∷ []) ≡ count_of t entries + 1
@@ -69,5 +69,5 @@ back_at_hand old new held taken purse back request answer at out is put served =
 
 -- a run from the session of an opening
 pub has_run : (opening : Opening) (start left : Past) (script : Script) (old new : Option (List ℕ)) (result : Result ℕ ScriptFault)
-    → start ≡ opened opening → IsCounted (seen start) script old new (seen left) result → HasRun (opened_book opening) script old new result
-has_run opening start left script old new result is run = (seen left, subst (λ (p : Past). IsCounted (seen p) script old new (seen left) result) is run)
+    → start ≡ opened opening → IsCounted (book_of start) script old new (book_of left) result → HasRun (opened_book opening) script old new result
+has_run opening start left script old new result is run = (book_of left, subst (λ (p : Past). IsCounted (book_of p) script old new (book_of left) result) is run)

@@ -18,7 +18,7 @@ use Rattle.tpcc_terminal.specs.Screens.{answer_screen, reply_screen, refused_scr
 use Rattle.tpcc_script.specs.declared.call.Call.TheVariants.{Ask, Check, Results}
 use Rattle.tpcc_script.specs.Book.{Book, terminal, screen_of, book_after, screen_by, book_by, accepting, request_refusal}
 use Rattle.tpcc_script.specs.Run.{HasServed, Shows}
-use Rattle.tpcc_script.specs.Session.{IsAtHand, seen}
+use Rattle.tpcc_script.specs.Session.{IsAtHand, book_of}
 
 shows-reply : (old new : Book) (request : Request) (reply : Reply) (screen : List ℕ)
     → request_refusal old request ≡ None → reply ≡ reply_to old.state request → new ≡ accepting old request → screen ≡ reply_screen reply
@@ -49,16 +49,16 @@ shows-refusal old new request None r screen is told same e =
 shows-answer : (old new : Past) (purse : PurseView) (request asked : Request) (o : Result Reply Refusal) (place : Option ℕ) (later : PurseView) (screen : List ℕ)
     → purse.terminal ≡ terminal → purse.entries ≡ count_of terminal old.entries
     → IsServed old request purse (record { request = asked; outcome = o; place = place; purse = later }) new → screen ≡ answer_screen o
-    → Shows (seen old) (Ask request) screen (seen new)
+    → Shows (book_of old) (Ask request) screen (book_of new)
 shows-answer old new purse request asked (Ok reply) place later screen own all served e =
     let accepts = served.turn.accepts reply refl in
     let by = ap₂ (λ t n. turn_refusal old.state old.entries t n request) own all in
-    let grown = ap₂ (λ t n. seen (after old t n request)) own all in
-    shows-reply (seen old) (seen new) request reply screen (sym by ∙ accepts.none_applies) accepts.reply_is (ap seen accepts.new_is ∙ grown) e
+    let grown = ap₂ (λ t n. book_of (after old t n request)) own all in
+    shows-reply (book_of old) (book_of new) request reply screen (sym by ∙ accepts.none_applies) accepts.reply_is (ap book_of accepts.new_is ∙ grown) e
 shows-answer old new purse request asked (Err r) place later screen own all served e =
     let refuses = served.turn.refuses r refl in
     let by = ap₂ (λ t n. turn_refusal old.state old.entries t n request) own all in
-    shows-refusal (seen old) (seen new) request (turn_refusal old.state old.entries purse.terminal purse.entries request) r screen (sym by) refuses.first (ap seen refuses.same) e
+    shows-refusal (book_of old) (book_of new) request (turn_refusal old.state old.entries purse.terminal purse.entries request) r screen (sym by) refuses.first (ap book_of refuses.same) e
 
 same-held : (a b : PurseView) → Some a ≡ Some b → a ≡ b
 same-held a b h = cc
@@ -66,7 +66,7 @@ same-held a b h = cc
 -- the screen of what a session's book answered the purse that was taken out
 pub shows_answer : (old new : Past) (held taken : Option PurseView) (purse : PurseView) (request : Request) (answer : Told PurseView) (screen : List ℕ)
     → (at : IsAtHand old held) → taken ≡ held → taken ≡ Some purse
-    → IsServed old request purse answer new → screen ≡ answer_screen answer.outcome → Shows (seen old) (Ask request) screen (seen new)
+    → IsServed old request purse answer new → screen ≡ answer_screen answer.outcome → Shows (book_of old) (Ask request) screen (book_of new)
 shows_answer old new held taken purse request answer screen at out is served e =
     let same = same-held purse at.purse (sym is ∙ out ∙ at.held_is) in
     shows-answer old new purse request answer.request answer.outcome answer.place answer.purse screen
@@ -74,7 +74,7 @@ shows_answer old new held taken purse request answer screen at out is served e =
 
 pub served_answer : (old new : Past) (held taken : Option PurseView) (purse : PurseView) (request : Request) (answer : Told PurseView)
     → (at : IsAtHand old held) → taken ≡ held → taken ≡ Some purse
-    → IsServed old request purse answer new → HasServed (seen old) (Ask request) (seen new)
+    → IsServed old request purse answer new → HasServed (book_of old) (Ask request) (book_of new)
 served_answer old new held taken purse request answer at out is served = record {
   screen = answer_screen answer.outcome;
   shows = shows_answer old new held taken purse request answer (answer_screen answer.outcome) at out is served refl;

@@ -8,8 +8,8 @@ use Rattle.tpcc_book.specs.Purses.{PurseView}
 use Rattle.tpcc_script.specs.Book.{Book, terminal}
 
 -- a book, as a script sees it
-abbrev pub seen : Past → Book
-seen past = record { opening = past.opening; state = past.state; journal = past.entries }
+abbrev pub book_of : Past → Book
+book_of past = record { opening = past.opening; state = past.state; journal = past.entries }
 
 -- the book of an opening: no ticket, no entry
 abbrev pub opened_book : Opening → Book

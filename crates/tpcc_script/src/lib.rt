@@ -1,6 +1,7 @@
 //! Scripts: lines of requests and calls, and the screens that answer them.
 #![tactic(auto)]
 
+mod answering;
 mod call;
 mod engine;
 mod fault;
@@ -10,7 +11,6 @@ mod parse;
 mod reader;
 mod script;
 mod session;
-mod show;
 mod showing;
 mod watch;
 mod words;

@@ -6,15 +6,15 @@ ghost use Rattle.tpcc_script.specs.Script.{script_of};
 ghost use Rattle.tpcc_script.specs.Run.{HasRun, IsCounted, IsRun};
 ghost use Rattle.tpcc_script.specs.Steps.{IsAnswered, IsStep};
 ghost use Rattle.tpcc_audit.specs.Part.{AppendsPart, Passes};
-ghost use Rattle.tpcc_script.specs.Session.{opened_book, seen};
+ghost use Rattle.tpcc_script.specs.Session.{opened_book, book_of};
 
+use crate::answering::answer;
 use crate::engine::Engine;
 use crate::fault::ScriptFault;
 use crate::held::Held;
 use crate::parse::parse_line;
 use crate::reader::read_line;
 use crate::session::Session;
-use crate::show::answer;
 use crate::watch::Watch;
 use std::alloc::Global;
 use std::io::{BufReader, Read, Write};
@@ -77,8 +77,8 @@ pub(crate) fn serve_session<N: Naming, R: Read, W: Write>(
 ) -> Result<usize, ScriptFault>
     ensures gave_up { IfErr result (HasGivenUp watch.new) }
     ensures counted { (bytes : List ℕ) → R.remaining input.old ≡ Some bytes
-        → IsCounted (seen session.old) (script_of bytes) (W.contents out.old) (W.contents out.new)
-        (seen session.new) result }
+        → IsCounted (book_of session.old) (script_of bytes) (W.contents out.old) (W.contents out.new)
+        (book_of session.new) result }
 {
     match serve_script(alloc, session, input, out, watch) {
         Ok(()) => Ok(session.entries()),

@@ -68,9 +68,9 @@ impl<N: Naming> Session<N> {
 }
 
 impl<N: Naming> Engine for Session<N> {
-    ghost use Rattle.tpcc_script.specs.Session.{seen};
+    ghost use Rattle.tpcc_script.specs.Session.{book_of};
 
-    ghost book = { seen };
+    ghost book = { book_of };
 
     fn serve(&mut self, alloc: Global, request: Request) -> Result<Screen, NoMemory> {
         let Some(purse) = self.purse.take() else {

@@ -1,7 +1,7 @@
 //! A script whose book is shown.
 ghost use Rattle.std.specs.Prelude.{◌≡◌, ℕ, List, Some, IfOk, OnErr};
 ghost use Rattle.tpcc_script.specs.Script.{script_of};
-ghost use Rattle.tpcc_script.specs.Session.{opened_book, seen};
+ghost use Rattle.tpcc_script.specs.Session.{opened_book, book_of};
 ghost use Rattle.tpcc_script.specs.Shown.{HasShown, HasShownPart};
 
 use crate::fault::ScriptFault;
@@ -72,10 +72,10 @@ fn show_session<N: Naming, R: Read, W: Write>(
     out: &mut W,
 ) -> Result<Result<usize, ScriptFault>, ScriptFault>
     ensures shown { (bytes : List ℕ) → R.remaining input.old ≡ Some bytes
-        → IfOk result (HasShown (seen session.old) (script_of bytes) parts.now
+        → IfOk result (HasShown (book_of session.old) (script_of bytes) parts.now
         (W.contents out.old) (W.contents out.new)) }
     ensures part { (bytes : List ℕ) → R.remaining input.old ≡ Some bytes
-        → OnErr result (HasShownPart (seen session.old) (script_of bytes) parts.now
+        → OnErr result (HasShownPart (book_of session.old) (script_of bytes) parts.now
         (W.contents out.old) (W.contents out.new)) }
 {
     let mut screens = Vec::new(alloc);

@@ -20,7 +20,7 @@ fn place_of(bytes: &[u8], divider: u8) -> Option<usize>
 
 /// The first part, and what stands behind its divider.
 #[tactic(auto, using(crate::proofs::Parting::one_part))]
-fn cut(bytes: &[u8], divider: u8) -> Option<(&[u8], &[u8])>
+fn split_once(bytes: &[u8], divider: u8) -> Option<(&[u8], &[u8])>
     ensures some { IfSome result
         (λ p. parts_of divider bytes.now ≡ p.0.now ∷ parts_of divider p.1.now) }
     ensures less { IfSome result (λ p. length p.1.now < length bytes.now) }
@@ -38,7 +38,7 @@ pub fn split(alloc: Global, bytes: &[u8], divider: u8) -> Result<Vec<&[u8]>, NoM
 {
     let mut parts = Vec::new(alloc);
     let mut rest = bytes;
-    while let Some((part, more)) = cut(rest, divider) {
+    while let Some((part, more)) = split_once(rest, divider) {
         if parts.push(part).is_err() {
             return Err(NoMemory);
         }

@@ -1,5 +1,5 @@
 use Rattle.tpcc_script.proofs.Turns.{served_check, served_results}
-use Rattle.tpcc_script.proofs.show.answer.Goals as goal
+use Rattle.tpcc_script.proofs.answering.answer.Goals as goal
 
 pub returns-in-Check-clause-served : goal.returns-in-Check-clause-served
 returns-in-Check-clause-served g c = rw c.in-Check.is (served_check _)
