@@ -1,6 +1,9 @@
 //! What can be shown.
-ghost use Rattle.std.specs.Prelude.{◌≡◌, IfSome, IsTrue};
+ghost use Rattle.std.specs.Prelude.{◌≡◌, ◌≢◌, IfNone, IfSome, IsTrue, find};
+ghost use Rattle.std.specs.Option.{option_copied};
+ghost use Rattle.std.specs.Str.{bytes_eq};
 ghost use Rattle.tpcc_show.specs.Shown.{part_name};
+ghost use Rattle.tpcc_show.specs.declared.parts.Part.{Part};
 
 use tpcc_audit::{table_name, table_named};
 use tpcc_rows::{Blank, Few, Table};
@@ -60,28 +63,27 @@ impl Part {
 }
 
 fn is_named(part: &Part, name: &[u8]) -> bool
+    ensures equal { result ≡ bytes_eq (part_name part.now) name.now }
     ensures named { IsTrue result → part_name part.now ≡ name.now }
 {
     part.name() == name
 }
 
-fn word_named(name: &[u8]) -> Option<Part>
-    ensures named { IfSome result (λ part. part_name part ≡ name.now) }
+fn find_named<'a>(parts: &'a [Part], name: &[u8]) -> Option<&'a Part>
+    ensures first { option_copied result
+        ≡ find (λ part. bytes_eq (part_name part) name.now) parts.now }
+    ensures named { IfSome result (λ part. part_name part.now ≡ name.now) }
 {
-    for part in &Part::WORDS {
-        if is_named(part, name) {
-            return Some(*part);
-        }
-    }
-    None
+    parts.iter().find(|part| is_named(part, name))
 }
 
 /// The part that a word asks for; none where there is no such part.
 pub fn part_named(name: &[u8]) -> Option<Part>
     ensures named { IfSome result (λ part. part_name part ≡ name.now) }
+    ensures unknown { IfNone result ((part : Part) → part_name part ≢ name.now) }
 {
-    match word_named(name) {
-        Some(part) => Some(part),
+    match find_named(&Part::WORDS, name) {
+        Some(part) => Some(*part),
         None => table_named(name).map(Part::Rows),
     }
 }
