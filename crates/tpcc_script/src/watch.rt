@@ -1,5 +1,5 @@
 //! Calls of a reader and a writer that are made again where they were interrupted.
-ghost use Rattle.std.specs.Prelude.{◌≡◌, ◌<◌, ℕ, List, Some, slice_get, drop, true, IfOk, IfErr, OnOk};
+ghost use Rattle.std.specs.Prelude.{◌≡◌, ◌<◌, ℕ, List, Some, slice_get, drop, true, false, IfOk, IfErr, OnOk};
 ghost use Rattle.std.specs.Io.KnownBytes.{Keeps};
 ghost use Rattle.tpcc_script.specs.Attempts.{HasFlushed, HasRead, IsNoWorse};
 
@@ -29,8 +29,11 @@ pub enum Attempt<T> {
 }
 
 impl Watch {
-    /// Nothing has failed.
-    pub fn new() -> Watch {
+    /// Nothing has failed, and no call was made again.
+    pub fn new() -> Watch
+        ensures new { result
+            ≡ record { retries = 1000; reader_failed = false; writer_failed = false } }
+    {
         Watch {
             retries: MOST_RETRIES,
             reader_failed: false,
