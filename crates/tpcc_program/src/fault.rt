@@ -1,5 +1,7 @@
 //! Why the program ends early, with its line on standard error and its exit status.
 ghost use Rattle.std.specs.Prelude.{◌≡◌};
+ghost use Rattle.std.specs.Option.{option_copied};
+ghost use Rattle.tpcc_program.specs.Ranges.{range_of};
 ghost use Rattle.tpcc_program.specs.Statuses.{status_of};
 
 use thiserror::Error;
@@ -33,7 +35,9 @@ pub enum ProgramFault {
 
 impl ProgramFault {
     /// What a person at a terminal is told of a scale that there is not: the range that it left.
-    pub fn range(&self) -> Option<&'static str> {
+    pub fn range(&self) -> Option<&'static str>
+        ensures range { option_copied result ≡ range_of self.now }
+    {
         match self {
             ProgramFault::Scale(ScaleFault::Warehouses) => Some("warehouses are 1 to 100"),
             ProgramFault::Scale(ScaleFault::Customers) => {
