@@ -65,7 +65,9 @@ impl Progress {
     }
 
     /// How far the run has come. What empties the queue of deliveries at the end is asked beyond the plan.
-    pub fn line(&self) -> Line {
+    pub fn line(&self) -> Line
+        ensures most { result.done ≤ result.asked }
+    {
         let done = self.done.load(Ordering::SeqCst);
         Line {
             done,
