@@ -54,7 +54,9 @@ impl Timing {
     }
 
     /// What a command that ends now took for so many requests.
-    pub fn times<R: Clock>(&self, rt: &R, requests: u64) -> Times {
+    pub fn times<R: Clock>(&self, rt: &R, requests: u64) -> Times
+        ensures requests { result.requests ≡ requests }
+    {
         self.mark_opened(rt);
         self.mark_served(rt);
         let opened = self.opened.load(Ordering::SeqCst);
