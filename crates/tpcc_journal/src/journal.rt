@@ -12,7 +12,9 @@ use tpcc_rows::Entry;
 /// The accepted requests with their replies, in the order in which they were served.
 #[derive(Drop)]
 pub struct Journal {
+    /// The oldest first.
     entries: Vec<Entry>,
+    /// One for each terminal that has entries, so that they need not be counted again.
     tallies: Vec<Tally>,
 }
 

@@ -5,7 +5,9 @@ ghost use Rattle.tpcc_journal.specs.Tallies.{is_of, tally_of};
 /// A terminal that has entries, and how many.
 #[derive(Clone, Copy)]
 pub(crate) struct Tally {
+    /// Its number.
     terminal: u32,
+    /// How many entries it has, 1 or more.
     count: u64,
 }
 

@@ -23,6 +23,7 @@ pub struct Mailboxes<J, A: Answers<J>> {
     pub(crate) count: usize,
     /// Where `reclaim` takes memory.
     pub(crate) alloc: Global,
+    /// Words and slots are as many as so many mailboxes take.
     ghost sized: { (table.shared.table_id.slots ≡ count)
         × (table.shared.table_id.words ≡ words_of count)
         × (count ≤ 1000) },

@@ -24,8 +24,11 @@ pub enum ScaleFault {
 /// Warehouses, customers of each district and items.
 #[derive(Clone, Copy, Debug)]
 pub struct Scale {
+    /// 1 to 100.
     warehouses: u32,
+    /// Of each district: 10 to 3,000, by tens.
     customers: u32,
+    /// 100 to 100,000.
     items: u32,
 }
 

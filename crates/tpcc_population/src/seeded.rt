@@ -15,8 +15,11 @@ use tpcc_money::Moment;
 /// What the draws start from. `moment` stands in every column of a date.
 #[derive(Clone, Copy)]
 pub(crate) struct Seed {
+    /// How many rows are drawn.
     pub(crate) scale: Scale,
+    /// Which streams the draws come from.
     pub(crate) seed: u64,
+    /// When all that has a date was done.
     pub(crate) moment: Moment,
 }
 

@@ -19,7 +19,9 @@ pub trait Blank: Copy {
 // Unused places are blank, so that equal lists have equal fields.
 #[derive(Copy)]
 pub struct Few<T: Blank, const N: usize> {
+    /// The values, and blanks behind them.
     items: [T; N],
+    /// How many of them are values.
     len: u16,
 }
 

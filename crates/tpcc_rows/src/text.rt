@@ -26,7 +26,9 @@ pub enum TextFault {
 // Unused bytes are 0, so that equal texts have equal fields.
 #[derive(Clone, Copy)]
 pub struct Text<const N: usize> {
+    /// The text, and zeros behind it.
     bytes: [u8; N],
+    /// How many of them are text.
     len: u16,
 }
 
