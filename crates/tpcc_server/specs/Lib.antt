@@ -1,3 +1,3 @@
 pub mod Jobs
 pub mod Rounds
-pub mod Stands
+pub mod TurnStates

@@ -12,7 +12,7 @@ mod job;
 mod one_turn;
 mod pause;
 mod serving;
-mod stand;
+mod turn_state;
 
 pub use asking::ask;
 pub use errand::Errand;

@@ -3,14 +3,14 @@ ghost use Rattle.std.specs.Prelude.{◌≡◌, ℕ, ◌+◌, ◌<◌, ◌≤◌,
 ghost use Rattle.tpcc_mailbox.specs.Tokens.{identity, mailbox_count, serving_origin, serving_hand, serving_splits, serving_answered, serving_saw_closed};
 ghost use Rattle.tpcc_book.specs.Seats.{keeper_of};
 ghost use Rattle.tpcc_server.specs.Rounds.{IsRising, HasAnsweredInTurn};
-ghost use Rattle.tpcc_server.specs.Stands.{keeper_in};
+ghost use Rattle.tpcc_server.specs.TurnStates.{keeper_in};
 
 use crate::errand::Errand;
 use crate::gate::Gate;
 use crate::job::{JobMailboxes, JobServing};
 use crate::one_turn::OneTurn;
 use crate::pause::Pause;
-use crate::stand::Stand;
+use crate::turn_state::TurnState;
 use std::sync::Wait;
 use tpcc_book::{HeldTurn, Naming, SeatedPurse, Seating, Turns};
 
@@ -40,9 +40,9 @@ pub fn serve_round<N: Naming, T: Seating, C: OneTurn, G: Gate, R: Wait>(
         × (length ks ≡ result.0)
         × IsRising 0 ks (mailbox_count mailboxes.now) }
 {
-    let stand = Stand::Free(keeper);
-    let (served, stand) = serve_some(rt, mailboxes, serving, turns, gate, u64::MAX, stand);
-    (served, stand.rest(turns))
+    let state = TurnState::Free(keeper);
+    let (served, state) = serve_some(rt, mailboxes, serving, turns, gate, u64::MAX, state);
+    (served, state.rest(turns))
 }
 
 // Passes the gate in front of a job; one that may hold the server up, without the turn.
@@ -50,17 +50,17 @@ fn pass_before<N: Naming, T: Seating, G: Gate>(
     turns: &Turns<N, T>,
     gate: &mut G,
     mailbox: usize,
-    stand: Stand<N, T>,
-) -> Stand<N, T>
-    ensures keeper { keeper_in result ≡ keeper_in stand }
+    state: TurnState<N, T>,
+) -> TurnState<N, T>
+    ensures keeper { keeper_in result ≡ keeper_in state }
 {
-    let stand = if gate.is_open() {
-        stand
+    let state = if gate.is_open() {
+        state
     } else {
-        Stand::Free(stand.rest(turns))
+        TurnState::Free(state.rest(turns))
     };
     gate.before(mailbox);
-    stand
+    state
 }
 
 // The same behind a job. Where somebody else waits for the turn it is given up too.
@@ -69,16 +69,16 @@ fn pass_after<N: Naming, T: Seating, G: Gate>(
     gate: &mut G,
     mailbox: usize,
     held: HeldTurn<N, T>,
-) -> Stand<N, T>
+) -> TurnState<N, T>
     ensures keeper { keeper_in result ≡ held }
 {
-    let stand = if gate.is_open() {
-        Stand::Holding(held).give_way(turns)
+    let state = if gate.is_open() {
+        TurnState::Holding(held).give_way(turns)
     } else {
-        Stand::Free(turns.end(held))
+        TurnState::Free(turns.end(held))
     };
     gate.after(mailbox);
-    stand
+    state
 }
 
 // A round that ends once it has answered so many jobs.
@@ -89,8 +89,8 @@ fn serve_some<N: Naming, T: Seating, C: OneTurn, G: Gate, R: Wait>(
     turns: &Turns<N, T>,
     gate: &mut G,
     most: u64,
-    stand: Stand<N, T>,
-) -> (u64, Stand<N, T>)
+    state: TurnState<N, T>,
+) -> (u64, TurnState<N, T>)
     requires origin { serving_origin serving.old ≡ identity mailboxes.now }
     requires free { serving_hand serving.old ≡ None }
     ensures origin { serving_origin serving.new ≡ serving_origin serving.old }
@@ -99,25 +99,25 @@ fn serve_some<N: Naming, T: Seating, C: OneTurn, G: Gate, R: Wait>(
     ensures splits { serving_splits serving.new ≡ serving_splits serving.old }
     ensures served { result.0 ≤ mailbox_count mailboxes.now }
     ensures most { result.0 ≤ most }
-    ensures keeper { keeper_in result.1 ≡ keeper_in stand }
+    ensures keeper { keeper_in result.1 ≡ keeper_in state }
     ensures answered { HasAnsweredInTurn (serving_answered serving.old)
         (serving_answered serving.new) result.0 (mailbox_count mailboxes.now) }
 {
-    let mut stand = stand;
+    let mut state = state;
     let mut served = 0u64;
     for k in 0..mailboxes.len() {
         if served == most {
             break;
         }
         if let Some((taken, job)) = mailboxes.take(serving, k) {
-            let before = pass_before(turns, gate, k, stand);
+            let before = pass_before(turns, gate, k, state);
             let (held, answer) = job.run_held(turns, before.hold(rt, turns));
             mailboxes.answer(serving, taken, answer);
-            stand = pass_after(turns, gate, k, held);
+            state = pass_after(turns, gate, k, held);
             served += 1;
         }
     }
-    (served, stand)
+    (served, state)
 }
 
 /// Makes rounds until it has answered `limit` jobs, or has made one whole round after it saw the
@@ -150,11 +150,11 @@ pub fn serve_until_closed<N: Naming, T: Seating, C: OneTurn, G: Gate, R: Wait>(
 {
     let mut serving = serving;
     let mut gate = gate;
-    let mut stand = Stand::Free(keeper);
+    let mut state = TurnState::Free(keeper);
     let mut pause = Pause::new();
     let mut served = 0u64;
     for _ in rt.forever() {
-        stand.stand_by(rt, turns);
+        state.stand_by(rt, turns);
         // Read before the round, so that a job posted before the mailboxes were closed is found.
         let closed = mailboxes.is_closed(&mut serving);
         let (answered, left) = serve_some(
@@ -164,18 +164,18 @@ pub fn serve_until_closed<N: Naming, T: Seating, C: OneTurn, G: Gate, R: Wait>(
             turns,
             &mut gate,
             limit - served,
-            stand,
+            state,
         );
-        stand = left.give_way(turns);
+        state = left.give_way(turns);
         served += answered;
         if closed || served == limit {
             break;
         }
         if answered == 0 {
-            stand = stand.pause(rt, turns, &mut pause);
+            state = state.pause(rt, turns, &mut pause);
         } else {
             pause.end();
         }
     }
-    (serving, gate, served, stand.rest(turns))
+    (serving, gate, served, state.rest(turns))
 }

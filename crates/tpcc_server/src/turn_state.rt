@@ -1,7 +1,7 @@
-//! Where a server stands with its own purse.
+//! Whether a server has the turn.
 ghost use Rattle.std.specs.Prelude.{◌≡◌};
 ghost use Rattle.tpcc_book.specs.Seats.{keeper_of};
-ghost use Rattle.tpcc_server.specs.Stands.{keeper_in};
+ghost use Rattle.tpcc_server.specs.TurnStates.{keeper_in};
 
 use crate::pause::Pause;
 use std::sync::Wait;
@@ -12,19 +12,21 @@ const LOOKS: u32 = 500;
 
 /// A server's purse: without a turn, or with one that it keeps.
 #[derive(Drop)]
-pub(crate) enum Stand<N: Naming, T: Seating> {
+pub(crate) enum TurnState<N: Naming, T: Seating> {
+    /// It has none.
     Free(SeatedPurse<N, T>),
+    /// It has one, and the book with it.
     Holding(HeldTurn<N, T>),
 }
 
-impl<N: Naming, T: Seating> Stand<N, T> {
+impl<N: Naming, T: Seating> TurnState<N, T> {
     /// With the turn, for which it waits where it has none.
     pub(crate) fn hold<R: Wait>(self, rt: &R, turns: &Turns<N, T>) -> HeldTurn<N, T>
         ensures keeper { result ≡ keeper_in self }
     {
         match self {
-            Stand::Free(purse) => turns.begin(rt, purse),
-            Stand::Holding(held) => held,
+            TurnState::Free(purse) => turns.begin(rt, purse),
+            TurnState::Holding(held) => held,
         }
     }
 
@@ -33,22 +35,22 @@ impl<N: Naming, T: Seating> Stand<N, T> {
         ensures keeper { keeper_of result ≡ keeper_in self }
     {
         match self {
-            Stand::Free(purse) => purse,
-            Stand::Holding(held) => turns.end(held),
+            TurnState::Free(purse) => purse,
+            TurnState::Holding(held) => turns.end(held),
         }
     }
 
     /// Without a turn where somebody else waits for one, and else as it was.
-    pub(crate) fn give_way(self, turns: &Turns<N, T>) -> Stand<N, T>
+    pub(crate) fn give_way(self, turns: &Turns<N, T>) -> TurnState<N, T>
         ensures keeper { keeper_in result ≡ keeper_in self }
     {
         match self {
-            Stand::Free(purse) => Stand::Free(purse),
-            Stand::Holding(held) => {
+            TurnState::Free(purse) => TurnState::Free(purse),
+            TurnState::Holding(held) => {
                 if turns.is_awaited(&held) {
-                    Stand::Free(turns.end(held))
+                    TurnState::Free(turns.end(held))
                 } else {
-                    Stand::Holding(held)
+                    TurnState::Holding(held)
                 }
             }
         }
@@ -59,7 +61,7 @@ impl<N: Naming, T: Seating> Stand<N, T> {
     pub(crate) fn stand_by<R: Wait>(&self, rt: &R, turns: &Turns<N, T>) {
         let mut pause = Pause::new();
         for _ in 0..LOOKS {
-            if matches!(self, Stand::Holding(_)) || !turns.is_busy() {
+            if matches!(self, TurnState::Holding(_)) || !turns.is_busy() {
                 return;
             }
             pause.wait(rt);
@@ -72,15 +74,15 @@ impl<N: Naming, T: Seating> Stand<N, T> {
         rt: &R,
         turns: &Turns<N, T>,
         pause: &mut Pause,
-    ) -> Stand<N, T>
+    ) -> TurnState<N, T>
         ensures keeper { keeper_in result ≡ keeper_in self }
     {
-        let stand = if pause.is_long() {
-            Stand::Free(self.rest(turns))
+        let state = if pause.is_long() {
+            TurnState::Free(self.rest(turns))
         } else {
             self
         };
         pause.wait(rt);
-        stand
+        state
     }
 }

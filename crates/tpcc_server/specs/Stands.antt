@@ -1,9 +1,0 @@
--- Whose purse a server has.
-use Rattle.tpcc_book.specs.Seats.{Keeper, keeper_of}
-use Rattle.tpcc_server.specs.declared.stand.Stand.{Stand}
-use Rattle.tpcc_server.specs.declared.stand.Stand.TheVariants.{Free, Holding}
-
-module _ {N T : Type 0} where
-  abbrev pub keeper_in : Stand N T → Keeper
-  keeper_in (Free purse) = keeper_of purse
-  keeper_in (Holding held) = held
