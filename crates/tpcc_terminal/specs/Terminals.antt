@@ -30,9 +30,9 @@ pub record Ahead : Type 0 where
   pub answers : Stream
 
 -- the cards before the next one is taken: of a new deck where none is left
-abbrev pub undealt : List Card → Stream → List Card × Stream
-undealt [] s = deck s
-undealt (card ∷ rest) s = (card ∷ rest, s)
+abbrev pub deck_to_deal : List Card → Stream → List Card × Stream
+deck_to_deal [] s = deck s
+deck_to_deal (card ∷ rest) s = (card ∷ rest, s)
 
 -- the first card; a deck is never empty
 abbrev pub top : List Card → Card
@@ -40,15 +40,15 @@ top [] = cards.NewOrder
 top (card ∷ rest) = card
 
 -- the next card, and what is left
-abbrev pub dealt : List Card → Stream → Card × List Card × Stream
-dealt held s =
-    let deal = undealt held s in
+abbrev pub next_card : List Card → Stream → Card × List Card × Stream
+next_card held s =
+    let deal = deck_to_deal held s in
     (top deal.0, drop 1 deal.0, deal.1)
 
 -- the next card with its draws
 abbrev pub drawn_ahead : Home → List Card → Stream → Ahead
 drawn_ahead home held s =
-    let deal = dealt held s in
+    let deal = next_card held s in
     let draft = drawn home deal.0 deal.2 in
     record { draft = draft.0; cards = deal.1; answers = draft.1 }
 

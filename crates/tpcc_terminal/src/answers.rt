@@ -5,13 +5,14 @@ ghost use Rattle.tpcc_terminal.specs.Adding.{Adds};
 ghost use Rattle.tpcc_terminal.specs.Screens as screens;
 
 use crate::delivery::{put_delivery, put_queued, put_results};
-use crate::lines::Screen;
 use crate::new_order::put_entered;
 use crate::order_status::put_status;
 use crate::payment::put_paid;
 use crate::refusal::put_refusal;
+use crate::screens::Screen;
 use crate::stock_level::put_level;
 use std::alloc::Global;
+use tpcc_book::Answer;
 use tpcc_money::NoMemory;
 use tpcc_rows::{Delivered, Refusal, Reply};
 
@@ -44,6 +45,16 @@ pub fn refusal_screen(alloc: Global, refusal: Refusal) -> Result<Screen, NoMemor
     let mut screen = Screen::new(alloc);
     put_refusal(&mut screen, refusal)?;
     Ok(screen)
+}
+
+/// The screen of an answer: that of its reply, or of its refusal. Refused only for want of memory.
+pub fn screen<P>(alloc: Global, answer: &Answer<P>) -> Result<Screen, NoMemory>
+    ensures shown { IfOk result (λ screen. screen ≡ screens.answer_screen answer.now.outcome) }
+{
+    match answer.outcome() {
+        Ok(reply) => reply_screen(alloc, reply),
+        Err(refusal) => refusal_screen(alloc, *refusal),
+    }
 }
 
 /// The screen of a check that found no broken condition; refused only for want of memory.

@@ -1,7 +1,7 @@
 //! Dealing the next card.
 ghost use Rattle.std.specs.Prelude.{◌≡◌, ◌<◌, IfOk, OnErr, OnOk, length};
 ghost use Rattle.tpcc_draws.specs.Draws.{answers};
-ghost use Rattle.tpcc_terminal.specs.Terminals.{undealt, dealt};
+ghost use Rattle.tpcc_terminal.specs.Terminals.{deck_to_deal, next_card};
 
 use tpcc_draws::{Card, Stream};
 use tpcc_money::NoMemory;
@@ -10,7 +10,7 @@ use tpcc_money::NoMemory;
 // Shuffles a new deck where no card is left.
 fn renew(cards: &mut Vec<Card>, stream: &mut Stream) -> Result<(), NoMemory>
     ensures renewed { OnOk result
-        ((cards.new.items, answers stream.new) ≡ undealt cards.old.items (answers stream.old)) }
+        ((cards.new.items, answers stream.new) ≡ deck_to_deal cards.old.items (answers stream.old)) }
     ensures some { OnOk result (0 < length cards.new.items) }
     ensures refused { OnErr result
         ((cards.new.items ≡ cards.old.items) × (stream.new ≡ stream.old)) }
@@ -31,7 +31,7 @@ fn renew(cards: &mut Vec<Card>, stream: &mut Stream) -> Result<(), NoMemory>
 /// with cards and stream as they were.
 pub fn deal(cards: &mut Vec<Card>, stream: &mut Stream) -> Result<Card, NoMemory>
     ensures dealt { IfOk result (λ card. (card, cards.new.items, answers stream.new)
-        ≡ dealt cards.old.items (answers stream.old)) }
+        ≡ next_card cards.old.items (answers stream.old)) }
     ensures refused { OnErr result
         ((cards.new.items ≡ cards.old.items) × (stream.new ≡ stream.old)) }
 {

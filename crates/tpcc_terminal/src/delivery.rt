@@ -3,7 +3,7 @@ ghost use Rattle.std.specs.Prelude.{OnOk};
 ghost use Rattle.tpcc_terminal.specs.Adding.{Adds};
 ghost use Rattle.tpcc_terminal.specs.Screens as screens;
 
-use crate::lines::Screen;
+use crate::screens::Screen;
 use tpcc_money::{Moment, NoMemory};
 use tpcc_rows::{Delivered, Delivery, Ticket};
 

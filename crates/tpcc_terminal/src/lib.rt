@@ -1,7 +1,6 @@
 //! What terminals ask and show: requests from decks of cards, receipts, the screens of answers, and the report of a run.
 #![tactic(auto)]
 
-mod answer_screen;
 mod answers;
 mod deal;
 mod delivery;
@@ -9,7 +8,6 @@ mod drafts;
 mod draws;
 mod home;
 pub mod laws;
-mod lines;
 mod new_order;
 mod order_status;
 mod payment;
@@ -17,13 +15,15 @@ mod receipts;
 mod refusal;
 mod report;
 mod request_lines;
+mod screens;
 mod stock_level;
 mod terminal;
 
-pub use answer_screen::screen;
-pub use answers::{broken_screen, consistent_screen, refusal_screen, reply_screen, results_screen};
-pub use lines::Screen;
+pub use answers::{
+    broken_screen, consistent_screen, refusal_screen, reply_screen, results_screen, screen,
+};
 pub use receipts::{Numbered, Receipt};
 pub use report::Report;
 pub use request_lines::request_line;
+pub use screens::Screen;
 pub use terminal::Terminal;

@@ -3,7 +3,7 @@ ghost use Rattle.std.specs.Prelude.{◌≡◌, ◌∷◌, ◌++◌, IfOk, OnOk, 
 ghost use Rattle.tpcc_terminal.specs.Adding.{Adds};
 ghost use Rattle.tpcc_terminal.specs.RequestLines as lines;
 
-use crate::lines::Screen;
+use crate::screens::Screen;
 use std::alloc::Global;
 use tpcc_money::{Moment, NoMemory};
 use tpcc_rows::{Line, Order, Payment, Request, StatusQuery, StockQuery, Ticket, Who};
