@@ -1,6 +1,6 @@
 -- The extremes of a district.
 use Rattle.std.proofs.Common.{◌≡◌, ℕ, Bool, true, false, List, [], ◌∷◌, refl, ap, sym, ◌∙◌, arith, Option, Some, None, map, slice_get}
-use Rattle.std.specs.Prelude.{max, min, filter, find, reverse, ◌==◌, ◌&&◌, nat_lt}
+use Rattle.std.specs.Prelude.{max, min, filter, find, reverse, ◌==◌, ◌&&◌, nat_lt, if◌then◌else◌}
 use Rattle.std.specs.Option.{option_map, option_or}
 use Rattle.std.proofs.lemmas.List.{reverse-append}
 use Rattle.std.proofs.lemmas.List.Folds.{find-append}
@@ -17,6 +17,24 @@ use Rattle.std.specs.List.{list_all}
 
 of_district : (w d c : ℕ) (x : OrderRow) → is_order_of w d c x ≡ true → is_of (record { warehouse = w; district = d }) (order_key x) ≡ true
 of_district w d c x h = grind (arith, h)
+
+all_pass : {X : Type 0} (q : X → Bool) (xs : List X) → list_all q (filter q xs) ≡ true
+all_pass q [] = refl
+all_pass q (x ∷ xs) = grind (arith, all_pass q xs)
+
+-- of a district's own orders those of a customer are known by the customer alone
+found_by_customer : (w d c : ℕ) (os : List OrderRow) → list_all (λ x. is_of (record { warehouse = w; district = d }) (order_key x)) os ≡ true
+    → find (λ o. o.customer == c) (reverse os) ≡ find (is_order_of w d c) (reverse os)
+found_by_customer w d c [] own = refl
+found_by_customer w d c (o ∷ os) own =
+    let here : is_of (record { warehouse = w; district = d }) (order_key o) ≡ true = grind arith in
+    let rest = found_by_customer w d c os (grind arith) in
+    let same : (o.customer == c) ≡ is_order_of w d c o = grind (arith, here) in
+    ap (find (λ (x : OrderRow). x.customer == c)) (reverse-append (o ∷ []) os)
+    ∙ find-append (λ (x : OrderRow). x.customer == c) (reverse os) (o ∷ [])
+    ∙ (λ i. option_or (rest i) (if same i then Some o else None))
+    ∙ sym (find-append (is_order_of w d c) (reverse os) (o ∷ []))
+    ∙ sym (ap (find (is_order_of w d c)) (reverse-append (o ∷ []) os))
 
 -- a customer's orders are in the district's part
 pub orders_in_part : (w d c : ℕ) (xs : List OrderRow) → filter (is_order_of w d c) (filter (λ x. is_of (record { warehouse = w; district = d }) (order_key x)) xs) ≡ filter (is_order_of w d c) xs
@@ -71,11 +89,14 @@ newest w d c (o ∷ os) up =
 
 -- in the district's part, of all orders
 pub newest_in_part : (w d c : ℕ) (xs part : List OrderRow) (found : Option OrderRow) → is_ascending order_key xs ≡ true
-    → part ≡ filter (λ x. is_of (record { warehouse = w; district = d }) (order_key x)) xs → found ≡ find (is_order_of w d c) (reverse part)
+    → part ≡ filter (λ x. is_of (record { warehouse = w; district = d }) (order_key x)) xs → found ≡ find (λ o. o.customer == c) (reverse part)
     → option_map (λ o. o.id) found ≡ largest (map (λ o. o.id) (filter (is_order_of w d c) xs))
 newest_in_part w d c xs part found up is at =
     let in_part = filter (λ (x : OrderRow). is_of (record { warehouse = w; district = d }) (order_key x)) xs in
-    ap (option_map (λ (o : OrderRow). o.id)) (at ∙ ap (λ os. find (is_order_of w d c) (reverse os)) is)
+    ap (option_map (λ (o : OrderRow). o.id))
+    (at
+    ∙ ap (λ os. find (λ (o : OrderRow). o.customer == c) (reverse os)) is
+    ∙ found_by_customer w d c in_part (all_pass (λ (x : OrderRow). is_of (record { warehouse = w; district = d }) (order_key x)) xs))
     ∙ newest w d c in_part (ascending-filter order_key (λ (x : OrderRow). is_of (record { warehouse = w; district = d }) (order_key x)) xs up)
     ∙ ap (λ (os : List OrderRow). largest (map (λ o. o.id) os)) (orders_in_part w d c xs)
 
@@ -107,10 +128,6 @@ later_above w d n (m ∷ ns) is own up =
     let ups : list_all (λ later. key_before (new_order_key n) (new_order_key later)) ns ≡ true = grind arith in
     let here : nat_lt n.order m.order ≡ true = grind (arith, nat_tests, is, mine, above) in
     grind (arith, here, later_above w d n ns is owns ups)
-
-all_pass : {X : Type 0} (q : X → Bool) (xs : List X) → list_all q (filter q xs) ≡ true
-all_pass q [] = refl
-all_pass q (x ∷ xs) = grind (arith, all_pass q xs)
 
 first_of : (w d : ℕ) (ns : List NewOrderRow) (n : NewOrderRow) → is_ascending new_order_key ns ≡ true → list_all (is_waiting w d) ns ≡ true → slice_get ns 0 ≡ Some n → Some n.order ≡ smallest (map (λ x. x.order) ns)
 first_of w d [] n up own at = cc

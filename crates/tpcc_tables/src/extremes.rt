@@ -8,19 +8,11 @@ use tpcc_keyed::Parts;
 use tpcc_rows::keys::DistrictKey;
 use tpcc_rows::rows::{NewOrderRow, OrderRow};
 
-/// The last of a customer's orders, looked for from the end, where the newest stand.
-fn newest_order<'a>(
-    rows: &'a [OrderRow],
-    warehouse: u32,
-    district: u32,
-    customer: u32,
-) -> Option<&'a OrderRow>
-    ensures { option_copied result
-        ≡ find (is_order_of warehouse district customer) (reverse rows.now) }
+/// The last of a customer's orders among those of its district, looked for from the end, where the newest stand.
+fn newest_order<'a>(rows: &'a [OrderRow], customer: u32) -> Option<&'a OrderRow>
+    ensures { option_copied result ≡ find (λ o. o.customer == customer) (reverse rows.now) }
 {
-    rows.iter().rev().find(|row| {
-        row.warehouse == warehouse && row.district == district && row.customer == customer
-    })
+    rows.iter().rev().find(|row| row.customer == customer)
 }
 
 /// The largest O_ID of a customer's orders.
@@ -39,7 +31,7 @@ pub fn last_order(
         warehouse,
         district,
     });
-    match newest_order(orders, warehouse, district, customer) {
+    match newest_order(orders, customer) {
         Some(order) => Some(order.id),
         None => None,
     }
