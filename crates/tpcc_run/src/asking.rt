@@ -39,12 +39,12 @@ pub(crate) fn ask_once<'s, N: Naming, T: Seating, C: OneTurn, R: Wait>(
         (record { purse = s.purse; station = s.terminal })) }
 {
     let Operator {
-        way,
+        route,
         purse,
         terminal,
     } = operator;
     let mut terminal = terminal;
-    let Some((way, answer)) = way.ask(rt, request, purse, call) else {
+    let Some((route, answer)) = route.ask(rt, request, purse, call) else {
         return Asked {
             operator: None,
             delivered: false,
@@ -57,7 +57,7 @@ pub(crate) fn ask_once<'s, N: Naming, T: Seating, C: OneTurn, R: Wait>(
     let purse = purse_of(answer);
     Asked {
         operator: Some(Operator {
-            way,
+            route,
             purse,
             terminal,
         }),

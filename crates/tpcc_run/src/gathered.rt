@@ -89,7 +89,7 @@ impl<N: Naming, T: Seating> Gathered<N, T> {
         ensures seen { AllSeen self.new.purses.items self.new.receipts.items }
     {
         let Operator {
-            way: _,
+            route: _,
             purse,
             terminal,
         } = operator;

@@ -9,13 +9,13 @@ mod joining;
 mod operator;
 mod plan;
 mod promises;
+mod route;
 mod running;
 mod servers;
 mod service;
 mod starting;
 mod terminals;
 mod threads;
-mod way;
 
 pub use fault::RunFault;
 pub use plan::{Plan, Service};

@@ -9,8 +9,8 @@ use crate::context::RunContext;
 use crate::fault::RunFault;
 use crate::gathered::Gathered;
 use crate::plan::Service;
+use crate::route::{Route, by_mailboxes, by_turns};
 use crate::servers::{Servers, join_servers};
-use crate::way::{Way, by_mailboxes, by_turns};
 use std::alloc::{AllocError, Global};
 use std::sync::Wait;
 use std::thread;
@@ -60,7 +60,7 @@ impl<
         requires make { F.IsAlwaysCallable self.now.make.now }
         ensures seen { AllSeen result.purses.items result.receipts.items }
     {
-        let Ok(ways) = by_mailboxes(self.alloc, mailboxes, idles) else {
+        let Ok(routes) = by_mailboxes(self.alloc, mailboxes, idles) else {
             return Gathered::without_memory(self.alloc);
         };
         thread::scope(
@@ -71,7 +71,7 @@ impl<
                 requires room { self.now.plan.terminals + servers.count < first.purse.room }
                 requires make { F.IsAlwaysCallable self.now.make.now }
                 ensures seen { AllSeen result.purses.items result.receipts.items }
-            { self.drive(scope, mailboxes, ways, serving, first, servers) },
+            { self.drive(scope, mailboxes, routes, serving, first, servers) },
         )
     }
 
@@ -80,7 +80,7 @@ impl<
         &'s self,
         scope: &Scope<'s, E>,
         mailboxes: &'s JobMailboxes<N, T, C>,
-        ways: Vec<Way<'s, N, T, C>>,
+        routes: Vec<Route<'s, N, T, C>>,
         serving: JobServing<N, T, C>,
         first: SeatedPurse<N, T>,
         servers: Servers,
@@ -98,7 +98,7 @@ impl<
         if handles.is_empty() {
             mailboxes.close(&mut serving);
         }
-        let mut all = self.ask_everything(scope, ways, first);
+        let mut all = self.ask_everything(scope, routes, first);
         if missing {
             all.note(RunFault::NoMemory);
         }
@@ -114,7 +114,7 @@ impl<
         ensures seen { AllSeen result.purses.items result.receipts.items }
     {
         let count = self.plan.terminals as usize + 1;
-        let Ok(ways) = by_turns::<N, T, C>(self.alloc, self.turns, count) else {
+        let Ok(routes) = by_turns::<N, T, C>(self.alloc, self.turns, count) else {
             return Gathered::without_memory(self.alloc);
         };
         thread::scope(
@@ -124,7 +124,7 @@ impl<
                 requires room { self.now.plan.terminals < first.purse.room }
                 requires make { F.IsAlwaysCallable self.now.make.now }
                 ensures seen { AllSeen result.purses.items result.receipts.items }
-            { self.ask_everything(scope, ways, first) },
+            { self.ask_everything(scope, routes, first) },
         )
     }
 }

@@ -7,8 +7,8 @@ ghost use Rattle.tpcc_run.specs.Asking.{HasComeBack};
 use crate::context::RunContext;
 use crate::operator::Operator;
 use crate::promises::{Back, ComesBack, TerminalHandle};
+use crate::route::Route;
 use crate::terminals::Role;
-use crate::way::Way;
 use std::alloc::{AllocError, Global};
 use std::sync::Wait;
 use std::thread::{Scope, Threads};
@@ -77,7 +77,7 @@ impl<
     pub(crate) fn start_terminal<E>(
         &'s self,
         scope: &Scope<'s, E>,
-        way: Way<'s, N, T, C>,
+        route: Route<'s, N, T, C>,
         purse: SeatedPurse<N, T>,
         role: Role,
     ) -> Option<TerminalHandle<'s, N, T, C>>
@@ -89,7 +89,7 @@ impl<
             return None;
         };
         let operator = Operator {
-            way,
+            route,
             purse,
             terminal,
         };
@@ -100,21 +100,21 @@ impl<
     pub(crate) fn start_terminals<E>(
         &'s self,
         scope: &Scope<'s, E>,
-        ways: Vec<Way<'s, N, T, C>>,
+        routes: Vec<Route<'s, N, T, C>>,
         first: &mut SeatedPurse<N, T>,
     ) -> Vec<TerminalHandle<'s, N, T, C>>
         requires room { self.now.plan.terminals ≤ first.old.purse.room }
         requires make { F.IsAlwaysCallable self.now.make.now }
     {
         let count = self.plan.terminals;
-        let mut ways = ways;
+        let mut routes = routes;
         let mut handles = Vec::new(self.alloc);
         for number in 0..count {
-            let Some(way) = ways.pop() else {
+            let Some(route) = routes.pop() else {
                 break;
             };
             let purse = first.split(self.turns, number + 1);
-            let Some(handle) = self.start_terminal(scope, way, purse, Role::Cards) else {
+            let Some(handle) = self.start_terminal(scope, route, purse, Role::Cards) else {
                 break;
             };
             // A handle that finds no room is let go: the scope joins its thread, and the caller sees that one is missing.

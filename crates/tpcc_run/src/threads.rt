@@ -8,8 +8,8 @@ use crate::fault::RunFault;
 use crate::gathered::Gathered;
 use crate::joining::{join_terminal, join_terminals};
 use crate::promises::{Back, TerminalHandle};
+use crate::route::Route;
 use crate::terminals::Role;
-use crate::way::Way;
 use std::alloc::{AllocError, Global};
 use std::sync::Wait;
 use std::thread::{Scope, Threads};
@@ -28,7 +28,7 @@ impl<
     fn start_runner<E>(
         &'s self,
         scope: &Scope<'s, E>,
-        way: Option<Way<'s, N, T, C>>,
+        route: Option<Route<'s, N, T, C>>,
         first: &mut SeatedPurse<N, T>,
     ) -> Option<TerminalHandle<'s, N, T, C>>
         requires room { 0 < first.old.purse.room }
@@ -37,10 +37,10 @@ impl<
     {
         let number = self.plan.terminals + 1;
         let purse = first.split(self.turns, number);
-        let Some(way) = way else {
+        let Some(route) = route else {
             return None;
         };
-        self.start_terminal(scope, way, purse, Role::Deliveries)
+        self.start_terminal(scope, route, purse, Role::Deliveries)
     }
 
     // Joins the delivery runner, which then asks for what is still queued.
@@ -74,20 +74,20 @@ impl<
     pub(crate) fn ask_everything<E>(
         &'s self,
         scope: &Scope<'s, E>,
-        ways: Vec<Way<'s, N, T, C>>,
+        routes: Vec<Route<'s, N, T, C>>,
         first: SeatedPurse<N, T>,
     ) -> Gathered<N, T>
         requires room { self.now.plan.terminals < first.purse.room }
         requires make { F.IsAlwaysCallable self.now.make.now }
         ensures seen { AllSeen result.purses.items result.receipts.items }
     {
-        let mut ways = ways;
+        let mut routes = routes;
         let mut first = first;
         let mut all = Gathered::new(self.alloc);
         let wanted = self.plan.terminals as usize;
-        let way = ways.pop();
-        let runner = self.start_runner(scope, way, &mut first);
-        let terminals = self.start_terminals(scope, ways, &mut first);
+        let route = routes.pop();
+        let runner = self.start_runner(scope, route, &mut first);
+        let terminals = self.start_terminals(scope, routes, &mut first);
         if terminals.len() < wanted {
             all.note(RunFault::NoMemory);
         }

@@ -1,4 +1,4 @@
-//! The ways by which a terminal's requests come to the book.
+//! The routes by which a terminal's requests come to the book.
 ghost use Rattle.std.specs.Prelude.{◌≡◌, ◌<◌, All, IfSome, IsSome, vec_len};
 ghost use Rattle.tpcc_rows.specs.declared.requests.Request.{Request};
 ghost use Rattle.tpcc_book.specs.Seats.{IsTurned};
@@ -12,7 +12,7 @@ use tpcc_server::{Errand, Job, JobAnswer, JobIdle, JobMailboxes, OneTurn, ask};
 
 /// How one terminal's requests are served, one after another.
 #[derive(Drop)]
-pub(crate) enum Way<'s, N: Naming, T: Seating, C> {
+pub(crate) enum Route<'s, N: Naming, T: Seating, C> {
     /// By a job in the terminal's mailbox, which a server takes.
     ByMailbox(Client<'s, N, T, C>),
     /// By a turn that the terminal's own thread makes.
@@ -30,8 +30,8 @@ pub(crate) struct Client<'s, N: Naming, T: Seating, C> {
     ghost origin: { idle_origin idle ≡ identity mailboxes.now },
 }
 
-impl<'s, N: Naming, T: Seating, C: OneTurn> Way<'s, N, T, C> {
-    /// Serves a request for a purse by a call, and gives the way back with the answer. None where the job is
+impl<'s, N: Naming, T: Seating, C: OneTurn> Route<'s, N, T, C> {
+    /// Serves a request for a purse by a call, and gives the route back with the answer. None where the job is
     /// still out when nobody serves any more.
     pub(crate) fn ask<R: Wait>(
         self,
@@ -39,18 +39,18 @@ impl<'s, N: Naming, T: Seating, C: OneTurn> Way<'s, N, T, C> {
         request: Request,
         purse: SeatedPurse<N, T>,
         call: C,
-    ) -> Option<(Way<'s, N, T, C>, JobAnswer<N, T>)>
+    ) -> Option<(Route<'s, N, T, C>, JobAnswer<N, T>)>
         ensures turned { IfSome result (λ r. IsTurned request purse r.1) }
     {
         let job = Job::of(request, purse, call);
         match self {
-            Way::ByTurn(turns) => {
+            Route::ByTurn(turns) => {
                 let answer = job.run(turns, rt);
-                Some((Way::ByTurn(turns), answer))
+                Some((Route::ByTurn(turns), answer))
             }
-            Way::ByMailbox(client) => {
+            Route::ByMailbox(client) => {
                 let (client, answer) = client.ask(rt, job)?;
-                Some((Way::ByMailbox(client), answer))
+                Some((Route::ByMailbox(client), answer))
             }
         }
     }
@@ -73,33 +73,33 @@ impl<'s, N: Naming, T: Seating, C: OneTurn> Client<'s, N, T, C> {
     }
 }
 
-/// The ways by all mailboxes.
+/// The routes by all mailboxes.
 pub(crate) fn by_mailboxes<'s, N: Naming, T: Seating, C>(
     alloc: Global,
     mailboxes: &'s JobMailboxes<N, T, C>,
     idles: Vec<JobIdle<N, T, C>>,
-) -> Result<Vec<Way<'s, N, T, C>>, AllocError>
+) -> Result<Vec<Route<'s, N, T, C>>, AllocError>
     requires idles { All (λ idle. idle_origin idle ≡ identity mailboxes.now) idles.items }
 {
     let mut idles = idles;
-    let mut ways = Vec::new(alloc);
-    while let Some(way) = next_way(&mut idles, mailboxes) {
-        ways.push(way)?;
+    let mut routes = Vec::new(alloc);
+    while let Some(route) = next_route(&mut idles, mailboxes) {
+        routes.push(route)?;
     }
-    Ok(ways)
+    Ok(routes)
 }
 
-// The way by one more mailbox.
-fn next_way<'s, N: Naming, T: Seating, C>(
+// The route by one more mailbox.
+fn next_route<'s, N: Naming, T: Seating, C>(
     idles: &mut Vec<JobIdle<N, T, C>>,
     mailboxes: &'s JobMailboxes<N, T, C>,
-) -> Option<Way<'s, N, T, C>>
+) -> Option<Route<'s, N, T, C>>
     requires idles { All (λ idle. idle_origin idle ≡ identity mailboxes.now) idles.old.items }
     ensures rest { All (λ idle. idle_origin idle ≡ identity mailboxes.now) idles.new.items }
     ensures less { IsSome result → vec_len idles.new < vec_len idles.old }
 {
     let idle = next_idle(idles, mailboxes)?;
-    Some(Way::ByMailbox(Client { mailboxes, idle }))
+    Some(Route::ByMailbox(Client { mailboxes, idle }))
 }
 
 // The right to post in one more mailbox.
@@ -116,15 +116,15 @@ fn next_idle<N: Naming, T: Seating, C>(
     idles.pop()
 }
 
-/// So many ways by own turns.
+/// So many routes by own turns.
 pub(crate) fn by_turns<'s, N: Naming, T: Seating, C>(
     alloc: Global,
     turns: &'s Turns<N, T>,
     count: usize,
-) -> Result<Vec<Way<'s, N, T, C>>, AllocError> {
-    let mut ways = Vec::new(alloc);
+) -> Result<Vec<Route<'s, N, T, C>>, AllocError> {
+    let mut routes = Vec::new(alloc);
     for _ in 0..count {
-        ways.push(Way::ByTurn(turns))?;
+        routes.push(Route::ByTurn(turns))?;
     }
-    Ok(ways)
+    Ok(routes)
 }
