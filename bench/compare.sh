@@ -173,7 +173,7 @@ compare_serial() {
     for terminals in 1 5 41; do
         words="serial ${scale[*]} --terminals $terminals --cards 10"
         cases=$((cases + 1))
-        "$serial" "$terminals" 10 > "$work/product.out"
+        "$serial" "$terminals" 10 | tail -n 1 > "$work/product.out"
         "$plain" $words | head -n 1 > "$work/plain.out"
         cmp -s "$work/product.out" "$work/plain.out" || differ outputs
     done
