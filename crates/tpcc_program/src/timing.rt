@@ -10,8 +10,11 @@ use std::time::Clock;
 /// monotonic clock; 0 where that is still to come, and where the clock can't be read.
 #[derive(Drop)]
 pub struct Timing {
+    /// When it began.
     begun: u64,
+    /// When its opening stood.
     opened: AtomicU64,
+    /// When its requests were served.
     served: AtomicU64,
 }
 

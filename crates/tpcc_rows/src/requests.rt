@@ -48,6 +48,7 @@ impl Blank for Line {
 /// The lines of a new order, seen as their list.
 #[derive(Drop)]
 pub struct Lines {
+    /// The lines in the order in which they were asked.
     items: Vec<Line>,
 }
 

@@ -28,20 +28,31 @@ use tpcc_rows::rows::*;
 /// ranges. It is seen as its rows, and the room that was made for one more payment and one more order.
 #[derive(Drop)]
 pub struct Tables {
+    /// WAREHOUSE, by ascending key.
     warehouses: Vec<WarehouseRow>,
+    /// DISTRICT, by ascending key.
     districts: Vec<DistrictRow>,
+    /// CUSTOMER, by ascending key.
     customers: Vec<CustomerRow>,
     /// The customers' names in order.
     names: Names,
+    /// HISTORY, the oldest first.
     histories: Vec<HistoryRow>,
+    /// ORDER, a part for each district.
     orders: Parts<OrderRow>,
+    /// ORDER-LINE, a part for each district.
     order_lines: Parts<OrderLineRow>,
+    /// NEW-ORDER, a part for each district.
     new_orders: Parts<NewOrderRow>,
+    /// ITEM, by ascending key.
     items: Vec<ItemRow>,
+    /// STOCK, by ascending key.
     stocks: Vec<StockRow>,
     /// Whether each district has a part in the three tables of orders.
     are_open: bool,
+    /// One more than the lines of the next order that there is room for; 0 where there is room for no order.
     order_room: u64,
+    /// 1 where there is room for one more payment, else 0.
     payment_room: u32,
 }
 
