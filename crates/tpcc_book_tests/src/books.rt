@@ -48,7 +48,7 @@ fn happens<N: Naming, R: Abort>(
 }
 
 /// The refusal of a request, and the purse.
-fn asked<N: Naming>(
+fn ask<N: Naming>(
     book: &mut Book<N>,
     purse: Purse<N>,
     request: Request,
@@ -62,7 +62,7 @@ fn asked<N: Naming>(
 }
 
 /// The terminal, entries and cents of a purse.
-fn shown<N: Naming>(purse: &Purse<N>) -> (u32, u64, Cents) {
+fn value_of<N: Naming>(purse: &Purse<N>) -> (u32, u64, Cents) {
     (purse.terminal(), purse.entries(), purse.paid())
 }
 
@@ -74,13 +74,13 @@ fn the_second_purse_of_a_terminal_is_a_stranger(rt: HostRuntime) {
 /// Both purses are of terminal 5, and the journal already has an entry of it when the second pays.
 fn two_purses<N: Naming, R: Abort>(rt: &R, book: &mut Book<N>, first: &mut Purse<N>) {
     assert!(rt; first.room() == 10_000);
-    let (paid, one) = asked(book, first.split(5), payment(100));
-    let (refused, two) = asked(book, first.split(5), payment(100));
+    let (paid, one) = ask(book, first.split(5), payment(100));
+    let (refused, two) = ask(book, first.split(5), payment(100));
     let seen = (
         paid,
         refused,
-        shown(&one),
-        shown(&two),
+        value_of(&one),
+        value_of(&two),
         book.journal().len(),
     );
     let one = (5, 1, Cents::new(100));
@@ -89,7 +89,7 @@ fn two_purses<N: Naming, R: Abort>(rt: &R, book: &mut Book<N>, first: &mut Purse
 }
 
 /// Notes an answer, and gives its purse back.
-fn noted<N: Naming, R: Abort>(
+fn note<N: Naming, R: Abort>(
     rt: &R,
     terminal: &mut Terminal,
     answer: Answer<Purse<N>>,
@@ -141,6 +141,6 @@ fn pay_three<N: Naming, R: Abort>(
 ) {
     let mut purse = purse;
     for cents in [100, 99, 200] {
-        purse = noted(rt, terminal, book.serve(payment(cents), purse));
+        purse = note(rt, terminal, book.serve(payment(cents), purse));
     }
 }

@@ -35,7 +35,7 @@ fn at_a_desk<N: Naming, R: Abort>(rt: &R, alloc: Global, blanks: Blanks, story: 
 /// The story itself.
 fn happens<N: Naming, R: Abort>(rt: &R, alloc: Global, desk: &mut Desk<N>, story: Story) {
     match story {
-        Story::Overtaking => overtaken(rt, alloc, desk),
+        Story::Overtaking => overtake(rt, alloc, desk),
         Story::KeptLetter => kept_letter(rt, alloc, desk),
     }
 }
@@ -145,7 +145,7 @@ fn the_later_post_is_served_first(rt: HostRuntime) {
     told(&rt, rt.alloc(), Story::Overtaking)
 }
 
-fn overtaken<N: Naming, R: Abort>(rt: &R, alloc: Global, desk: &mut Desk<N>) {
+fn overtake<N: Naming, R: Abort>(rt: &R, alloc: Global, desk: &mut Desk<N>) {
     step_all(rt, desk, overtaking(rt, alloc), 3);
     let query = (2, Some(Cents::new(-1_000)));
     let paid = (1, Some(Cents::new(-1_100)));

@@ -26,7 +26,7 @@ fn warehouse() -> WarehouseRow {
     }
 }
 
-fn dumped<R: Abort>(rt: &R, alloc: Global, tables: &Tables) -> Vec<u8> {
+fn dump_text<R: Abort>(rt: &R, alloc: Global, tables: &Tables) -> Vec<u8> {
     let Ok(text) = dump(alloc, tables, Table::Warehouse, Vec::new(alloc)) else {
         panic!(rt; "the table was not dumped")
     };
@@ -37,6 +37,6 @@ fn dumped<R: Abort>(rt: &R, alloc: Global, tables: &Tables) -> Vec<u8> {
 fn commas_and_quotes_within_a_text_are_quoted(rt: HostRuntime) {
     let mut tables = Tables::empty(rt.alloc());
     assert!(rt; tables.load(Row::Warehouse(warehouse())).is_ok());
-    let text = dumped(&rt, rt.alloc(), &tables);
+    let text = dump_text(&rt, rt.alloc(), &tables);
     assert!(rt; text.as_slice() == RECORDS.as_bytes());
 }

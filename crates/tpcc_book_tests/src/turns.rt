@@ -77,9 +77,9 @@ fn three_turns<N: Naming, T: Seating, R: Wait + Abort>(
     let one = first.split(turns, 1);
     let two = first.split(turns, 2);
     let mut purses = Vec::with_capacity(alloc, 3).expect(rt, "memory for three");
-    purses.push_reserved(served(rt, turns, payment(250), first));
-    purses.push_reserved(served(rt, turns, payment(100), one));
-    let two = served(rt, turns, status(), two);
+    purses.push_reserved(serve_once(rt, turns, payment(250), first));
+    purses.push_reserved(serve_once(rt, turns, payment(100), one));
+    let two = serve_once(rt, turns, status(), two);
     if let Story::AllThere = story {
         purses.push_reserved(two);
     }
@@ -87,7 +87,7 @@ fn three_turns<N: Naming, T: Seating, R: Wait + Abort>(
 }
 
 /// The purse behind one turn.
-fn served<N: Naming, T: Seating, R: Wait + Abort>(
+fn serve_once<N: Naming, T: Seating, R: Wait + Abort>(
     rt: &R,
     turns: &Turns<N, T>,
     request: Request,

@@ -78,16 +78,16 @@ fn serve_one<N: Naming, R: Abort>(
     let entries = book.journal().len();
     let answer = book.serve(request, purse);
     if answer.outcome().is_ok() {
-        return shown(rt, alloc, answer);
+        return show(rt, alloc, answer);
     }
     assert!(rt; matches!(answer.outcome(), Err(Refusal::NoMemory)));
     assert!(rt; book.journal().len() == entries && check(book.tables()).is_ok());
     let (request, _, _, purse) = answer.into_parts();
-    shown(rt, alloc, book.serve(request, purse))
+    show(rt, alloc, book.serve(request, purse))
 }
 
 /// The purse of an accepted answer, whose screen can be had.
-fn shown<P, R: Abort>(rt: &R, alloc: Global, answer: Answer<P>) -> P {
+fn show<P, R: Abort>(rt: &R, alloc: Global, answer: Answer<P>) -> P {
     assert!(rt; answer.outcome().is_ok());
     assert!(rt; screen(alloc, &answer).is_ok() || screen(alloc, &answer).is_ok());
     let (_, _, _, purse) = answer.into_parts();

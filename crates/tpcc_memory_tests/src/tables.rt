@@ -15,7 +15,7 @@ use tpcc_rows::{Entered, Order, Refusal, Row, RowRef, Table};
 use tpcc_tables::{LoadFault, Tables};
 
 /// The plain opening's tables, on which every transaction can be made.
-fn filled(rt: &(impl Abort + AllocGlobal)) -> Tables
+fn plain_tables(rt: &(impl Abort + AllocGlobal)) -> Tables
     ensures stocked { IsStocked result.rows }
 {
     let opening = opening(rt);
@@ -34,7 +34,7 @@ fn an_opening_is_filled(rt: HostRuntime) {
 }
 
 /// The row that is lent, to be loaded elsewhere.
-fn copied(row: RowRef<'_>) -> Row {
+fn copy_of(row: RowRef<'_>) -> Row {
     match row {
         RowRef::Warehouse(row) => Row::Warehouse(*row),
         RowRef::District(row) => Row::District(*row),
@@ -74,7 +74,7 @@ const OWNERS_FIRST: [Table; 9] = [
 #[test]
 fn rows_are_loaded(rt: HostRuntime) {
     let mut tables = Tables::empty(rt.alloc());
-    load_all(&rt, &mut tables, &filled(&rt));
+    load_all(&rt, &mut tables, &plain_tables(&rt));
     assert!(rt; check(&tables).is_ok());
 }
 
@@ -82,7 +82,7 @@ fn rows_are_loaded(rt: HostRuntime) {
 fn load_all(rt: &impl Abort, tables: &mut Tables, from: &Tables) {
     for table in OWNERS_FIRST {
         for place in 0..from.count(table) {
-            let row = copied(from.row(table, place).expect(rt, "a row"));
+            let row = copy_of(from.row(table, place).expect(rt, "a row"));
             load(rt, tables, table, row);
         }
     }
@@ -107,7 +107,7 @@ fn enter_one(rt: &impl Abort, tables: &mut Tables, order: &Order)
 
 #[test]
 fn an_order_is_entered(rt: HostRuntime) {
-    let mut tables = filled(&rt);
+    let mut tables = plain_tables(&rt);
     enter_one(&rt, &mut tables, &order(&rt));
     assert!(rt; tables.count(Table::OrderLine) == 505 && check(&tables).is_ok());
 }
@@ -125,7 +125,7 @@ fn pay_one(rt: &impl Abort, tables: &mut Tables) {
 
 #[test]
 fn a_payment_is_made(rt: HostRuntime) {
-    pay_one(&rt, &mut filled(&rt))
+    pay_one(&rt, &mut plain_tables(&rt))
 }
 
 /// Queues a delivery, again where memory was refused and nothing changed.
@@ -138,7 +138,7 @@ fn queue_one(rt: &impl Abort, tables: &Tables, waiting: &mut Queue) {
 
 #[test]
 fn a_ticket_is_queued_and_runs(rt: HostRuntime) {
-    let mut tables = filled(&rt);
+    let mut tables = plain_tables(&rt);
     let mut waiting = Queue::new(rt.alloc());
     queue_one(&rt, &tables, &mut waiting);
     let is_run = deliver_next(&mut tables, &mut waiting, Moment::new(120)).is_ok();
@@ -155,6 +155,6 @@ fn is_dumped(alloc: Global, tables: &Tables) -> bool {
 
 #[test]
 fn a_table_is_dumped(rt: HostRuntime) {
-    let tables = filled(&rt);
+    let tables = plain_tables(&rt);
     assert!(rt; is_dumped(rt.alloc(), &tables) || is_dumped(rt.alloc(), &tables));
 }

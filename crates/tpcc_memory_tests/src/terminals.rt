@@ -10,7 +10,7 @@ use tpcc_money::Moment;
 use tpcc_rows::Request;
 use tpcc_terminal::Terminal;
 
-fn made(rt: &impl Abort, alloc: Global) -> Terminal {
+fn make_terminal(rt: &impl Abort, alloc: Global) -> Terminal {
     match Terminal::new(alloc, 1, scale(rt), 7) {
         Ok(terminal) => terminal,
         Err(_) => Terminal::new(alloc, 1, scale(rt), 7).expect(rt, "a terminal"),
@@ -27,8 +27,8 @@ fn next(rt: &impl Abort, terminal: &mut Terminal) -> Request {
 
 #[test]
 fn a_terminal_asks_its_cards(rt: HostRuntime) {
-    let mut terminal = made(&rt, rt.alloc());
-    let mut other = made(&rt, rt.alloc());
+    let mut terminal = make_terminal(&rt, rt.alloc());
+    let mut other = make_terminal(&rt, rt.alloc());
     for _ in 0..30u32 {
         assert!(rt; next(&rt, &mut terminal) == next(&rt, &mut other));
     }
@@ -50,10 +50,10 @@ fn at_book<N: Naming, R: Abort>(rt: &R, alloc: Global, blanks: Blanks)
     let Ok((book, purse)) = Book::<N>::start(alloc, &opening(rt), blanks) else {
         panic!(rt; "{BEFORE}")
     };
-    note(rt, made(rt, alloc), answered(book, purse))
+    note(rt, make_terminal(rt, alloc), pay(book, purse))
 }
 
-fn answered<N: Naming>(book: Book<N>, purse: Purse<N>) -> Answer<Purse<N>> {
+fn pay<N: Naming>(book: Book<N>, purse: Purse<N>) -> Answer<Purse<N>> {
     let mut book = book;
     book.serve(Request::Payment(payment()), purse)
 }

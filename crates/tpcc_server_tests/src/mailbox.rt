@@ -103,7 +103,7 @@ const NOTHING: (u64, u64) = (0, 0);
 const HELD: (u64, u64) = (0, 9);
 
 /// The letter, and the server of its answer.
-fn shown(left: Left<u64, Served>) -> (u64, u64) {
+fn value_of(left: Left<u64, Served>) -> (u64, u64) {
     match left {
         Left::Nothing => NOTHING,
         Left::Letter(letter) => (letter, 0),
@@ -116,7 +116,7 @@ fn shown(left: Left<u64, Served>) -> (u64, u64) {
 fn are_left<R: Abort>(rt: &R, lefts: &mut Vec<Left<u64, Served>>, expected: &[(u64, u64)]) {
     for wanted in expected {
         let left = lefts.pop().expect(rt, "one for each client");
-        assert!(rt; shown(left) == *wanted);
+        assert!(rt; value_of(left) == *wanted);
     }
     assert!(rt; lefts.is_empty());
 }

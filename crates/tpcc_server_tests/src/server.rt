@@ -11,7 +11,7 @@ mod rounds;
 use gates::held_up;
 use left::{asked_in_vain, not_collected};
 use reposts::closed_meanwhile;
-use rounds::limited;
+use rounds::serve_to_limits;
 use std::alloc::Global;
 use std::marker::Brand;
 use std::process::Abort;
@@ -101,7 +101,7 @@ fn happens<
         }
         Story::Limited => {
             let_go(other);
-            limited(rt, alloc, turns, one, two, keeper)
+            serve_to_limits(rt, alloc, turns, one, two, keeper)
         }
         Story::ClosedMeanwhile => {
             let_go((other, two));
@@ -182,7 +182,7 @@ fn make_one<N: Naming, T: Seating, C: Drop, R: Abort>(rt: &R, alloc: Global) -> 
 }
 
 /// Posts a payment that is turned by this call.
-fn posted<N: Naming, T: Seating, C: OneTurn>(
+fn post<N: Naming, T: Seating, C: OneTurn>(
     mailboxes: &JobMailboxes<N, T, C>,
     idle: JobIdle<N, T, C>,
     purse: SeatedPurse<N, T>,

@@ -27,7 +27,7 @@ pub enum Change {
 }
 
 /// The row with the change, if it isn't left out.
-pub fn changed(change: Change, row: Row) -> Option<Row> {
+pub fn change_row(change: Change, row: Row) -> Option<Row> {
     match row {
         Row::Warehouse(row) => Some(Row::Warehouse(warehouse(change, row))),
         Row::District(row) => Some(Row::District(district(change, row))),

@@ -1,6 +1,6 @@
 //! Each condition broken by one change of the opening, and condition 11 by what comes behind it.
 use crate::changes::Change;
-use crate::opening::{loaded, scale};
+use crate::opening::{load_changed, scale};
 use crate::stories::{Story, told};
 use std::alloc::AllocGlobal;
 use std::process::Abort;
@@ -22,7 +22,7 @@ fn broken_by(
     opening: &Tables,
     change: Change,
 ) -> Result<(), Broken> {
-    check(&loaded(rt, opening, change))
+    check(&load_changed(rt, opening, change))
 }
 
 pub fn are_named(rt: &(impl Abort + AllocGlobal), opening: &Tables) {

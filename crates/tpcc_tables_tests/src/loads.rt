@@ -1,6 +1,6 @@
 //! Rows that are loaded one by one, and why a row is refused.
 use crate::changes::Change;
-use crate::opening::{loaded, row_at};
+use crate::opening::{load_changed, row_at};
 use crate::stories::{Story, told};
 use std::alloc::AllocGlobal;
 use std::process::Abort;
@@ -27,7 +27,7 @@ fn are_same(rt: &impl Abort, left: &Tables, right: &Tables) {
 
 /// Tables that were loaded row by row are those of the opening.
 pub fn are_loaded(rt: &(impl Abort + AllocGlobal), opening: &Tables) {
-    are_same(rt, &loaded(rt, opening, Change::Nothing), opening)
+    are_same(rt, &load_changed(rt, opening, Change::Nothing), opening)
 }
 
 #[test]

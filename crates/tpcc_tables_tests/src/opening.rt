@@ -2,7 +2,7 @@
 //! row by row.
 ghost use Rattle.tpcc_rows.specs.WellKeyed.{IsStocked};
 
-use crate::changes::{Change, changed, has_sixth_line};
+use crate::changes::{Change, change_row, has_sixth_line};
 use std::alloc::AllocGlobal;
 use std::process::Abort;
 use tpcc_population::{Opening, Scale, fill, opening_is_sound};
@@ -27,7 +27,7 @@ pub fn scale(rt: &impl Abort, customers: u32) -> Scale {
     Scale::new(1, customers, 100).expect(rt, "a scale")
 }
 
-pub fn filled(rt: &(impl Abort + AllocGlobal)) -> Tables
+pub fn plain_tables(rt: &(impl Abort + AllocGlobal)) -> Tables
     ensures stocked { IsStocked result.rows }
 {
     let opening = Opening::Plain {
@@ -37,7 +37,7 @@ pub fn filled(rt: &(impl Abort + AllocGlobal)) -> Tables
     fill(rt.alloc(), &opening).expect(rt, "an opening")
 }
 
-fn copied(row: RowRef<'_>) -> Row {
+fn copy_of(row: RowRef<'_>) -> Row {
     match row {
         RowRef::Warehouse(row) => Row::Warehouse(*row),
         RowRef::District(row) => Row::District(*row),
@@ -53,7 +53,7 @@ fn copied(row: RowRef<'_>) -> Row {
 
 /// The row at a place of a table.
 pub fn row_at(rt: &impl Abort, tables: &Tables, table: Table, place: usize) -> Row {
-    copied(tables.row(table, place).expect(rt, "a row"))
+    copy_of(tables.row(table, place).expect(rt, "a row"))
 }
 
 /// The last row goes first, but in HISTORY, whose rows stand as they come.
@@ -65,14 +65,14 @@ fn load_table(rt: &impl Abort, from: &Tables, table: Table, change: Change, into
         } else {
             count - 1 - turn
         };
-        if let Some(row) = changed(change, row_at(rt, from, table, place)) {
+        if let Some(row) = change_row(change, row_at(rt, from, table, place)) {
             assert!(rt; into.load(row).is_ok());
         }
     }
 }
 
 /// The rows of these tables with one change, loaded into empty ones.
-pub fn loaded(rt: &(impl Abort + AllocGlobal), from: &Tables, change: Change) -> Tables {
+pub fn load_changed(rt: &(impl Abort + AllocGlobal), from: &Tables, change: Change) -> Tables {
     let mut into = Tables::empty(rt.alloc());
     for table in OWNERS_FIRST {
         load_table(rt, from, table, change, &mut into);

@@ -3,7 +3,7 @@ ghost use Rattle.tpcc_rows.specs.WellKeyed.{IsStocked};
 
 use crate::conditions::{are_named, is_opening_of_ten};
 use crate::loads::{are_loaded, refuse_out_of_range, refuse_taken, refuse_without_owners};
-use crate::opening::filled;
+use crate::opening::plain_tables;
 use crate::transactions::{enter_one, leave_behind, pass_over_gap, pay_each, reach_limits};
 use std::alloc::AllocGlobal;
 use std::process::Abort;
@@ -24,7 +24,7 @@ pub enum Story {
 }
 
 pub fn told(rt: &(impl Abort + AllocGlobal), story: Story) {
-    let mut tables = filled(rt);
+    let mut tables = plain_tables(rt);
     happens(rt, &mut tables, story)
 }
 

@@ -3,7 +3,7 @@ ghost use Rattle.tpcc_rows.specs.WellKeyed.{IsStocked};
 
 use crate::changes::Change;
 use crate::conditions::at;
-use crate::opening::{loaded, scale};
+use crate::opening::{load_changed, scale};
 use crate::stories::{Story, told};
 use std::alloc::AllocGlobal;
 use std::mem::size_of;
@@ -114,7 +114,7 @@ fn paid_near(
     opening: &Tables,
     field: Field,
 ) -> (bool, Result<Cents, Refusal>) {
-    paid_twice(&mut loaded(rt, opening, Change::NearLimit(field)))
+    paid_twice(&mut load_changed(rt, opening, Change::NearLimit(field)))
 }
 
 pub fn reach_limits(rt: &(impl Abort + AllocGlobal), opening: &Tables) {
@@ -184,7 +184,7 @@ fn pass_over(rt: &impl Abort, tables: &mut Tables, waiting: &mut Queue) {
 }
 
 pub fn pass_over_gap(rt: &(impl Abort + AllocGlobal), opening: &Tables) {
-    let mut tables = loaded(rt, opening, Change::NewOrderLeftOut(2, 9));
+    let mut tables = load_changed(rt, opening, Change::NewOrderLeftOut(2, 9));
     pass_over(rt, &mut tables, &mut Queue::new(rt.alloc()))
 }
 

@@ -3,7 +3,7 @@ ghost use Rattle.std.specs.Prelude.{◌≡◌, None};
 ghost use Rattle.std.specs.Thread.{IsSync};
 ghost use Rattle.tpcc_mailbox.specs.Tokens.{identity, serving_origin, serving_hand};
 
-use super::{Story, is_paid, last_of, let_go, posted, told};
+use super::{Story, is_paid, last_of, let_go, post, told};
 use crate::plain_turn::PlainTurn;
 use std::alloc::Global;
 use std::process::Abort;
@@ -70,8 +70,8 @@ pub(super) fn held_up<
     let last = last_of(rt, &mut idles, &mailboxes);
     let first = last_of(rt, &mut idles, &mailboxes);
     let_go(idles);
-    let first = posted(&mailboxes, first, one, PlainTurn);
-    let last = posted(&mailboxes, last, two, PlainTurn);
+    let first = post(&mailboxes, first, one, PlainTurn);
+    let last = post(&mailboxes, last, two, PlainTurn);
     mailboxes.close(&mut serving);
     let other = serving.split(&mailboxes);
     both_serve(rt, &mailboxes, turns, serving, other, keeper, stand_in);

@@ -2,7 +2,7 @@
 ghost use Rattle.std.specs.Prelude.{◌≡◌};
 ghost use Rattle.tpcc_mailbox.specs.Tokens.{identity, client_origin, idle_origin, waiting_origin, serving_origin};
 
-use super::{CountedTurn, One, Story, let_go, make_one, payment, posted, told};
+use super::{CountedTurn, One, Story, let_go, make_one, payment, post, told};
 use std::alloc::Global;
 use std::process::Abort;
 use std::sync::Wait;
@@ -53,12 +53,12 @@ fn no_answer<N: Naming, T: Seating, C: OneTurn, R: Wait + Abort>(
         mut serving,
     } = make_one(rt, alloc);
     mailboxes.close(&mut serving);
-    let waiting = unanswered(rt, &mailboxes, idle, job);
-    letter_of(rt, reclaimed(rt, alloc, mailboxes, waiting, serving))
+    let waiting = ask_in_vain(rt, &mailboxes, idle, job);
+    letter_of(rt, reclaim(rt, alloc, mailboxes, waiting, serving))
 }
 
 /// Asks a job in vain.
-fn unanswered<N: Naming, T: Seating, C: Drop, R: Wait + Abort>(
+fn ask_in_vain<N: Naming, T: Seating, C: Drop, R: Wait + Abort>(
     rt: &R,
     mailboxes: &JobMailboxes<N, T, C>,
     idle: JobIdle<N, T, C>,
@@ -92,7 +92,7 @@ fn reply_of<J: Drop, A: Drop, R: Abort>(rt: &R, left: Left<J, A>) -> A {
 type JobLeft<N, T, C> = Left<Job<N, T, C>, JobAnswer<N, T>>;
 
 /// What is left for the only client.
-fn reclaimed<N: Naming, T: Seating, C: Drop, R: Abort>(
+fn reclaim<N: Naming, T: Seating, C: Drop, R: Abort>(
     rt: &R,
     alloc: Global,
     mailboxes: JobMailboxes<N, T, C>,
@@ -150,9 +150,9 @@ fn answer_left<N: Naming, T: Seating, C: OneTurn, R: Wait + Abort>(
         idle,
         mut serving,
     } = make_one(rt, alloc);
-    let waiting = posted(&mailboxes, idle, purse, call);
+    let waiting = post(&mailboxes, idle, purse, call);
     let (served, keeper) = serve_round(rt, &mailboxes, &mut serving, turns, &mut OpenGate, keeper);
     let_go(keeper);
-    let left = reclaimed(rt, alloc, mailboxes, waiting, serving);
+    let left = reclaim(rt, alloc, mailboxes, waiting, serving);
     (served, reply_of(rt, left))
 }

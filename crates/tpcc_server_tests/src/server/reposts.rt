@@ -2,7 +2,7 @@
 ghost use Rattle.std.specs.Prelude.{◌≡◌};
 ghost use Rattle.tpcc_mailbox.specs.Tokens.{identity, serving_origin, waiting_origin};
 
-use super::{One, Story, let_go, make_one, posted, told};
+use super::{One, Story, let_go, make_one, post, told};
 use crate::plain_turn::PlainTurn;
 use std::alloc::Global;
 use std::process::Abort;
@@ -53,7 +53,7 @@ impl<'a, N: Naming, T: Seating> Reposter<'a, N, T> {
             return;
         };
         let (_, _, _, purse) = answer.into_parts();
-        let_go(posted(mailboxes, idle, purse, PlainTurn));
+        let_go(post(mailboxes, idle, purse, PlainTurn));
         mailboxes.close(&mut closer);
         let_go(closer)
     }
@@ -79,7 +79,7 @@ pub(super) fn closed_meanwhile<N: Naming, T: Seating, R: Wait + Abort>(
         mut serving,
     } = make_one(rt, alloc);
     let closer = serving.split(&mailboxes);
-    let waiting = posted(&mailboxes, idle, one, PlainTurn);
+    let waiting = post(&mailboxes, idle, one, PlainTurn);
     let gate = Reposting {
         client: Some(Reposter {
             mailboxes: &mailboxes,

@@ -2,7 +2,7 @@
 ghost use Rattle.std.specs.Prelude.{◌≡◌, All, None};
 ghost use Rattle.tpcc_mailbox.specs.Tokens.{identity, idle_origin, waiting_origin, serving_origin, serving_hand};
 
-use super::{CountedTurn, Story, is_paid, last_of, let_go, posted, told};
+use super::{CountedTurn, Story, is_paid, last_of, let_go, post, told};
 use std::alloc::Global;
 use std::process::Abort;
 use std::sync::Wait;
@@ -56,7 +56,7 @@ fn limits_are_kept_and_no_job_is_passed_over(rt: HostRuntime) {
 }
 
 /// Jobs lie in the first and the last of three mailboxes.
-pub(super) fn limited<N: Naming, T: Seating, R: Wait + Abort>(
+pub(super) fn serve_to_limits<N: Naming, T: Seating, R: Wait + Abort>(
     rt: &R,
     alloc: Global,
     turns: &Turns<N, T>,
@@ -67,7 +67,7 @@ pub(super) fn limited<N: Naming, T: Seating, R: Wait + Abort>(
     let made = AtomicU64::new(0);
     let opened = JobMailboxes::<N, T, CountedTurn>::new(alloc, 3);
     let (mailboxes, idles, serving) = opened.expect(rt, "memory for three mailboxes");
-    let (first, last) = outer_posted(rt, &mailboxes, idles, one, two, &made);
+    let (first, last) = post_outer(rt, &mailboxes, idles, one, two, &made);
     one_by_one(rt, &mailboxes, turns, serving, keeper, &made);
     is_paid(rt, &mailboxes, first);
     is_paid(rt, &mailboxes, last);
@@ -75,7 +75,7 @@ pub(super) fn limited<N: Naming, T: Seating, R: Wait + Abort>(
 }
 
 /// Posts in the first and the last of three mailboxes.
-fn outer_posted<'a, N: Naming, T: Seating, R: Abort>(
+fn post_outer<'a, N: Naming, T: Seating, R: Abort>(
     rt: &R,
     mailboxes: &JobMailboxes<N, T, CountedTurn<'a>>,
     idles: Vec<JobIdle<N, T, CountedTurn<'a>>>,
@@ -94,8 +94,8 @@ fn outer_posted<'a, N: Naming, T: Seating, R: Abort>(
     let last = last_of(rt, &mut idles, mailboxes);
     let_go(last_of(rt, &mut idles, mailboxes));
     let first = last_of(rt, &mut idles, mailboxes);
-    let first = posted(mailboxes, first, one, CountedTurn { made });
-    (first, posted(mailboxes, last, two, CountedTurn { made }))
+    let first = post(mailboxes, first, one, CountedTurn { made });
+    (first, post(mailboxes, last, two, CountedTurn { made }))
 }
 
 /// The limit 0 answers none, the limit 1 the first job, a round the last one, and another round none.
