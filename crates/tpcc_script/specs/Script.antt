@@ -120,17 +120,17 @@ deliver_of (at ∷ []) = option_map (λ moment. ask.Deliver moment) (moment_of a
 deliver_of other = None
 
 -- a call that has no words behind its name
-abbrev pub alone : Call → List (List ℕ) → Option Call
-alone call [] = Some call
-alone call (word ∷ words) = None
+abbrev pub call_alone : Call → List (List ℕ) → Option Call
+call_alone call [] = Some call
+call_alone call (word ∷ words) = None
 
 -- what the words behind a name say, of a delivery or a call
 unfoldable pub later_named : List ℕ → List (List ℕ) → Option Call
 later_named name words =
     if bytes_eq name (codes "delivery") then option_map Ask (delivery_of words)
     else if bytes_eq name (codes "deliver") then option_map Ask (deliver_of words)
-    else if bytes_eq name (codes "check") then alone Check words
-    else if bytes_eq name (codes "results") then alone Results words
+    else if bytes_eq name (codes "check") then call_alone Check words
+    else if bytes_eq name (codes "results") then call_alone Results words
     else None
 
 -- what the words behind a name say

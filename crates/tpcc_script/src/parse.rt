@@ -173,8 +173,8 @@ fn ask(request: Result<Request, ParseFault>) -> Result<Call, ParseFault>
     }
 }
 
-fn alone(call: Call, words: &[&[u8]]) -> Result<Call, ParseFault>
-    ensures { Gives (λ c. c) result (script.alone call (map (λ w. w.now) words.now)) }
+fn call_alone(call: Call, words: &[&[u8]]) -> Result<Call, ParseFault>
+    ensures { Gives (λ c. c) result (script.call_alone call (map (λ w. w.now) words.now)) }
 {
     if words.is_empty() {
         Ok(call)
@@ -192,9 +192,9 @@ fn later_named(name: &[u8], words: &[&[u8]]) -> Result<Call, ParseFault>
     } else if is_word(name, b"deliver") {
         ask(deliver(words))
     } else if is_word(name, b"check") {
-        alone(Call::Check, words)
+        call_alone(Call::Check, words)
     } else if is_word(name, b"results") {
-        alone(Call::Results, words)
+        call_alone(Call::Results, words)
     } else {
         Err(ParseFault::Bad)
     }

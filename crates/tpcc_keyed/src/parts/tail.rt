@@ -32,7 +32,7 @@ impl<T> Model for Tail<T> {
 }
 
 /// The first rows cut off: those left move to the front. Takes no memory.
-fn cut<T: Copy>(all: &mut Vec<T>, gone: usize)
+fn drop_front<T: Copy>(all: &mut Vec<T>, gone: usize)
     requires { gone ≤ vec_len all.old }
     ensures rows { all.new.items ≡ drop gone all.old.items }
     ensures capacity { vec_capacity all.new ≡ vec_capacity all.old }
@@ -53,7 +53,7 @@ fn settle<T: Copy>(all: &mut Vec<T>, gone: usize) -> usize
     if gone <= all.len() - gone {
         return gone;
     }
-    cut(all, gone);
+    drop_front(all, gone);
     0
 }
 
