@@ -16,10 +16,9 @@ pub trait Blank: Copy {
 }
 
 /// At most `N` values, seen as their list; `N` is at most 65,535.
-// Unused places are blank, so that equal lists have equal fields.
 #[derive(Copy)]
 pub struct Few<T: Blank, const N: usize> {
-    /// The values, and blanks behind them.
+    /// The values, and blanks behind them, so that equal lists have equal fields.
     items: [T; N],
     /// How many of them are values.
     len: u16,

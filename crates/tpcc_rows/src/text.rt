@@ -23,10 +23,9 @@ pub enum TextFault {
 /// A text of a column: at most `N` bytes of 32 to 126, seen as their list; `N` is at most 65,535.
 ///
 /// It is a plain value: a copy takes no memory and can't be refused.
-// Unused bytes are 0, so that equal texts have equal fields.
 #[derive(Clone, Copy)]
 pub struct Text<const N: usize> {
-    /// The text, and zeros behind it.
+    /// The text, and zeros behind it, so that equal texts have equal fields.
     bytes: [u8; N],
     /// How many of them are text.
     len: u16,
