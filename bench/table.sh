@@ -3,6 +3,7 @@
 #
 #   bench/table.sh [ROW]...      rows: serial script lines opening check dumps instructions; without any, all of them
 #   bench/table.sh own           the plain program's own figures
+#   bench/table.sh profiles      instructions a request of the product, profile by profile
 #
 # Each row runs both programs with the same words in turn and takes the quickest of RUNS (3) runs of each, in seconds of
 # processor time; memory is the greatest of a run. A call that takes more than LIMIT (300) seconds is said not to have ended.
@@ -194,6 +195,20 @@ row_instructions() {
         "$(ratio "$of_product" "$of_plain")"
 }
 
+# Instructions of a request of one profile in the serial program, where the others are drawn and passed over: what drawing takes is left out.
+profiles() {
+    local number=0 name drawn more entries
+    drawn=$(instructions "$serial" 16 230 4 300 10000 0 6)
+    echo "| Profile | Instructions a request |"
+    echo "|---|---|"
+    for name in New-Order Payment Order-Status Delivery Stock-Level; do
+        number=$((number + 1))
+        more=$(instructions "$serial" 16 230 4 300 10000 0 "$number")
+        entries=$(sed -n 's/^entries //p' "$work/out")
+        echo "| $name | $(echo "$more $drawn $entries" | awk '{ printf "%.0f", ($1 - $2) / $3 }') |"
+    done
+}
+
 # A serial run of the plain program at a scale.
 own_run() {
     "$plain" serial "${@:2}" --terminals 16 --cards 20000 --time 2> "$work/err" > "$work/out"
@@ -217,8 +232,8 @@ own() {
     echo "| the same, plain | $memory MB |"
 }
 
-if [ "${1:-}" = own ]; then
-    own
+if [ "${1:-}" = own ] || [ "${1:-}" = profiles ]; then
+    "$1"
     exit
 fi
 echo "| What | Product | Plain | Ratio | Command |"
