@@ -110,10 +110,8 @@ impl Fields {
     pub fn put_number(&mut self, number: u32) -> Result<(), NoMemory>
         ensures { OnOk result (self.new ≡ self.old ++ decimal number ∷ []) }
     {
-        match number.to_string(self.alloc) {
-            Ok(text) => self.put(text.as_bytes()),
-            Err(_) => Err(NoMemory),
-        }
+        let text = number.to_string(self.alloc)?;
+        self.put(text.as_bytes())
     }
 
     /// Null is an empty field.
@@ -137,20 +135,16 @@ impl Fields {
     pub fn put_amount(&mut self, amount: Cents) -> Result<(), NoMemory>
         ensures { OnOk result (self.new ≡ self.old ++ amount_text amount ∷ []) }
     {
-        match amount.to_string(self.alloc) {
-            Ok(text) => self.put(text.as_bytes()),
-            Err(_) => Err(NoMemory),
-        }
+        let text = amount.to_string(self.alloc)?;
+        self.put(text.as_bytes())
     }
 
     /// A rate with four decimals.
     pub fn put_rate(&mut self, rate: Rate) -> Result<(), NoMemory>
         ensures { OnOk result (self.new ≡ self.old ++ rate_text rate ∷ []) }
     {
-        match rate.to_string(self.alloc) {
-            Ok(text) => self.put(text.as_bytes()),
-            Err(_) => Err(NoMemory),
-        }
+        let text = rate.to_string(self.alloc)?;
+        self.put(text.as_bytes())
     }
 
     /// A moment as `1970-01-01T00:00:00`.

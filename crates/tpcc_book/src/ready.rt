@@ -70,27 +70,6 @@ fn decide(
     order_refusals(journal_refusal(journal, terminal, number), prepared)
 }
 
-fn copy_request(request: &Request) -> Result<Request, Refusal>
-    ensures copy { IfOk result (λ copy. copy ≡ request.now) }
-    ensures refused { IfErr result (λ r. r ≡ Refusal.NoMemory) }
-{
-    match request.duplicate() {
-        Ok(copy) => Ok(copy),
-        Err(_) => Err(Refusal::NoMemory),
-    }
-}
-
-fn make_room(journal: &mut Journal) -> Result<(), Refusal>
-    ensures same { journal.new.entries ≡ journal.old.entries }
-    ensures room { OnOk result (0 < journal.new.room) }
-    ensures refused { IfErr result (λ r. r ≡ Refusal.NoMemory) }
-{
-    match journal.reserve_entry() {
-        Ok(()) => Ok(()),
-        Err(_) => Err(Refusal::NoMemory),
-    }
-}
-
 /// All that a turn needs so that it can't fail, with the copy of its request for the journal.
 #[derive(Drop)]
 pub(crate) struct Ready {
@@ -124,8 +103,8 @@ pub(crate) fn make_ready(
         (Some Refusal.NoMemory) ≡ Some r) }
 {
     let prepared = decide(tables, queue, journal, request, terminal, number)?;
-    let copy = copy_request(request)?;
-    make_room(journal)?;
+    let copy = request.duplicate()?;
+    journal.reserve_entry()?;
     Ok(Ready { prepared, copy })
 }
 

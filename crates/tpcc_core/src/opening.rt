@@ -21,9 +21,7 @@ pub(crate) fn seats<N: Naming>(
     ensures first { OnOk result (first.new
         ≡ record { terminal = 0; entries = 0; paid = pos 0; room = most_purses - terminals }) }
 {
-    let Ok(mut seats) = Vec::with_capacity(alloc, terminals as usize) else {
-        return Err(NoMemory);
-    };
+    let mut seats = Vec::with_capacity(alloc, terminals as usize)?;
     for k in 0..terminals {
         seats.push_reserved(Seat::new(alloc, first.split(k + 1)));
     }
@@ -34,9 +32,7 @@ pub(crate) fn seats<N: Naming>(
 pub(crate) fn servers<P: Drop>(alloc: Global, servers: u32) -> Result<Vec<Server<P>>, NoMemory>
     ensures servers { IfOk result (λ hands. hands.items ≡ hands_of servers) }
 {
-    let Ok(mut hands) = Vec::with_capacity(alloc, servers as usize) else {
-        return Err(NoMemory);
-    };
+    let mut hands = Vec::with_capacity(alloc, servers as usize)?;
     for k in 0..servers {
         hands.push_reserved(Server::new());
     }

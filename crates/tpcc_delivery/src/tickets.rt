@@ -42,10 +42,8 @@ pub fn prepare_ticket(tables: &Tables, queue: &mut Queue, ticket: Ticket) -> Res
     if let Some(refusal) = ticket_refusal(tables, queue, ticket) {
         return Err(refusal);
     }
-    match queue.reserve() {
-        Ok(()) => Ok(()),
-        Err(_) => Err(Refusal::NoMemory),
-    }
+    queue.reserve()?;
+    Ok(())
 }
 
 /// Queues a ticket that was prepared; takes no memory.

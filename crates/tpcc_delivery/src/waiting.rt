@@ -85,10 +85,8 @@ impl Queue {
         ensures same { self.new.tickets ≡ self.old.tickets }
         ensures room { OnOk result (0 < self.new.room) }
     {
-        match self.tickets.reserve(1) {
-            Ok(()) => Ok(()),
-            Err(_) => Err(NoMemory),
-        }
+        self.tickets.reserve(1)?;
+        Ok(())
     }
 
     /// Puts a ticket at the end, with district 1 next.

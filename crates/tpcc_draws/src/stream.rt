@@ -131,13 +131,9 @@ impl Stream {
         ensures order { IfOk result (λ v. IsPermutation (range_with_len 1 n) v.items) }
         ensures err { OnErr result (self.new ≡ self.old) }
     {
-        match upward(alloc, n) {
-            Ok(mut numbers) => {
-                numbers.as_mut_slice().shuffle(&mut self.generator);
-                Ok(numbers)
-            }
-            Err(_) => Err(NoMemory),
-        }
+        let mut numbers = upward(alloc, n)?;
+        numbers.as_mut_slice().shuffle(&mut self.generator);
+        Ok(numbers)
     }
 
     /// The 23 cards of a deck in a drawn order: ten New-Order, ten Payment, and one each of

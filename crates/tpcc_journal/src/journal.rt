@@ -86,13 +86,9 @@ impl Journal {
         ensures same { self.new.entries ≡ self.old.entries }
         ensures room { OnOk result (0 < self.new.room) }
     {
-        if self.tallies.reserve(1).is_err() {
-            return Err(NoMemory);
-        }
-        match self.entries.reserve(1) {
-            Ok(()) => Ok(()),
-            Err(_) => Err(NoMemory),
-        }
+        self.tallies.reserve(1)?;
+        self.entries.reserve(1)?;
+        Ok(())
     }
 
     /// Appends an entry, for which there is room; takes no memory.

@@ -24,19 +24,15 @@ fn add_run(runs: &mut Vec<DistrictDelivery>, run: Option<DistrictDelivery>) -> R
     let Some(run) = run else {
         return Ok(());
     };
-    match runs.push(run) {
-        Ok(()) => Ok(()),
-        Err(_) => Err(NoMemory),
-    }
+    runs.push(run)?;
+    Ok(())
 }
 
 fn add_line(lines: &mut Vec<Delivered>, line: Delivered) -> Result<(), NoMemory>
     ensures { OnOk result (lines.new.items ≡ lines.old.items ++ line ∷ []) }
 {
-    match lines.push(line) {
-        Ok(()) => Ok(()),
-        Err(_) => Err(NoMemory),
-    }
+    lines.push(line)?;
+    Ok(())
 }
 
 fn district_deliveries(alloc: Global, entries: &[Entry]) -> Result<Vec<DistrictDelivery>, NoMemory>

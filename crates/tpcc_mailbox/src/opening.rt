@@ -30,22 +30,16 @@ impl<J, A: Answers<J>> Mailboxes<J, A> {
         ensures open { IfOk result (λ r. serving_saw_closed r.2 ≡ false) }
     {
         // Each mailbox starts as answered with an empty slot, which its client then collects.
-        let Ok(mut words) = Vec::from_elem(alloc, 3u64, word_count(n)) else {
-            return Err(NoMemory);
-        };
+        let mut words = Vec::from_elem(alloc, 3u64, word_count(n))?;
         words[word_index(n)] = 0;
-        let Ok(mut idles) = Vec::with_capacity(alloc, n) else {
-            return Err(NoMemory);
-        };
+        let mut idles = Vec::with_capacity(alloc, n)?;
         let opened: Result<(MailboxTable<J, A>, MailboxSeat<J, A>), AllocError> = Table::vacant(
             alloc,
             words.as_slice(),
             n,
             &(),
         );
-        let Ok((table, mut first)) = opened else {
-            return Err(NoMemory);
-        };
+        let (table, mut first) = opened?;
         for k in 0..n {
             let mut seat = table.shared.split_seat::<MakingClient>(&mut first);
             table

@@ -60,10 +60,8 @@ impl Moment {
     pub fn text(self, alloc: Global) -> Result<Vec<u8>, NoMemory>
         ensures { IfOk result (λ text. text.items ≡ moment_text self) }
     {
-        match self.to_string(alloc) {
-            Ok(text) => Ok(text.into_bytes()),
-            Err(_) => Err(NoMemory),
-        }
+        let text = self.to_string(alloc)?;
+        Ok(text.into_bytes())
     }
 
     fn civil(self) -> DateTime

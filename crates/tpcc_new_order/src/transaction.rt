@@ -73,10 +73,8 @@ pub fn prepare(tables: &mut Tables, order: &Order) -> Result<Prepared, Refusal>
         ≡ Some refusal) }
 {
     let prepared = judge(tables, order)?;
-    match make_room(tables, order, prepared) {
-        Ok(()) => Ok(prepared),
-        Err(_) => Err(Refusal::NoMemory),
-    }
+    make_room(tables, order, prepared)?;
+    Ok(prepared)
 }
 
 /// Writes an order that was prepared on the same rows (2.4.2.2), or nothing where it is rolled back, and gives its

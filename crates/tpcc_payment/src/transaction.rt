@@ -49,10 +49,8 @@ pub fn prepare(tables: &mut Tables, payment: &Payment) -> Result<Prepared, Refus
         ≡ Some refusal) }
 {
     let prepared = judge(tables, payment)?;
-    match tables.reserve_payment() {
-        Ok(()) => Ok(prepared),
-        Err(_) => Err(Refusal::NoMemory),
-    }
+    tables.reserve_payment()?;
+    Ok(prepared)
 }
 
 /// Writes a payment that was prepared on the same rows and gives its reply; takes no memory.

@@ -36,10 +36,8 @@ pub(crate) trait TableRows {
 pub(crate) fn push<X: Copy>(rows: &mut Vec<X>, row: &X) -> Result<(), NoMemory>
     ensures { IfOk result (λ _. rows.new.items ≡ rows.old.items ++ row.now ∷ []) }
 {
-    match rows.push(*row) {
-        Ok(()) => Ok(()),
-        Err(_) => Err(NoMemory),
-    }
+    rows.push(*row)?;
+    Ok(())
 }
 
 /// The rows of `count` numbers from `low` on.

@@ -3,6 +3,7 @@ ghost use Rattle.std.specs.Prelude.{◌≡◌};
 ghost use Rattle.tpcc_rows.specs.RefusalOrder.{refusal_number};
 
 use thiserror::Error;
+use tpcc_money::NoMemory;
 
 /// A column that would leave its range: first the counts, each at most 999,999,999, then the totals.
 #[derive(Clone, Copy, Debug, PartialEq, Eq, Error)]
@@ -87,6 +88,16 @@ pub enum Refusal {
     /// A growth was refused.
     #[error("NoMemory")]
     NoMemory,
+}
+
+impl From<NoMemory> for Refusal {
+    ghost use Rattle.tpcc_rows.specs.declared.refusals.Refusal.TheVariants as refusals;
+
+    ghost from_gives = { λ _ refusal. refusal ≡ refusals.NoMemory };
+
+    fn from(_refused: NoMemory) -> Self {
+        Refusal::NoMemory
+    }
 }
 
 impl Refusal {

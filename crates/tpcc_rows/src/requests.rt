@@ -80,10 +80,8 @@ impl Lines {
     pub fn duplicate(&self) -> Result<Lines, NoMemory>
         ensures equal { IfOk result (λ copy. copy ≡ self.now) }
     {
-        match self.items.clone() {
-            Ok(copy) => Ok(Lines { items: copy }),
-            Err(_) => Err(NoMemory),
-        }
+        let items = self.items.clone()?;
+        Ok(Lines { items })
     }
 }
 

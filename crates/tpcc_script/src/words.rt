@@ -39,14 +39,10 @@ pub fn split(alloc: Global, bytes: &[u8], divider: u8) -> Result<Vec<&[u8]>, NoM
     let mut parts = Vec::new(alloc);
     let mut rest = bytes;
     while let Some((part, more)) = split_once(rest, divider) {
-        if parts.push(part).is_err() {
-            return Err(NoMemory);
-        }
+        parts.push(part)?;
         rest = more;
     }
-    if parts.push(rest).is_err() {
-        return Err(NoMemory);
-    }
+    parts.push(rest)?;
     Ok(parts)
 }
 

@@ -15,16 +15,11 @@ fn renew(cards: &mut Vec<Card>, stream: &mut Stream) -> Result<(), NoMemory>
     ensures refused { OnErr result
         ((cards.new.items ≡ cards.old.items) × (stream.new ≡ stream.old)) }
 {
-    if !cards.is_empty() {
-        return Ok(());
+    if cards.is_empty() {
+        cards.reserve(23)?;
+        cards.extend_from_slice(&stream.deck()).unwrap();
     }
-    match cards.reserve(23) {
-        Ok(()) => {
-            cards.extend_from_slice(&stream.deck()).unwrap();
-            Ok(())
-        }
-        Err(_) => Err(NoMemory),
-    }
+    Ok(())
 }
 
 /// The next card of the deck, or the first one of a new deck. Refused only for want of memory,

@@ -147,16 +147,14 @@ impl OrderDraft {
     fn request(&self, alloc: Global, home: Home, moment: Moment) -> Result<Order, NoMemory>
         ensures order { IfOk result (λ order. order ≡ order_of home moment self.now) }
     {
-        match Vec::from_slice(alloc, self.lines.as_slice()) {
-            Ok(lines) => Ok(Order {
-                warehouse: home.warehouse,
-                district: self.district,
-                customer: self.customer,
-                moment,
-                lines: Lines::new(lines),
-            }),
-            Err(_) => Err(NoMemory),
-        }
+        let lines = Vec::from_slice(alloc, self.lines.as_slice())?;
+        Ok(Order {
+            warehouse: home.warehouse,
+            district: self.district,
+            customer: self.customer,
+            moment,
+            lines: Lines::new(lines),
+        })
     }
 }
 

@@ -74,9 +74,7 @@ pub(crate) fn keep<P: Numbered>(
     let (Ok(reply), Some(place)) = (answer.outcome(), answer.place()) else {
         return Ok(());
     };
-    if receipts.reserve(1).is_err() {
-        return Err(NoMemory);
-    }
+    receipts.reserve(1)?;
     let request = answer.request().duplicate()?;
     receipts.push_reserved(Receipt {
         terminal: answer.purse().terminal(),

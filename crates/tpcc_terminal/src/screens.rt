@@ -46,10 +46,8 @@ impl Screen {
     pub(crate) fn put(&mut self, text: &[u8]) -> Result<(), NoMemory>
         ensures { OnOk result (Adds self.old self.new text.now) }
     {
-        match self.bytes.extend_from_slice(text) {
-            Ok(()) => Ok(()),
-            Err(_) => Err(NoMemory),
-        }
+        self.bytes.extend_from_slice(text)?;
+        Ok(())
     }
 
     pub(crate) fn put_number(&mut self, name: &[u8], number: u32) -> Result<(), NoMemory>
@@ -62,10 +60,8 @@ impl Screen {
         ensures { OnOk result (Adds self.old self.new (name.now ++ decimal count)) }
     {
         self.put(name)?;
-        match count.to_string(self.alloc) {
-            Ok(text) => self.put(text.as_bytes()),
-            Err(_) => Err(NoMemory),
-        }
+        let text = count.to_string(self.alloc)?;
+        self.put(text.as_bytes())
     }
 
     pub(crate) fn put_text<const N: usize>(
@@ -83,20 +79,16 @@ impl Screen {
         ensures { OnOk result (Adds self.old self.new (name.now ++ amount_text amount)) }
     {
         self.put(name)?;
-        match amount.to_string(self.alloc) {
-            Ok(text) => self.put(text.as_bytes()),
-            Err(_) => Err(NoMemory),
-        }
+        let text = amount.to_string(self.alloc)?;
+        self.put(text.as_bytes())
     }
 
     pub(crate) fn put_rate(&mut self, name: &[u8], rate: Rate) -> Result<(), NoMemory>
         ensures { OnOk result (Adds self.old self.new (name.now ++ rate_text rate)) }
     {
         self.put(name)?;
-        match rate.to_string(self.alloc) {
-            Ok(text) => self.put(text.as_bytes()),
-            Err(_) => Err(NoMemory),
-        }
+        let text = rate.to_string(self.alloc)?;
+        self.put(text.as_bytes())
     }
 
     pub(crate) fn put_moment(&mut self, name: &[u8], moment: Moment) -> Result<(), NoMemory>

@@ -79,9 +79,7 @@ impl<N: Naming> UnnamedTurns<N> {
 fn slot_of<B: Drop>(alloc: Global, book: B) -> Result<Vec<Option<B>>, NoMemory>
     ensures slot { IfOk result (λ slots. slots.items ≡ Some book ∷ []) }
 {
-    let Ok(mut slots) = Vec::with_capacity(alloc, 1) else {
-        return Err(NoMemory);
-    };
+    let mut slots = Vec::with_capacity(alloc, 1)?;
     slots.push_reserved(Some(book));
     Ok(slots)
 }
