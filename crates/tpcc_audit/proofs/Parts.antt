@@ -49,15 +49,15 @@ all_wait a xs = record { sent = []; bytes_are = refl; added = appends-none a }
 pub none_waits : (a b : Option (List ℕ)) (xs : List ℕ) → Appends a b xs → Passes a b xs []
 none_waits a b xs h = record { sent = xs; bytes_are = sym (append-nil xs); added = h }
 
-regrouped : (bytes sent waits more : List ℕ) → bytes ≡ sent ++ waits → bytes ++ more ≡ sent ++ (waits ++ more)
-regrouped bytes sent waits more e = ap (λ z. z ++ more) e ∙ append_assoc sent waits more
+append_regroups : (bytes sent waits more : List ℕ) → bytes ≡ sent ++ waits → bytes ++ more ≡ sent ++ (waits ++ more)
+append_regroups bytes sent waits more e = ap (λ z. z ++ more) e ∙ append_assoc sent waits more
 
 -- more bytes behind those that wait: again some are written and others wait
 pub passes-on : (a b c : Option (List ℕ)) (bytes waits more left : List ℕ)
     → Passes a b bytes waits → Passes b c (waits ++ more) left → Passes a c (bytes ++ more) left
 passes-on a b c bytes waits more left h k = record {
   sent = h.sent ++ k.sent;
-  bytes_are = regrouped bytes h.sent waits more h.bytes_are ∙ ap (λ z. h.sent ++ z) k.bytes_are ∙ sym (append_assoc h.sent k.sent left);
+  bytes_are = append_regroups bytes h.sent waits more h.bytes_are ∙ ap (λ z. h.sent ++ z) k.bytes_are ∙ sym (append_assoc h.sent k.sent left);
   added = appends-more a b c h.sent k.sent h.added k.added;
 }
 
@@ -69,7 +69,7 @@ passes-all a b c bytes waits h k = subst (Appends a c) (sym h.bytes_are) (append
 pub passes-part : (a b c : Option (List ℕ)) (bytes waits more : List ℕ)
     → Passes a b bytes waits → AppendsPart b c (waits ++ more) → AppendsPart a c (bytes ++ more)
 passes-part a b c bytes waits more h p =
-    let e = regrouped bytes h.sent waits more h.bytes_are in
+    let e = append_regroups bytes h.sent waits more h.bytes_are in
     subst (AppendsPart a c) (sym e) (record {
       count = length h.sent + p.count;
       within = omega (arith, length-append h.sent (waits ++ more), p.within);
@@ -95,10 +95,10 @@ broken_behind a b c old waits screen (Err e) same before part =
     rw (sym same) (passes-part a b c waits [] screen (none_waits a b waits before) part)
 
 -- what waits is written
-pub flushed : {E : Type 0} (a b c : Option (List ℕ)) (bytes waits now : List ℕ) (r : Result (Unit {0}) E)
+pub flush_passes : {E : Type 0} (a b c : Option (List ℕ)) (bytes waits now : List ℕ) (r : Result (Unit {0}) E)
     → Passes a b bytes waits → OnOk r (Appends b c waits) → OnOk r (now ≡ []) → OnOk r (Passes a c bytes now)
-flushed a b c bytes waits now (Ok done) before added none = rw none (none_waits a c bytes (passes-all a b c bytes waits before added))
-flushed a b c bytes waits now (Err e) before added none = tt
+flush_passes a b c bytes waits now (Ok done) before added none = rw none (none_waits a c bytes (passes-all a b c bytes waits before added))
+flush_passes a b c bytes waits now (Err e) before added none = tt
 
 pub flush_broken : {E : Type 0} (a b c : Option (List ℕ)) (bytes waits : List ℕ) (r : Result (Unit {0}) E)
     → Passes a b bytes waits → OnErr r (AppendsPart b c waits) → OnErr r (AppendsPart a c bytes)

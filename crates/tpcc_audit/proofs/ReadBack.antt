@@ -16,8 +16,8 @@ use Rattle.tpcc_audit.specs.Dump.{IsReadBack, records_text, rows_of}
 use Rattle.tpcc_audit.specs.Records.{record_of, warehouse_record, district_record, customer_record, history_record, order_record, order_line_record, new_order_record, item_record, stock_record}
 
 -- a text that ends with a line feed is not empty
-ended : (a b : List ℕ) → 0 < length (a ++ (b ++ 10 ∷ []))
-ended a b =
+line_is_not_empty : (a b : List ℕ) → 0 < length (a ++ (b ++ 10 ∷ []))
+line_is_not_empty a b =
     let whole = length-append a (b ++ 10 ∷ []) in
     let end = length-append b (10 ∷ []) in
     omega arith
@@ -30,40 +30,40 @@ read_all [] zero h = absurd (omega arith)
 read_all [] (suc n) h = refl
 read_all (first ∷ records) zero h = absurd (omega arith)
 read_all (first ∷ records) (suc n) h =
-    let some : 0 < length (row_text default_writer first) = ended _ _ in
+    let some : 0 < length (row_text default_writer first) = line_is_not_empty _ _ in
     let both = length-append (row_text default_writer first) (records_text records) in
     rw (read-write first (records_text records)) (ap (λ rest. read_back first ∷ rest) (read_all records n (omega arith)))
 
 -- each record has a field
-named : (t : Table) → read_back (columns t) ≡ columns t
-named table.Warehouse = refl
-named table.District = refl
-named table.Customer = refl
-named table.History = refl
-named table.Order = refl
-named table.OrderLine = refl
-named table.NewOrder = refl
-named table.Item = refl
-named table.Stock = refl
+names_read_back : (t : Table) → read_back (columns t) ≡ columns t
+names_read_back table.Warehouse = refl
+names_read_back table.District = refl
+names_read_back table.Customer = refl
+names_read_back table.History = refl
+names_read_back table.Order = refl
+names_read_back table.OrderLine = refl
+names_read_back table.NewOrder = refl
+names_read_back table.Item = refl
+names_read_back table.Stock = refl
 
-recorded : (r : Row) → read_back (record_of r) ≡ record_of r
+record_reads_back : (r : Row) → read_back (record_of r) ≡ record_of r
 unfolding warehouse_record district_record customer_record history_record order_record order_line_record new_order_record item_record stock_record
-recorded (row.Warehouse w) = refl
-recorded (row.District d) = refl
-recorded (row.Customer c) = refl
-recorded (row.History h) = refl
-recorded (row.Order o) = refl
-recorded (row.OrderLine l) = refl
-recorded (row.NewOrder n) = refl
-recorded (row.Item i) = refl
-recorded (row.Stock s) = refl
+record_reads_back (row.Warehouse w) = refl
+record_reads_back (row.District d) = refl
+record_reads_back (row.Customer c) = refl
+record_reads_back (row.History h) = refl
+record_reads_back (row.Order o) = refl
+record_reads_back (row.OrderLine l) = refl
+record_reads_back (row.NewOrder n) = refl
+record_reads_back (row.Item i) = refl
+record_reads_back (row.Stock s) = refl
 
 all_recorded : (rows : List Row) → map read_back (map record_of rows) ≡ map record_of rows
 all_recorded [] = refl
-all_recorded (r ∷ rows) = (λ i. recorded r i ∷ map read_back (map record_of rows)) ∙ ap (λ rest. record_of r ∷ rest) (all_recorded rows)
+all_recorded (r ∷ rows) = (λ i. record_reads_back r i ∷ map read_back (map record_of rows)) ∙ ap (λ rest. record_of r ∷ rest) (all_recorded rows)
 
 pub is_read_back : (rows : Rows) (t : Table) → IsReadBack rows t
 is_read_back rows t =
     read_all (columns t ∷ map record_of (rows_of rows t)) _ (omega arith)
-    ∙ (λ i. named t i ∷ map read_back (map record_of (rows_of rows t)))
+    ∙ (λ i. names_read_back t i ∷ map read_back (map record_of (rows_of rows t)))
     ∙ ap (λ rest. columns t ∷ rest) (all_recorded (rows_of rows t))

@@ -7,7 +7,7 @@ use Rattle.tpcc_rows.specs.declared.entry.Entry.{Entry}
 use Rattle.tpcc_population.specs.declared.opening.Opening.{Opening}
 use Rattle.tpcc_book.specs.Past.{Past}
 use Rattle.tpcc_book.specs.Closing.{IsLeft}
-use Rattle.tpcc_book.specs.Seats.{Seated}
+use Rattle.tpcc_book.specs.Seats.{SeatedView}
 use Rattle.tpcc_terminal.specs.declared.receipts.Receipt.{Receipt}
 use Rattle.tpcc_terminal.specs.Receipts.{Stands, AllStand}
 use Rattle.tpcc_audit.specs.Settlement.{AllSeen, IsUnsettled}
@@ -29,15 +29,15 @@ abbrev pub Stay : Type 0
 Stay = (entries longer : List Entry) (receipts : List Receipt) → IsPrefix entries longer → AllStand entries receipts → AllStand longer receipts
 
 -- they stand in a journal that begins with each front
-pub seen_stand : Stay → (purses : List Seated) (journal : List Entry) (receipts : List Receipt) → AllSeen purses receipts → All (λ p. IsPrefix p.front journal) purses → AllStand journal receipts
+pub seen_stand : Stay → (purses : List SeatedView) (journal : List Entry) (receipts : List Receipt) → AllSeen purses receipts → All (λ p. IsPrefix p.front journal) purses → AllStand journal receipts
 seen_stand stay purses journal receipts seen begin k d below =
     let s = seen k d below in
     let r = slice_index_or receipts k d in
-    let begins = at_place (λ (p : Seated). IsPrefix p.front journal) purses s.place s.purse begin s.there in
+    let begins = at_place (λ (p : SeatedView). IsPrefix p.front journal) purses s.place s.purse begin s.there in
     stay s.purse.front journal (r ∷ []) begins (one s.purse.front r s.stands) zero r (omega arith)
 
 -- also where a purse is missing
-pub left_stand : Stay → (start : Opening) (purses : List Seated) (receipts : List Receipt) (book : Option Past) → AllSeen purses receipts → IfSome book (IsLeft start purses) → IfSome book (IsUnsettled start purses receipts)
+pub left_stand : Stay → (start : Opening) (purses : List SeatedView) (receipts : List Receipt) (book : Option Past) → AllSeen purses receipts → IfSome book (IsLeft start purses) → IfSome book (IsUnsettled start purses receipts)
 left_stand stay start purses receipts None seen left = tt
 left_stand stay start purses receipts (Some book) seen left =
     record { left = left; stand = seen_stand stay purses book.entries receipts seen left.begins }

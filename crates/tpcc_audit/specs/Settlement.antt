@@ -2,31 +2,31 @@
 use Rattle.std.specs.Prelude.{ℕ, ◌≡◌, List, All, Some, slice_get}
 use Rattle.tpcc_population.specs.declared.opening.Opening.{Opening}
 use Rattle.tpcc_book.specs.Past.{Past, rise_of}
-use Rattle.tpcc_book.specs.Seats.{Seated}
+use Rattle.tpcc_book.specs.Seats.{SeatedView}
 use Rattle.tpcc_book.specs.Closing.{IsLeft, IsGathered}
 use Rattle.tpcc_terminal.specs.declared.receipts.Receipt.{Receipt}
 use Rattle.tpcc_terminal.specs.declared.report.Report.{Report}
 use Rattle.tpcc_terminal.specs.Receipts.{Stands, AllStand}
 
 -- a receipt stands in the front of one of these purses
-pub record IsSeen (purses : List Seated) (receipt : Receipt) : Type 0 where
+pub record IsSeen (purses : List SeatedView) (receipt : Receipt) : Type 0 where
   pub place : ℕ
-  pub purse : Seated
+  pub purse : SeatedView
   pub there : slice_get purses place ≡ Some purse
   pub stands : Stands purse.front receipt
 
-abbrev pub AllSeen : List Seated → List Receipt → Type 0
+abbrev pub AllSeen : List SeatedView → List Receipt → Type 0
 AllSeen purses receipts = All (IsSeen purses) receipts
 
 -- all purses are there: their entries are the journal's, what they paid is the rise of W_YTD, and each
 -- receipt is the journal's entry at its place
-pub record IsSettled (start : Opening) (purses : List Seated) (receipts : List Receipt) (book : Past) (report : Report) : Type 0 where
+pub record IsSettled (start : Opening) (purses : List SeatedView) (receipts : List Receipt) (book : Past) (report : Report) : Type 0 where
   pub gathered : IsGathered start purses book report.entries report.paid
   pub rise_is : report.rise ≡ rise_of book
   pub equal : report.paid ≡ report.rise
   pub stand : AllStand book.entries receipts
 
 -- a purse is missing: each receipt is the journal's entry at its place all the same
-pub record IsUnsettled (start : Opening) (purses : List Seated) (receipts : List Receipt) (book : Past) : Type 0 where
+pub record IsUnsettled (start : Opening) (purses : List SeatedView) (receipts : List Receipt) (book : Past) : Type 0 where
   pub left : IsLeft start purses book
   pub stand : AllStand book.entries receipts

@@ -10,9 +10,9 @@ use Rattle.atomic_table.proofs.Lists.{one_turn}
 use Rattle.tpcc_rows.specs.declared.entry.Entry.{Entry}
 use Rattle.tpcc_population.specs.declared.opening.Opening.{Opening}
 use Rattle.tpcc_book.specs.Past.{Past}
-use Rattle.tpcc_book.specs.Seats.{Seated, purses_of}
+use Rattle.tpcc_book.specs.Seats.{SeatedView, purses_of}
 use Rattle.tpcc_book.specs.Serve.{rooms_of}
-use Rattle.tpcc_book.specs.Purses.{Pooled, all_parts}
+use Rattle.tpcc_book.specs.Purses.{PoolView, all_parts}
 use Rattle.tpcc_book.specs.Closing.{TellsBook, IsLeft, IsAudited, IsGathered}
 use Rattle.tpcc_book.specs.Gathering.{AreAll, HasSeen, AllBegin, HasJoined}
 use Rattle.tpcc_book.specs.declared.turns.knows.Knows.{Knows}
@@ -67,8 +67,8 @@ record Found (start : Opening) (log : List Entry) (slot : Option Past) : Type 0 
   opening : book.opening ≡ start
   entries : book.entries ≡ log
 
-found : (start : Opening) (words : List ℕ) (slots : List (Option Past)) (told : Option Past) (last : Final (IsTurning start) words slots) (t : TellsBook words slots told) → t.drawn ≡ t.served → Found start last.1.log t.slot
-found start words slots told last t same =
+book_is_found : (start : Opening) (words : List ℕ) (slots : List (Option Past)) (told : Option Past) (last : Final (IsTurning start) words slots) (t : TellsBook words slots told) → t.drawn ≡ t.served → Found start last.1.log t.slot
+book_is_found start words slots told last t same =
     let s = last.0 in
     let h : IsTurning start s = last.1 in
     let agree : h.served % 2 ^ 64 ≡ h.drawn % 2 ^ 64 = sym (served_found start s h words t.served last.2 t.served_is) ∙ (sym same ∙ drawn_found start s h words t.drawn last.2 t.drawn_is) in
@@ -77,14 +77,14 @@ found start words slots told last t same =
     record { book = home.book; is = slot_found slots t.slot home.book t.slot_is there; opening = home.opening; entries = home.entries }
 
 -- what is told is the book, whose journal begins with every front that the rule tells of
-pub tells_book : (start : Opening) (words : List ℕ) (slots : List (Option Past)) (told : Option Past) (purses : List Seated) (last : Final (IsTurning start) words slots) → TellsBook words slots told → AllBegin purses last.1.log → IfSome told (IsLeft start purses)
+pub tells_book : (start : Opening) (words : List ℕ) (slots : List (Option Past)) (told : Option Past) (purses : List SeatedView) (last : Final (IsTurning start) words slots) → TellsBook words slots told → AllBegin purses last.1.log → IfSome told (IsLeft start purses)
 tells_book start words slots told purses last t begin = go told refl
   where
     go : (o : Option Past) → told ≡ o → IfSome o (IsLeft start purses)
     go None e = tt
     go (Some book) e =
         let same = told_same t.drawn t.served t.slot told book t.told_is e in
-        let f = found start words slots told last t same in
+        let f = book_is_found start words slots told last t same in
         let b : f.book ≡ book = some_of f.book book (sym f.is ∙ (sym (told_there t.drawn t.served t.slot told t.told_is same) ∙ e)) in
         record {
           opening = ap (λ (p : Past). p.opening) (sym b) ∙ f.opening;
@@ -99,12 +99,12 @@ none_left : (log : List Entry) → AllBegin [] log
 none_left log k d lt = absurd (omega (arith, lt))
 
 -- no purse, no front
-pub closes_alone : (start : Opening) (words : List ℕ) (slots : List (Option Past)) (told : Option Past) (purses : List Seated) → Final (IsTurning start) words slots → TellsBook words slots told → purses ≡ [] → IfSome told (IsLeft start purses)
+pub closes_alone : (start : Opening) (words : List ℕ) (slots : List (Option Past)) (told : Option Past) (purses : List SeatedView) → Final (IsTurning start) words slots → TellsBook words slots told → purses ≡ [] → IfSome told (IsLeft start purses)
 closes_alone start words slots told purses last t none =
-    tells_book start words slots told purses last t (subst (λ (ps : List Seated). AllBegin ps last.1.log) (sym none) (none_left last.1.log))
+    tells_book start words slots told purses last t (subst (λ (ps : List SeatedView). AllBegin ps last.1.log) (sym none) (none_left last.1.log))
 
 -- the fronts of all purses that were joined into one seat
-pub closes_joined : (start : Opening) (id : ℕ) (v : Knows) (words : List ℕ) (slots : List (Option Past)) (told : Option Past) (purses : List Seated) (pool : Pooled) → Last start id v words slots → TellsBook words slots told → HasJoined purses [] pool v → IfSome told (IsLeft start purses)
+pub closes_joined : (start : Opening) (id : ℕ) (v : Knows) (words : List ℕ) (slots : List (Option Past)) (told : Option Past) (purses : List SeatedView) (pool : PoolView) → Last start id v words slots → TellsBook words slots told → HasJoined purses [] pool v → IfSome told (IsLeft start purses)
 closes_joined start id v words slots told purses pool last t joined =
     let ended : Final (IsTurning start) words slots = (last.0, last.1.0, last.2, last.3, last.4) in
     tells_book start words slots told purses ended t (joined.fronts last.1.0.log (seen_of start last.0 last.1.0 id v last.1.1) (none_left last.1.0.log))
@@ -120,11 +120,11 @@ is_there start id v words slots told last t idle all none =
     let ended : Final (IsTurning start) words slots = (last.0, last.1.0, last.2, last.3, last.4) in
     let done = none_out start s id v h last.1.1 idle all in
     let served : t.drawn ≡ t.served = drawn_found start s h words t.drawn last.2 t.drawn_is ∙ (ap (λ (n : ℕ). n % 2 ^ 64) done ∙ sym (served_found start s h words t.served last.2 t.served_is)) in
-    let f = found start words slots told ended t served in
+    let f = book_is_found start words slots told ended t served in
     no_book f.book (sym none ∙ (told_there t.drawn t.served t.slot told t.told_is served ∙ f.is))
 
 -- what is gathered, refused or left, by what was found and what is pooled
-module _ (start : Opening) (purses : List Seated) (pool : Pooled) (told : Option Past) (shares : AreAll (purses_of purses) pool []) (left : IfSome told (IsLeft start purses)) where
+module _ (start : Opening) (purses : List SeatedView) (pool : PoolView) (told : Option Past) (shares : AreAll (purses_of purses) pool []) (left : IfSome told (IsLeft start purses)) where
   abbrev Ended : Type 0
   Ended = Result (Past × ℕ × ℤ) (Option Past)
 

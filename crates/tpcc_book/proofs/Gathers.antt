@@ -4,7 +4,7 @@ use Rattle.std.specs.Prelude.{◌+ℤ◌, Option}
 use Rattle.std.specs.Option.{option_to_list}
 use Rattle.std.proofs.lemmas.Int.{ints}
 use Rattle.std.proofs.lemmas.List.Sums.{sum_by-append}
-use Rattle.tpcc_book.specs.Purses.{PurseView, Pooled, pool_of, pooled}
+use Rattle.tpcc_book.specs.Purses.{PurseView, PoolView, pool_of, pool_with}
 use Rattle.tpcc_book.specs.Serve.{rooms_of, entries_of, paid_of}
 use Rattle.tpcc_book.specs.Gathering.{AreAll}
 
@@ -26,18 +26,18 @@ paid_push (q ∷ purses) p = omega (arith, ints, paid_push purses p)
 pub popped_is : {X : Type 0} (all rest : List X) (popped : Option X) (x : X) → all ≡ rest ++ option_to_list popped → popped ≡ Some x → all ≡ rest ++ x ∷ []
 popped_is {X} all rest popped x split is = split ∙ ap (λ (o : Option X). rest ++ option_to_list o) is
 
-pub first_pooled : (purses rest : List PurseView) (pool : Pooled) (p : PurseView) → purses ≡ rest ++ p ∷ [] → pool ≡ pool_of p → AreAll purses pool rest
+pub first_pooled : (purses rest : List PurseView) (pool : PoolView) (p : PurseView) → purses ≡ rest ++ p ∷ [] → pool ≡ pool_of p → AreAll purses pool rest
 first_pooled purses rest pool p same one =
     record {
-      rooms = omega (arith, rooms_push rest p, ap rooms_of same, ap (λ (q : Pooled). q.parts) one);
-      entries = omega (arith, entries_push rest p, ap entries_of same, ap (λ (q : Pooled). q.entries) one);
-      paid = omega (arith, ints, paid_push rest p, ap paid_of same, ap (λ (q : Pooled). q.paid) one);
+      rooms = omega (arith, rooms_push rest p, ap rooms_of same, ap (λ (q : PoolView). q.parts) one);
+      entries = omega (arith, entries_push rest p, ap entries_of same, ap (λ (q : PoolView). q.entries) one);
+      paid = omega (arith, ints, paid_push rest p, ap paid_of same, ap (λ (q : PoolView). q.paid) one);
     }
 
-pub one_more_pooled : (purses rest left : List PurseView) (pool now : Pooled) (p : PurseView) → AreAll purses pool rest → rest ≡ left ++ p ∷ [] → now ≡ pooled pool p → AreAll purses now left
+pub one_more_pooled : (purses rest left : List PurseView) (pool now : PoolView) (p : PurseView) → AreAll purses pool rest → rest ≡ left ++ p ∷ [] → now ≡ pool_with pool p → AreAll purses now left
 one_more_pooled purses rest left pool now p before same more =
     record {
-      rooms = omega (arith, before.rooms, rooms_push left p, ap rooms_of same, ap (λ (q : Pooled). q.parts) more);
-      entries = omega (arith, before.entries, entries_push left p, ap entries_of same, ap (λ (q : Pooled). q.entries) more);
-      paid = omega (arith, ints, before.paid, paid_push left p, ap paid_of same, ap (λ (q : Pooled). q.paid) more);
+      rooms = omega (arith, before.rooms, rooms_push left p, ap rooms_of same, ap (λ (q : PoolView). q.parts) more);
+      entries = omega (arith, before.entries, entries_push left p, ap entries_of same, ap (λ (q : PoolView). q.entries) more);
+      paid = omega (arith, ints, before.paid, paid_push left p, ap paid_of same, ap (λ (q : PoolView). q.paid) more);
     }

@@ -12,16 +12,16 @@ use Rattle.tpcc_rows.specs.declared.refusals.Refusal.{Refusal}
 use Rattle.tpcc_rows.specs.Replay.{count_of, paid_by_request}
 use Rattle.tpcc_book.specs.Past.{Past, IsKept}
 use Rattle.tpcc_book.specs.Purses.{PurseView}
-use Rattle.tpcc_book.specs.Told.{Told}
-use Rattle.tpcc_book.specs.Serve.{IsServed, credited}
-use Rattle.tpcc_book.specs.Seats.{Seated, start_of, front_of, number_of, keeping, IsTurned}
+use Rattle.tpcc_book.specs.AnswerView.{AnswerView}
+use Rattle.tpcc_book.specs.Serve.{IsServed, purse_after}
+use Rattle.tpcc_book.specs.Seats.{SeatedView, start_of, front_of, number_of, turn_holder, IsTurned}
 use Rattle.tpcc_book.specs.Shares.{heard_of, both_of, last_parts, freed_of, back_of}
-use Rattle.tpcc_book.specs.TurnRule.{knows, IsHeard, Grew}
-use Rattle.tpcc_book.specs.TurnSteps.{Taken, Giving, Growing, CanGrow, Shown}
+use Rattle.tpcc_book.specs.TurnRule.{knows, IsHeard, HasGrown}
+use Rattle.tpcc_book.specs.TurnSteps.{HasTaken, CanGive, CanShow, CanGrow, HasShown}
 use Rattle.tpcc_book.specs.declared.turns.knows.Knows.{Knows}
 use Rattle.tpcc_book.specs.declared.turns.knows.Stage.TheVariants.{Idle, Holds}
 use Rattle.tpcc_book.proofs.Seats.{prefix_self}
-use Rattle.tpcc_book.proofs.Serves.{own_of, grown, same_opening, head_same}
+use Rattle.tpcc_book.proofs.Serves.{own_of, entries_grow, same_opening, head_same}
 use Rattle.tpcc_book.proofs.Grows.{base_of}
 
 abbrev Mine : Type 0
@@ -29,7 +29,7 @@ Mine = Me (Option Past) Knows
 
 -- ---- showing the journal
 
-pub can_grow : (me now : Mine) (book : Past) → Growing me book → now ≡ (me.0, (0, Some book) ∷ rest me.1) → CanGrow now
+pub can_grow : (me now : Mine) (book : Past) → CanShow me book → now ≡ (me.0, (0, Some book) ∷ rest me.1) → CanGrow now
 can_grow me now book g e =
     record {
       number = g.number;
@@ -41,14 +41,14 @@ can_grow me now book g e =
       some_part = subst (λ (m : Mine). 0 < m.0.parts) (sym e) g.some_part;
     }
 
-pub slot_of : (me put : Mine) (book : Past) → Growing me book → put ≡ (me.0, (0, Some book) ∷ rest me.1) → put.1 ≡ (0, Some book) ∷ []
+pub slot_of : (me put : Mine) (book : Past) → CanShow me book → put ≡ (me.0, (0, Some book) ∷ rest me.1) → put.1 ≡ (0, Some book) ∷ []
 slot_of me put book g e = ap (λ (m : Mine). m.1) e ∙ ap (λ (c : List (ℕ × Option Past)). (0, Some book) ∷ rest c) g.slot
 
-pub grew_of : (me put now : Mine) (book : Past) (g : Growing me book) → put ≡ (me.0, (0, Some book) ∷ rest me.1)
-    → ((number : ℕ) (base : List Entry) (b : Past) → put.0.stage ≡ Holds number base → put.1 ≡ (0, Some b) ∷ [] → Grew put number base b now) → Grew put g.number g.base book now
-grew_of me put now book g e grown = grown g.number g.base book (ap (λ (m : Mine). m.0.stage) e ∙ g.stage) (slot_of me put book g e)
+pub grew_of : (me put now : Mine) (book : Past) (g : CanShow me book) → put ≡ (me.0, (0, Some book) ∷ rest me.1)
+    → ((number : ℕ) (base : List Entry) (b : Past) → put.0.stage ≡ Holds number base → put.1 ≡ (0, Some b) ∷ [] → HasGrown put number base b now) → HasGrown put g.number g.base book now
+grew_of me put now book g e grows = grows g.number g.base book (ap (λ (m : Mine). m.0.stage) e ∙ g.stage) (slot_of me put book g e)
 
-pub in_slot : (put now : Mine) (n : ℕ) (base : List Entry) (book : Past) → put.1 ≡ (0, Some book) ∷ [] → Grew put n base book now → now.1 ≡ (0, Some book) ∷ rest now.1
+pub in_slot : (put now : Mine) (n : ℕ) (base : List Entry) (book : Past) → put.1 ≡ (0, Some book) ∷ [] → HasGrown put n base book now → now.1 ≡ (0, Some book) ∷ rest now.1
 in_slot put now n base book slot grew =
     let e : now.1 ≡ (0, Some book) ∷ [] = ap (λ (m : Mine). m.1) grew.now_is ∙ slot in
     e ∙ ap (λ (c : List (ℕ × Option Past)). (0, Some book) ∷ c) (sym (ap rest e))
@@ -67,7 +67,7 @@ pub same_book : (now : Mine) (book found : Past) (x : Option Past) → now.1 ≡
 same_book now book found x there e is =
     some_of found book (sym is ∙ sym (head_same (Some book) x _ _ (sym there ∙ e)))
 
-pub shown_of : (me put now last : Mine) (book : Past) (g : Growing me book) → put ≡ (me.0, (0, Some book) ∷ rest me.1) → Grew put g.number g.base book now → last ≡ (now.0, (0, None) ∷ rest now.1) → Shown me book last
+pub shown_of : (me put now last : Mine) (book : Past) (g : CanShow me book) → put ≡ (me.0, (0, Some book) ∷ rest me.1) → HasGrown put g.number g.base book now → last ≡ (now.0, (0, None) ∷ rest now.1) → HasShown me book last
 shown_of me put now last book g e grew is =
     let here : now.0 ≡ knows me.0.start book.entries me.0.parts (Holds g.number book.entries) me.0.told = ap (λ (m : Mine). m.0) grew.now_is ∙ (λ i. knows (e i).0.start book.entries (e i).0.parts (Holds g.number book.entries) (e i).0.told) in
     let left : rest now.1 ≡ [] = ap (λ (m : Mine). rest m.1) grew.now_is ∙ (ap (λ (m : Mine). rest m.1) e ∙ ap rest g.slot) in
@@ -81,7 +81,7 @@ shown_of me put now last book g e grew is =
 
 -- ---- a request in a held turn
 
-pub growing_of : (me one : Mine) (w : Knows) (parts : ℕ) (old new : Past) → me ≡ keeping me parts old → 0 < parts → one ≡ (both_of me.0 w, me.1) → IsPrefix old.entries new.entries → Growing one new
+pub growing_of : (me one : Mine) (w : Knows) (parts : ℕ) (old new : Past) → me ≡ turn_holder me parts old → 0 < parts → one ≡ (both_of me.0 w, me.1) → IsPrefix old.entries new.entries → CanShow one new
 growing_of me one w parts old new keeps part is longer =
     record {
       number = number_of me.0.stage;
@@ -92,45 +92,21 @@ growing_of me one w parts old new keeps part is longer =
       some_part = omega (arith, part, ap (λ (m : Mine). m.0.parts) is, ap (λ (m : Mine). m.0.parts) keeps);
     }
 
-last_is : (me one two : Mine) (w : Knows) (new : Past) → one ≡ (both_of me.0 w, me.1) → Shown one new two → last_parts two.0.told ≡ w.parts
+last_is : (me one two : Mine) (w : Knows) (new : Past) → one ≡ (both_of me.0 w, me.1) → HasShown one new two → last_parts two.0.told ≡ w.parts
 last_is me one two w new is shown =
     ap (λ (m : Mine). last_parts m.0.told) shown.now_is ∙ ap (λ (m : Mine). last_parts m.0.told) is
 
-parts_are : (me one two : Mine) (w : Knows) (parts : ℕ) (old new : Past) → me ≡ keeping me parts old → one ≡ (both_of me.0 w, me.1) → Shown one new two → two.0.parts ≡ parts + w.parts
+parts_are : (me one two : Mine) (w : Knows) (parts : ℕ) (old new : Past) → me ≡ turn_holder me parts old → one ≡ (both_of me.0 w, me.1) → HasShown one new two → two.0.parts ≡ parts + w.parts
 parts_are me one two w parts old new keeps is shown =
     omega (arith, ap (λ (m : Mine). m.0.parts) shown.now_is, ap (λ (m : Mine). m.0.parts) is, ap (λ (m : Mine). m.0.parts) keeps)
 
-pub can_free : (me one two : Mine) (w : Knows) (parts : ℕ) (old new : Past) → me ≡ keeping me parts old → 0 < parts → 0 < w.parts → one ≡ (both_of me.0 w, me.1) → Shown one new two
+pub can_free : (me one two : Mine) (w : Knows) (parts : ℕ) (old new : Past) → me ≡ turn_holder me parts old → 0 < parts → 0 < w.parts → one ≡ (both_of me.0 w, me.1) → HasShown one new two
     → (0 < last_parts two.0.told) × (last_parts two.0.told < two.0.parts)
 can_free me one two w parts old new keeps part part' is shown =
     (omega (arith, part', last_is me one two w new is shown), omega (arith, part, last_is me one two w new is shown, parts_are me one two w parts old new keeps is shown))
 
--- the turn's seat when the other is gone
-pub record Freed (me : Mine) (parts : ℕ) (new : Past) (three : Mine) : Type 0 where
-  pub keeps : three ≡ keeping three parts new
-  pub start : three.0.start ≡ me.0.start
-  pub number : number_of three.0.stage ≡ number_of me.0.stage
-
-pub freed : (me one two three : Mine) (w : Knows) (parts : ℕ) (old new : Past) → me ≡ keeping me parts old → one ≡ (both_of me.0 w, me.1) → Shown one new two → three ≡ (freed_of two.0, two.1) → Freed me parts new three
-freed me one two three w parts old new keeps is shown left =
-    let last = last_is me one two w new is shown in
-    let all = parts_are me one two w parts old new keeps is shown in
-    let count : two.0.parts - last_parts two.0.told ≡ parts = omega (arith, last, all) in
-    let front : two.0.front ≡ new.entries = ap (λ (m : Mine). m.0.front) shown.now_is in
-    let stage : two.0.stage ≡ Holds shown.number new.entries = ap (λ (m : Mine). m.0.stage) shown.now_is in
-    let slot : two.1 ≡ (0, None) ∷ [] = ap (λ (m : Mine). m.1) shown.now_is in
-    let here : three ≡ (knows two.0.start new.entries parts (Holds shown.number new.entries) [], (0, None) ∷ []) = left ∙ (λ i. (knows two.0.start (front i) (count i) (stage i) [], slot i)) in
-    let start : three.0.start ≡ two.0.start = ap (λ (m : Mine). m.0.start) here in
-    let number : number_of three.0.stage ≡ shown.number = ap (λ (m : Mine). number_of m.0.stage) here in
-    let begun : shown.number ≡ number_of me.0.stage = sym (ap number_of shown.stage) ∙ ap (λ (m : Mine). number_of m.0.stage) is in
-    record {
-      keeps = here ∙ (λ i. (knows (sym start i) new.entries parts (Holds (sym number i) new.entries) [], (0, None) ∷ []));
-      start = start ∙ (ap (λ (m : Mine). m.0.start) shown.now_is ∙ ap (λ (m : Mine). m.0.start) is);
-      number = number ∙ begun;
-    }
-
 -- what the other seat knows when it is split off
-pub back : (me one two four : Mine) (w : Knows) (old new : Past) (views : List Knows) (room : ℕ) → one ≡ (both_of me.0 w, me.1) → Shown one new two → four ≡ (back_of two.0, []) → views ≡ four.0 ∷ [] → w.parts ≡ room + 1
+pub back : (me one two four : Mine) (w : Knows) (old new : Past) (views : List Knows) (room : ℕ) → one ≡ (both_of me.0 w, me.1) → HasShown one new two → four ≡ (back_of two.0, []) → views ≡ four.0 ∷ [] → w.parts ≡ room + 1
     → views ≡ knows (start_of views) (front_of views) (room + 1) Idle [] ∷ []
 back me one two four w old new views room is shown gone v count =
     let last = last_is me one two w new is shown ∙ count in
@@ -138,22 +114,22 @@ back me one two four w old new views room is shown gone v count =
     here ∙ (λ i. knows (sym (ap start_of here) i) (sym (ap front_of here) i) (room + 1) Idle [] ∷ [])
 
 -- the rooms of a purse stay
-pub room_stays : (request : Request) (held after : PurseView) (outcome : Result Reply Refusal) → MatchResult outcome (λ reply. after ≡ credited held (paid_by_request request)) (λ refusal. after ≡ held) → after.room ≡ held.room
+pub room_stays : (request : Request) (held after : PurseView) (outcome : Result Reply Refusal) → MatchResult outcome (λ reply. after ≡ purse_after held (paid_by_request request)) (λ refusal. after ≡ held) → after.room ≡ held.room
 room_stays request held after (Ok reply) is = ap (λ (h : PurseView). h.room) is
 room_stays request held after (Err refusal) is = ap (λ (h : PurseView). h.room) is
 
-pub longer_of : (old new : Past) (request : Request) (held : PurseView) (answer : Told PurseView) → IsServed old request held answer new → IsPrefix old.entries new.entries
+pub longer_of : (old new : Past) (request : Request) (held : PurseView) (answer : AnswerView PurseView) → IsServed old request held answer new → IsPrefix old.entries new.entries
 longer_of old new request held answer served =
-    grown old new held.terminal held.entries request answer.place answer.outcome served.turn.accepts served.turn.refuses
+    entries_grow old new held.terminal held.entries request answer.place answer.outcome served.turn.accepts served.turn.refuses
 
-pub opening_stays : (old new : Past) (request : Request) (held : PurseView) (answer : Told PurseView) → IsServed old request held answer new → new.opening ≡ old.opening
+pub opening_stays : (old new : Past) (request : Request) (held : PurseView) (answer : AnswerView PurseView) → IsServed old request held answer new → new.opening ≡ old.opening
 opening_stays old new request held answer served =
     same_opening old new held.terminal held.entries request answer.place answer.outcome served.turn.accepts served.turn.refuses
 
 -- one turn of the book for the purse that asked
-pub turned_within : (held after : PurseView) (views views' : List Knows) (purse : Seated) (me one two four : Mine) (w : Knows) (parts : ℕ) (old new : Past) (answer : Told PurseView) (request asked : Request) (outcome : Result Reply Refusal) (place : Option ℕ)
-    → record { purse = held; start = start_of views; front = front_of views } ≡ purse → views ≡ w ∷ [] → me ≡ keeping me parts old → old.opening ≡ me.0.start → one ≡ (both_of me.0 w, me.1) → IsServed old request held answer new
-    → Shown one new two → four ≡ (back_of two.0, []) → views' ≡ four.0 ∷ []
+pub turned_within : (held after : PurseView) (views views' : List Knows) (purse : SeatedView) (me one two four : Mine) (w : Knows) (parts : ℕ) (old new : Past) (answer : AnswerView PurseView) (request asked : Request) (outcome : Result Reply Refusal) (place : Option ℕ)
+    → record { purse = held; start = start_of views; front = front_of views } ≡ purse → views ≡ w ∷ [] → me ≡ turn_holder me parts old → old.opening ≡ me.0.start → one ≡ (both_of me.0 w, me.1) → IsServed old request held answer new
+    → HasShown one new two → four ≡ (back_of two.0, []) → views' ≡ four.0 ∷ []
     → asked ≡ answer.request → outcome ≡ answer.outcome → place ≡ answer.place → after ≡ answer.purse → IsKept new
     → IsTurned request purse (record { request = asked; outcome = outcome; place = place; purse = record { purse = after; start = start_of views'; front = front_of views' } })
 turned_within held after views views' purse me one two four w parts old new answer request asked outcome place is v keeps opening joined served shown gone v' e1 e2 e3 e4 kept =
@@ -161,10 +137,10 @@ turned_within held after views views' purse me one two four w parts old new answ
     let heard : IsHeard one.0.start shown.base (heard_of w) = shown.told (heard_of w) 0 first in
     let stage : one.0.stage ≡ Holds (number_of me.0.stage) old.entries = ap (λ (m : Mine). m.0.stage) joined ∙ ap (λ (m : Mine). m.0.stage) keeps in
     let base : shown.base ≡ old.entries = base_of shown.number (number_of me.0.stage) shown.base old.entries (sym shown.stage ∙ stage) in
-    let theirs : w.start ≡ purse.start = sym (ap start_of v) ∙ ap (λ (p : Seated). p.start) is in
+    let theirs : w.start ≡ purse.start = sym (ap start_of v) ∙ ap (λ (p : SeatedView). p.start) is in
     let mine : w.start ≡ me.0.start = heard.0 ∙ ap (λ (m : Mine). m.0.start) joined in
     let told : answer ≡ record { request = asked; outcome = outcome; place = place; purse = after } = λ i. record { request = sym e1 i; outcome = sym e2 i; place = sym e3 i; purse = sym e4 i } in
-    let it : IsServed old request purse.purse (record { request = asked; outcome = outcome; place = place; purse = after }) new = subst (λ (a : Told PurseView). IsServed old request purse.purse a new) told (subst (λ (h : PurseView). IsServed old request h answer new) (ap (λ (p : Seated). p.purse) is) served) in
+    let it : IsServed old request purse.purse (record { request = asked; outcome = outcome; place = place; purse = after }) new = subst (λ (a : AnswerView PurseView). IsServed old request purse.purse a new) told (subst (λ (h : PurseView). IsServed old request h answer new) (ap (λ (p : SeatedView). p.purse) is) served) in
     let seen : front_of views' ≡ new.entries = ap front_of v' ∙ (ap (λ (m : Mine). m.0.front) gone ∙ ap (λ (m : Mine). m.0.front) shown.now_is) in
     record {
       old = old;
@@ -172,7 +148,7 @@ turned_within held after views views' purse me one two four w parts old new answ
       kept = kept;
       own = λ reply ok. ap (count_of after.terminal) seen ∙ own_of old new request purse.purse after asked outcome place it reply ok;
       opening = opening ∙ (sym mine ∙ theirs);
-      begins = subst (λ (xs : List Entry). IsPrefix xs old.entries) (sym (ap front_of v) ∙ ap (λ (p : Seated). p.front) is) (subst (λ (xs : List Entry). IsPrefix w.front xs) base heard.1);
+      begins = subst (λ (xs : List Entry). IsPrefix xs old.entries) (sym (ap front_of v) ∙ ap (λ (p : SeatedView). p.front) is) (subst (λ (xs : List Entry). IsPrefix w.front xs) base heard.1);
       seen = seen;
       start = ap start_of v' ∙ (ap (λ (m : Mine). m.0.start) gone ∙ (ap (λ (m : Mine). m.0.start) shown.now_is ∙ (ap (λ (m : Mine). m.0.start) joined ∙ (sym mine ∙ theirs))));
       served = it;
@@ -180,7 +156,7 @@ turned_within held after views views' purse me one two four w parts old new answ
 
 -- ---- beginning and ending
 
-pub begins_held : (me two : Mine) (ticket : ℕ) (book : Past) (room : ℕ) → me.0 ≡ knows me.0.start me.0.front (room + 1) Idle [] → (t : Taken me ticket book two) → (two ≡ keeping two (room + 1) book) × (ticket ≡ number_of two.0.stage % 2 ^ 64) × (book.opening ≡ two.0.start) × (two.0.start ≡ me.0.start)
+pub begins_held : (me two : Mine) (ticket : ℕ) (book : Past) (room : ℕ) → me.0 ≡ knows me.0.start me.0.front (room + 1) Idle [] → (t : HasTaken me ticket book two) → (two ≡ turn_holder two (room + 1) book) × (ticket ≡ number_of two.0.stage % 2 ^ 64) × (book.opening ≡ two.0.start) × (two.0.start ≡ me.0.start)
 begins_held me two ticket book room is t =
     let here : two ≡ (knows me.0.start book.entries (room + 1) (Holds t.number book.entries) [], (0, None) ∷ []) = t.now_is ∙ (λ i. (knows me.0.start book.entries (is i).parts (Holds t.number book.entries) (is i).told, (0, None) ∷ [])) in
     let start : two.0.start ≡ me.0.start = ap (λ (m : Mine). m.0.start) here in
@@ -191,7 +167,7 @@ begins_held me two ticket book room is t =
       start,
     )
 
-pub gives_held : (me : Mine) (ticket parts : ℕ) (book : Past) → me ≡ keeping me parts book → ticket ≡ number_of me.0.stage % 2 ^ 64 → book.opening ≡ me.0.start → Giving me ticket book
+pub gives_held : (me : Mine) (ticket parts : ℕ) (book : Past) → me ≡ turn_holder me parts book → ticket ≡ number_of me.0.stage % 2 ^ 64 → book.opening ≡ me.0.start → CanGive me ticket book
 gives_held me ticket parts book keeps ticket_is opening =
     record {
       number = number_of me.0.stage;

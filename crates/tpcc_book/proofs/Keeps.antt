@@ -118,8 +118,8 @@ pub same-state : (rows more : Rows) (queue tickets : List QueuedTicket) → rows
 same-state rows more queue tickets a b = cc
 
 -- a turn's steps, put together
-pub committed : (opening : Opening) (old made new : State) (entries seen now : List Entry) (terminal number : ℕ) (request copy : Request)
+pub turn_is_made : (opening : Opening) (old made new : State) (entries seen now : List Entry) (terminal number : ℕ) (request copy : Request)
     → made ≡ old → seen ≡ entries → copy ≡ request → new ≡ state_after made copy
     → now ≡ seen ++ record { terminal = terminal; number = number; request = copy; reply = reply_to made copy } ∷ []
     → ◌≡◌ {A = Past} (record { opening = opening; state = new; entries = now }) (after (record { opening = opening; state = old; entries = entries }) terminal number request)
-committed opening old made new entries seen now terminal number request copy a b c d e = cc
+turn_is_made opening old made new entries seen now terminal number request copy a b c d e = cc

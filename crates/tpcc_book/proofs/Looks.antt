@@ -12,14 +12,14 @@ use Rattle.tpcc_book.specs.Past.{Past}
 use Rattle.tpcc_book.specs.declared.turns.knows.Knows.{Knows}
 use Rattle.tpcc_book.specs.declared.turns.knows.Stage.{Stage}
 use Rattle.tpcc_book.specs.declared.turns.knows.Stage.TheVariants.{Out, Holds}
-use Rattle.tpcc_book.specs.TurnRule.{knows, out_of, HasTicket, Stands, IsSeated, AtHome, Away, IsTurning, Took, Looked}
+use Rattle.tpcc_book.specs.TurnRule.{knows, out_of, HasTicket, Stands, IsSeated, AtHome, Away, IsTurning, HasBook, LookStep}
 use Rattle.tpcc_book.specs.TurnSteps.{Awaits}
 use Rattle.tpcc_book.proofs.Seats.{total_set, total_le, each_set, apart_set, set_same, prefix_self}
 use Rattle.tpcc_population.specs.declared.opening.Opening.{Opening}
 
 abbrev After : Opening → ℕ → Knows → List (ℕ × Option Past) → Step (Option Past) → State (Option Past) Knows → Type 0
 After start id v c s0 s =
-    (w : Knows) × (a : Act (Option Past)) × Valid s.homes c a × IsTurning start (stepped s 1 (slice_index s.words 1) id c w a) × Looked s0 (v, c) (slice_index s.words 1) (w, carried_after c a)
+    (w : Knows) × (a : Act (Option Past)) × Valid s.homes c a × IsTurning start (stepped s 1 (slice_index s.words 1) id c w a) × LookStep s0 (v, c) (slice_index s.words 1) (w, carried_after c a)
 
 out_same : (a b : ℕ) → Out a ≡ Out b → a ≡ b
 out_same a b e = cc
@@ -100,23 +100,23 @@ looks_by start id v c s0 ticket s h out at false is =
     waits start id v c s0 ticket s h out at (λ now. absurd (grind (arith, nat_tests)))
 
 pub looks : (start : Opening) (slots id : ℕ) (v : Knows) (c : List (ℕ × Option Past)) (s0 : Step (Option Past)) (ticket : ℕ) → v.stage ≡ Out ticket
-    → Allows (IsTurning start) slots id (v, c) 1 (λ n. n) (Looked s0 (v, c))
+    → Allows (IsTurning start) slots id (v, c) 1 (λ n. n) (LookStep s0 (v, c))
 looks start slots id v c s0 ticket out s h homes at small =
     looks_by start id v c s0 ticket s h out at (h.served == ticket) refl
 
 -- what was looked for has come, where the numbers agree
-pub took : (s0 : Step (Option Past)) (found ticket : ℕ) (me was now : Me (Option Past) Knows) → Awaits me ticket → was ≡ me → found ≡ ticket → Looked s0 was found now
-    → (number : ℕ) → me.0.stage ≡ Out number → Took me number now
-took s0 found ticket me was now waits same is looked number stage =
+pub look_takes : (s0 : Step (Option Past)) (found ticket : ℕ) (me was now : Me (Option Past) Knows) → Awaits me ticket → was ≡ me → found ≡ ticket → LookStep s0 was found now
+    → (number : ℕ) → me.0.stage ≡ Out number → HasBook me number now
+look_takes s0 found ticket me was now waits same is looked number stage =
     let number_is : waits.number ≡ number = out_same waits.number number (sym waits.stage ∙ stage) in
     ⊎_elim
-    (λ (x : (found ≡ number % 2 ^ 64) × Took was number now). subst (λ (m : Me (Option Past) Knows). Took m number now) same x.1)
+    (λ (x : (found ≡ number % 2 ^ 64) × HasBook was number now). subst (λ (m : Me (Option Past) Knows). HasBook m number now) same x.1)
     (λ (x : (found ≡ number % 2 ^ 64 → ⊥) × (now ≡ was)). absurd (x.0 (is ∙ (waits.ticket_is ∙ ap (λ (n : ℕ). n % 2 ^ 64) number_is))))
     (looked number (ap (λ (m : Me (Option Past) Knows). m.0.stage) same ∙ stage))
 
-pub missed : (s0 : Step (Option Past)) (found ticket : ℕ) (me was now : Me (Option Past) Knows) → Awaits me ticket → was ≡ me → (found ≡ ticket → ⊥) → Looked s0 was found now → now ≡ me
-missed s0 found ticket me was now waits same other looked =
+pub look_misses : (s0 : Step (Option Past)) (found ticket : ℕ) (me was now : Me (Option Past) Knows) → Awaits me ticket → was ≡ me → (found ≡ ticket → ⊥) → LookStep s0 was found now → now ≡ me
+look_misses s0 found ticket me was now waits same other looked =
     ⊎_elim
-    (λ (x : (found ≡ waits.number % 2 ^ 64) × Took was waits.number now). absurd (other (x.0 ∙ sym waits.ticket_is)))
+    (λ (x : (found ≡ waits.number % 2 ^ 64) × HasBook was waits.number now). absurd (other (x.0 ∙ sym waits.ticket_is)))
     (λ (x : (found ≡ waits.number % 2 ^ 64 → ⊥) × (now ≡ was)). x.1 ∙ same)
     (looked waits.number (ap (λ (m : Me (Option Past) Knows). m.0.stage) same ∙ waits.stage))

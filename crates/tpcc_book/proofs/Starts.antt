@@ -4,7 +4,7 @@ use mathlib.Core.Option.{some, some-ne-none, some-injective}
 use lib.ListN.{get_elem?}
 use Rattle.atomic_table.specs.Table.{opening}
 use Rattle.tpcc_rows.specs.declared.entry.Entry.{Entry}
-use Rattle.tpcc_book.specs.Past.{Past, opened}
+use Rattle.tpcc_book.specs.Past.{Past, opening_past}
 use Rattle.std.specs.Prelude.{Option}
 use Rattle.tpcc_book.specs.declared.turns.knows.Knows.{Knows}
 use Rattle.tpcc_book.specs.declared.turns.knows.Stage.TheVariants.{Idle, Holds}
@@ -38,6 +38,6 @@ starts start book is empty =
     idle (suc j) v t base e holds = absurd (some-ne-none v (sym e))
 
 -- the same at the opened book
-pub starts_opened : (start : Opening) (book : Past) (slots : List (Option Past)) → slots ≡ Some book ∷ [] → book ≡ opened start → IsTurning start (opening (0 ∷ 0 ∷ []) slots (first start))
-starts_opened start book slots there is =
+pub starts_at_opening : (start : Opening) (book : Past) (slots : List (Option Past)) → slots ≡ Some book ∷ [] → book ≡ opening_past start → IsTurning start (opening (0 ∷ 0 ∷ []) slots (first start))
+starts_at_opening start book slots there is =
     subst (λ (xs : List (Option Past)). IsTurning start (opening (0 ∷ 0 ∷ []) xs (first start))) (sym there) (starts start book (ap (λ (p : Past). p.opening) is) (ap (λ (p : Past). p.entries) is))

@@ -4,15 +4,15 @@ use mathlib.Core.Option.{some}
 use mathlib.Core.List.{IsPrefix}
 use lib.ListN.{get_elem?}
 use Rattle.tpcc_rows.specs.declared.entry.Entry.{Entry}
-use Rattle.tpcc_book.specs.Purses.{PurseView, Pooled}
+use Rattle.tpcc_book.specs.Purses.{PurseView, PoolView}
 use Rattle.tpcc_book.specs.Serve.{rooms_of, entries_of, paid_of}
-use Rattle.tpcc_book.specs.Seats.{Seated, purses_of}
+use Rattle.tpcc_book.specs.Seats.{SeatedView, purses_of}
 use Rattle.tpcc_book.specs.declared.turns.knows.Knows.{Knows}
 use Rattle.tpcc_book.specs.declared.turns.knows.Heard.{Heard}
 use Rattle.tpcc_book.specs.declared.turns.knows.Stage.TheVariants.{Idle}
 
 -- what is pooled and what is left are all
-pub record AreAll (purses : List PurseView) (pool : Pooled) (rest : List PurseView) : Type 0 where
+pub record AreAll (purses : List PurseView) (pool : PoolView) (rest : List PurseView) : Type 0 where
   pub rooms : pool.parts + rooms_of rest ≡ rooms_of purses
   pub entries : pool.entries + entries_of rest ≡ entries_of purses
   pub paid : pool.paid +ℤ paid_of rest ≡ paid_of purses
@@ -23,11 +23,11 @@ pub record HasSeen (v : Knows) (log : List Entry) : Type 0 where
   pub told : (x : Heard) (k : ℕ) → get_elem? v.told k ≡ some x → IsPrefix x.front log
 
 -- the journal begins with the front of each purse
-abbrev pub AllBegin : List Seated → List Entry → Type 0
+abbrev pub AllBegin : List SeatedView → List Entry → Type 0
 AllBegin purses log = All (λ p. IsPrefix p.front log) purses
 
 -- a seat that took in those of some purses, whose shares are pooled
-pub record HasJoined (purses rest : List Seated) (pool : Pooled) (v : Knows) : Type 0 where
+pub record HasJoined (purses rest : List SeatedView) (pool : PoolView) (v : Knows) : Type 0 where
   pub idle : v.stage ≡ Idle
   pub parts : v.parts ≡ pool.parts
   pub some_part : 0 < pool.parts

@@ -6,7 +6,7 @@ pub mod Ready
 pub mod Seats
 pub mod Serve
 pub mod Shares
-pub mod Told
+pub mod AnswerView
 pub mod Turn
 pub mod TurnSteps
 pub mod TurnRule

@@ -16,8 +16,8 @@ pub record Past : Type 0 where
   pub entries : List Entry
 
 -- the register of an opening: its rows, no ticket and no entry
-abbrev pub opened : Opening → Past
-opened opening = record { opening = opening; state = opening_state opening; entries = [] }
+abbrev pub opening_past : Opening → Past
+opening_past opening = record { opening = opening; state = opening_state opening; entries = [] }
 
 -- by how much the sum of W_YTD rose since the opening
 abbrev pub rise_of : Past → ℤ

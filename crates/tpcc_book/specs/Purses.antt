@@ -9,13 +9,13 @@ pub record PurseView : Type 0 where
   pub room : ℕ
 
 -- purses put together: how many parts of the book they are, their entries and payments
-pub record Pooled : Type 0 where
+pub record PoolView : Type 0 where
   pub parts : ℕ
   pub entries : ℕ
   pub paid : ℤ
 
 -- one purse is one part, and one for each that it can still split off
-abbrev pub pool_of : PurseView → Pooled
+abbrev pub pool_of : PurseView → PoolView
 pool_of p = record { parts = p.room + 1; entries = p.entries; paid = p.paid }
 
 -- how many purses can be split off the first purse of a book
@@ -30,6 +30,6 @@ all_parts = 10001
 abbrev pub first_purse : PurseView
 first_purse = record { terminal = 0; entries = 0; paid = pos 0; room = most_purses }
 
-abbrev pub pooled : Pooled → PurseView → Pooled
-pooled pool p =
+abbrev pub pool_with : PoolView → PurseView → PoolView
+pool_with pool p =
     record { parts = pool.parts + (p.room + 1); entries = pool.entries + p.entries; paid = pool.paid +ℤ p.paid }

@@ -8,7 +8,7 @@ use Rattle.tpcc_rows.specs.declared.requests.Request.TheVariants as ask
 use Rattle.tpcc_rows.specs.Ranges.{is_carrier}
 use Rattle.tpcc_rows.specs.Tables.{State}
 use Rattle.tpcc_tables.specs.Held.{Held}
-use Rattle.tpcc_delivery.specs.Waiting.{Waiting}
+use Rattle.tpcc_delivery.specs.QueueView.{QueueView}
 use Rattle.tpcc_rows.specs.Lookups.{stock_reply}
 use Rattle.tpcc_rows.specs.Turn.{refusal}
 use Rattle.tpcc_new_order.specs.Prepares.{IsPrepared as IsPreparedOrder, HasRoom as HasRoomForOrder}
@@ -35,10 +35,10 @@ pub record Rooms : Type 0 where
   pub ticket : ℕ
 
 -- the state of the tables and the queue, and the rooms in them
-abbrev pub state_of : Held → Waiting → State
+abbrev pub state_of : Held → QueueView → State
 state_of tables queue = record { rows = tables.rows; queue = queue.tickets }
 
-abbrev pub room_in : Held → Waiting → Rooms
+abbrev pub room_in : Held → QueueView → Rooms
 room_in tables queue = record { order = tables.order_room; payment = tables.payment_room; ticket = queue.room }
 
 -- the room that it needs

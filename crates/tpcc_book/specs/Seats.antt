@@ -12,7 +12,7 @@ use Rattle.tpcc_rows.specs.declared.requests.Request.{Request}
 use Rattle.std.specs.Result.{ForOk}
 use Rattle.tpcc_rows.specs.Replay.{count_of}
 use Rattle.tpcc_book.specs.Past.{Past, IsKept}
-use Rattle.tpcc_book.specs.Told.{Told}
+use Rattle.tpcc_book.specs.AnswerView.{AnswerView}
 use Rattle.tpcc_book.specs.TurnRule.{knows, no_opening}
 use Rattle.tpcc_book.specs.Serve.{IsServed}
 use Rattle.tpcc_population.specs.declared.opening.Opening.{Opening}
@@ -22,21 +22,21 @@ no_table =
     record { words = 0; slots = 0; views_name = 0; atom = 0; block = 0; offset = 0; slot_names = [] }
 
 -- a purse, and the entries that it has seen
-pub record Seated : Type 0 where
+pub record SeatedView : Type 0 where
   pub purse : PurseView
   pub start : Opening
   pub front : List Entry
 
 -- what a purse's seat knows between its turns
-abbrev pub view_of : Seated → Knows
+abbrev pub view_of : SeatedView → Knows
 view_of p = knows p.start p.front (p.purse.room + 1) Idle []
 
 -- the purses without their seats
-abbrev pub purses_of : List Seated → List PurseView
+abbrev pub purses_of : List SeatedView → List PurseView
 purses_of = map (λ p. p.purse)
 
 -- turns that have no name yet
-pub record Unnamed : Type 0 where
+pub record UnnamedView : Type 0 where
   pub opening : Opening
   pub table : TableId
 
@@ -45,7 +45,7 @@ pub record Keeper : Type 0 where
   pub purse : PurseView
   pub start : Opening
 
-abbrev pub keeper_of : Seated → Keeper
+abbrev pub keeper_of : SeatedView → Keeper
 keeper_of p = record { purse = p.purse; start = p.start }
 
 abbrev pub number_of : Stage → ℕ
@@ -54,12 +54,12 @@ number_of (Out t) = t
 number_of (Holds t base) = t
 
 -- a seat with so many parts that has the turn, with the journal of this book, which is out of its place
-abbrev pub keeping : Me (Option Past) Knows → ℕ → Past → Me (Option Past) Knows
-keeping me parts book =
+abbrev pub turn_holder : Me (Option Past) Knows → ℕ → Past → Me (Option Past) Knows
+turn_holder me parts book =
     (knows me.0.start book.entries parts (Holds (number_of me.0.stage) book.entries) [], (0, None) ∷ [])
 
 -- an answer with the purse alone
-abbrev pub by_purse : Told Seated → Told PurseView
+abbrev pub by_purse : AnswerView SeatedView → AnswerView PurseView
 by_purse answer =
     record { request = answer.request; outcome = answer.outcome; place = answer.place; purse = answer.purse.purse }
 
@@ -73,7 +73,7 @@ start_of (v ∷ vs) = v.start
 
 -- one turn of the book at a journal that begins with all that the purse had seen; afterwards the purse
 -- has seen all of it, which is faithful, and of its terminal's entries has those that the purse made
-pub record IsTurned (request : Request) (purse : Seated) (answer : Told Seated) : Type 0 where
+pub record IsTurned (request : Request) (purse : SeatedView) (answer : AnswerView SeatedView) : Type 0 where
   pub old : Past
   pub new : Past
   pub opening : old.opening ≡ purse.start

@@ -6,21 +6,21 @@ use Rattle.tpcc_rows.specs.declared.requests.Request.{Request}
 use Rattle.tpcc_rows.specs.Replay.{paid_by_request}
 use Rattle.tpcc_book.specs.Past.{Past}
 use Rattle.tpcc_book.specs.Purses.{PurseView}
-use Rattle.tpcc_book.specs.Told.{Told}
+use Rattle.tpcc_book.specs.AnswerView.{AnswerView}
 use Rattle.tpcc_book.specs.Turn.{IsTurn}
 
 -- a purse that made one more entry, and paid
-abbrev pub credited : PurseView → ℤ → PurseView
-credited p amount =
+abbrev pub purse_after : PurseView → ℤ → PurseView
+purse_after p amount =
     record { terminal = p.terminal; entries = p.entries + 1; paid = p.paid +ℤ amount; room = p.room }
 
 -- an answer by the purse that was handed in: it grew by the entry and its amount, or stayed
-pub record Fits (request : Request) (purse : PurseView) (answer : Told PurseView) : Type 0 where
+pub record Fits (request : Request) (purse : PurseView) (answer : AnswerView PurseView) : Type 0 where
   pub request_is : answer.request ≡ request
-  pub purse_is : MatchResult answer.outcome (λ reply. answer.purse ≡ credited purse (paid_by_request request)) (λ refusal. answer.purse ≡ purse)
+  pub purse_is : MatchResult answer.outcome (λ reply. answer.purse ≡ purse_after purse (paid_by_request request)) (λ refusal. answer.purse ≡ purse)
 
 -- one turn of the purse's terminal, and an answer by that purse
-pub record IsServed (old : Past) (request : Request) (purse : PurseView) (answer : Told PurseView) (new : Past) : Type 0 where
+pub record IsServed (old : Past) (request : Request) (purse : PurseView) (answer : AnswerView PurseView) (new : Past) : Type 0 where
   pub turn : IsTurn old purse.terminal purse.entries request (record { request = answer.request; outcome = answer.outcome; place = answer.place }) new
   pub fits : Fits request purse answer
 

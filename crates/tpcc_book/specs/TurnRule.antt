@@ -90,33 +90,33 @@ pub record IsTurning (start : Opening) (s : State (Option Past) Knows) : Type 0 
   pub book : AtHome start log s.homes s.views ⊎ Away served s.homes s.views
 
 -- a ticket was drawn
-pub record Drew (s : Step (Option Past)) (me : Me (Option Past) Knows) (found : ℕ) (now : Me (Option Past) Knows) : Type 0 where
+pub record DrawStep (s : Step (Option Past)) (me : Me (Option Past) Knows) (found : ℕ) (now : Me (Option Past) Knows) : Type 0 where
   pub ticket : ℕ
   pub found_is : found ≡ ticket % 2 ^ 64
   pub now_is : now ≡ (knows me.0.start me.0.front me.0.parts (Out ticket) me.0.told, me.1)
 
 -- the turn has come, and the book was taken: its journal begins with all that was seen
-pub record Took (me : Me (Option Past) Knows) (ticket : ℕ) (now : Me (Option Past) Knows) : Type 0 where
+pub record HasBook (me : Me (Option Past) Knows) (ticket : ℕ) (now : Me (Option Past) Knows) : Type 0 where
   pub book : Past
   pub now_is : now ≡ (knows me.0.start book.entries me.0.parts (Holds ticket book.entries) me.0.told, (0, Some book) ∷ me.1)
   pub begins : IsPrefix me.0.front book.entries
   pub opening : book.opening ≡ me.0.start
 
 -- it has come where the number found is the ticket's
-abbrev pub Looked : Step (Option Past) → Me (Option Past) Knows → ℕ → Me (Option Past) Knows → Type 0
-Looked s me found now =
-    (ticket : ℕ) → me.0.stage ≡ Out ticket → ((found ≡ ticket % 2 ^ 64) × Took me ticket now) ⊎ ((found ≡ ticket % 2 ^ 64 → ⊥) × (now ≡ me))
+abbrev pub LookStep : Step (Option Past) → Me (Option Past) Knows → ℕ → Me (Option Past) Knows → Type 0
+LookStep s me found now =
+    (ticket : ℕ) → me.0.stage ≡ Out ticket → ((found ≡ ticket % 2 ^ 64) × HasBook me ticket now) ⊎ ((found ≡ ticket % 2 ^ 64 → ⊥) × (now ≡ me))
 
 -- the book was given back with this journal
-abbrev pub Ended : Step (Option Past) → Me (Option Past) Knows → ℕ → Me (Option Past) Knows → Type 0
-Ended s me found now =
+abbrev pub EndStep : Step (Option Past) → Me (Option Past) Knows → ℕ → Me (Option Past) Knows → Type 0
+EndStep s me found now =
     (book : Past) → me.1 ≡ (0, Some book) ∷ [] → now ≡ (knows me.0.start book.entries me.0.parts Idle me.0.told, [])
 
 -- the journal of the book in hand is the turns' journal now; the one before began with all that was told
-pub record Grew (me : Me (Option Past) Knows) (ticket : ℕ) (base : List Entry) (book : Past) (now : Me (Option Past) Knows) : Type 0 where
+pub record HasGrown (me : Me (Option Past) Knows) (ticket : ℕ) (base : List Entry) (book : Past) (now : Me (Option Past) Knows) : Type 0 where
   pub now_is : now ≡ (knows me.0.start book.entries me.0.parts (Holds ticket book.entries) me.0.told, me.1)
   pub told : (x : Heard) (k : ℕ) → get_elem? me.0.told k ≡ some x → IsHeard me.0.start base x
 
-abbrev pub Grown : Step (Option Past) → Me (Option Past) Knows → ℕ → Me (Option Past) Knows → Type 0
-Grown s me found now =
-    (ticket : ℕ) (base : List Entry) (book : Past) → me.0.stage ≡ Holds ticket base → me.1 ≡ (0, Some book) ∷ [] → Grew me ticket base book now
+abbrev pub GrowStep : Step (Option Past) → Me (Option Past) Knows → ℕ → Me (Option Past) Knows → Type 0
+GrowStep s me found now =
+    (ticket : ℕ) (base : List Entry) (book : Past) → me.0.stage ≡ Holds ticket base → me.1 ≡ (0, Some book) ∷ [] → HasGrown me ticket base book now

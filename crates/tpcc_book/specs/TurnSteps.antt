@@ -12,7 +12,7 @@ use Rattle.tpcc_book.specs.declared.turns.knows.Stage.TheVariants.{Out, Holds}
 use Rattle.tpcc_book.specs.TurnRule.{knows, IsHeard}
 
 -- a ticket was drawn
-pub record Drawn (me : Me (Option Past) Knows) (found : ℕ) (now : Me (Option Past) Knows) : Type 0 where
+pub record HasDrawn (me : Me (Option Past) Knows) (found : ℕ) (now : Me (Option Past) Knows) : Type 0 where
   pub ticket : ℕ
   pub found_is : found ≡ ticket % 2 ^ 64
   pub now_is : now ≡ (knows me.0.start me.0.front me.0.parts (Out ticket) me.0.told, me.1)
@@ -24,7 +24,7 @@ pub record Awaits (me : Me (Option Past) Knows) (ticket : ℕ) : Type 0 where
   pub ticket_is : ticket ≡ number % 2 ^ 64
 
 -- the seat has the book, whose journal begins with the one that it was taken with
-pub record Ending (me : Me (Option Past) Knows) (next : ℕ) : Type 0 where
+pub record CanEnd (me : Me (Option Past) Knows) (next : ℕ) : Type 0 where
   pub number : ℕ
   pub base : List Entry
   pub book : Past
@@ -35,7 +35,7 @@ pub record Ending (me : Me (Option Past) Knows) (next : ℕ) : Type 0 where
   pub next_is : next ≡ (number + 1) % 2 ^ 64
 
 -- the book was taken at the turn of this ticket, and its place is empty
-pub record Taken (me : Me (Option Past) Knows) (ticket : ℕ) (book : Past) (now : Me (Option Past) Knows) : Type 0 where
+pub record HasTaken (me : Me (Option Past) Knows) (ticket : ℕ) (book : Past) (now : Me (Option Past) Knows) : Type 0 where
   pub number : ℕ
   pub ticket_is : ticket ≡ number % 2 ^ 64
   pub now_is : now ≡ (knows me.0.start book.entries me.0.parts (Holds number book.entries) me.0.told, (0, None) ∷ [])
@@ -43,7 +43,7 @@ pub record Taken (me : Me (Option Past) Knows) (ticket : ℕ) (book : Past) (now
   pub opening : book.opening ≡ me.0.start
 
 -- the book may go back: its journal begins with the one that it was taken with
-pub record Giving (me : Me (Option Past) Knows) (ticket : ℕ) (book : Past) : Type 0 where
+pub record CanGive (me : Me (Option Past) Knows) (ticket : ℕ) (book : Past) : Type 0 where
   pub number : ℕ
   pub base : List Entry
   pub ticket_is : ticket ≡ number % 2 ^ 64
@@ -53,7 +53,7 @@ pub record Giving (me : Me (Option Past) Knows) (ticket : ℕ) (book : Past) : T
   pub opening : book.opening ≡ me.0.start
 
 -- the seat has the turn, and its book's journal begins with the one that the turn was begun with
-pub record Growing (me : Me (Option Past) Knows) (book : Past) : Type 0 where
+pub record CanShow (me : Me (Option Past) Knows) (book : Past) : Type 0 where
   pub number : ℕ
   pub base : List Entry
   pub stage : me.0.stage ≡ Holds number base
@@ -62,7 +62,7 @@ pub record Growing (me : Me (Option Past) Knows) (book : Past) : Type 0 where
   pub some_part : 0 < me.0.parts
 
 -- the turn goes on with the journal of this book; what was told begins the journal before
-pub record Shown (me : Me (Option Past) Knows) (book : Past) (now : Me (Option Past) Knows) : Type 0 where
+pub record HasShown (me : Me (Option Past) Knows) (book : Past) (now : Me (Option Past) Knows) : Type 0 where
   pub number : ℕ
   pub base : List Entry
   pub stage : me.0.stage ≡ Holds number base

@@ -1,6 +1,6 @@
 //! A sealed answer.
 ghost use Rattle.std.specs.Prelude.{◌≡◌};
-ghost use Rattle.tpcc_book.specs.Told.{answer_of};
+ghost use Rattle.tpcc_book.specs.AnswerView.{answer_of};
 
 use crate::turned::Turned;
 use std::marker::Model;
@@ -17,9 +17,9 @@ pub struct Answer<P> {
 }
 
 impl<P> Model for Answer<P> {
-    ghost use Rattle.tpcc_book.specs.Told.{Told, answer_of};
+    ghost use Rattle.tpcc_book.specs.AnswerView.{AnswerView, answer_of};
 
-    ghost Value = { Told P };
+    ghost Value = { AnswerView P };
 
     ghost view = { λ a. answer_of a.turned a.purse };
 }

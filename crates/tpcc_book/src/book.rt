@@ -1,9 +1,9 @@
 //! The book: a register with the totals of its purses.
 ghost use Rattle.std.specs.Prelude.{◌≡◌, IfOk, length};
-ghost use Rattle.tpcc_book.specs.Past.{IsKept, opened, rise_of};
+ghost use Rattle.tpcc_book.specs.Past.{IsKept, opening_past, rise_of};
 ghost use Rattle.tpcc_book.specs.Purses.{all_parts, first_purse};
 ghost use Rattle.tpcc_book.specs.Turn.{TakesTurn, MakesTurn};
-ghost use Rattle.tpcc_book.specs.Told.{answer_of};
+ghost use Rattle.tpcc_book.specs.AnswerView.{answer_of};
 ghost use Rattle.tpcc_book.specs.Serve.{IsServed, rooms_of, entries_of, paid_of};
 
 use crate::answer::Answer;
@@ -55,7 +55,7 @@ impl<N: Naming> Book<N> {
     ) -> Result<(Book<N>, Purse<N>), NoMemory>
         requires entries { blanks.entries.name ≡ N.entries }
         requires cents { blanks.cents.name ≡ N.cents }
-        ensures book { IfOk result (λ r. r.0 ≡ opened opening.now) }
+        ensures book { IfOk result (λ r. r.0 ≡ opening_past opening.now) }
         ensures purse { IfOk result (λ r.
             r.1 ≡ first_purse) }
     {

@@ -1,7 +1,7 @@
 //! Purses: shares of a book's two totals.
 ghost use Rattle.std.specs.Prelude.{◌≡◌, ◌+◌, ◌-◌, ◌<◌, ◌≤◌, ◌^◌, ◌≤ℤ◌, ◌+ℤ◌, pos};
 ghost use Rattle.tpcc_book.specs.Purses.{all_parts, first_purse};
-ghost use Rattle.tpcc_book.specs.Serve.{credited};
+ghost use Rattle.tpcc_book.specs.Serve.{purse_after};
 
 mod pool;
 
@@ -122,7 +122,7 @@ impl<N: Naming> Purse<N> {
         requires entries { entries.old.total < 2 ^ 63 }
         requires least { pos 0 ≤ℤ amount }
         requires cents { (pos cents.old.total +ℤ amount) ≤ℤ pos 9223372036854775807 }
-        ensures purse { self.new ≡ credited self.old amount }
+        ensures purse { self.new ≡ purse_after self.old amount }
         ensures entries { entries.new.total ≡ entries.old.total + 1 }
         ensures cents { pos cents.new.total ≡ pos cents.old.total +ℤ amount }
     {

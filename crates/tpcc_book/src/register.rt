@@ -1,6 +1,6 @@
 //! The register: the rows of an opening, and the journal that they are the replay of.
 ghost use Rattle.std.specs.Prelude.{◌≡◌, Some, None, IfOk, IfErr, OnOk, length};
-ghost use Rattle.tpcc_book.specs.Past.{IsKept, Rises, opened, rise_of};
+ghost use Rattle.tpcc_book.specs.Past.{IsKept, Rises, opening_past, rise_of};
 ghost use Rattle.tpcc_rows.specs.Turn.{reply_to};
 ghost use Rattle.tpcc_book.specs.Turn.{IsTurn, TakesTurn, MakesTurn, Accepts, Refuses};
 
@@ -57,7 +57,7 @@ impl Model for Register {
 impl Register {
     /// The register of an opening, with no ticket and no entry. Refused only for want of memory.
     pub fn start(alloc: Global, opening: &Opening) -> Result<Register, NoMemory>
-        ensures started { IfOk result (λ r. r ≡ opened opening.now) }
+        ensures started { IfOk result (λ r. r ≡ opening_past opening.now) }
     {
         let tables = fill(alloc, opening)?;
         opening_is_sound(*opening);

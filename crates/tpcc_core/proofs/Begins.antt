@@ -6,10 +6,10 @@ use Rattle.tpcc_rows.specs.Moments.{has_moment_in_range}
 use Rattle.tpcc_population.specs.declared.opening.Opening.{Opening}
 use Rattle.tpcc_book.specs.Purses.{PurseView}
 use Rattle.tpcc_core.specs.Seats.{SeatNow}
-use Rattle.tpcc_core.specs.SeatSteps.{waiting}
-use Rattle.tpcc_core.specs.Desks.{DeskNow, place_of, item, item_in, told, collected_of}
-use Rattle.tpcc_core.specs.Started.{started, seats_of, seat_of}
-use Rattle.tpcc_core.specs.Flights.{under_way, unserved}
+use Rattle.tpcc_core.specs.SeatSteps.{waiting_answer}
+use Rattle.tpcc_core.specs.Desks.{DeskNow, place_of, item, item_in, map_or, collected_of}
+use Rattle.tpcc_core.specs.OpeningDesk.{opening_desk, seats_of, seat_of}
+use Rattle.tpcc_core.specs.Flights.{under_way, unserved_request}
 use Rattle.tpcc_core.specs.Shares.{purses_in}
 use Rattle.tpcc_core.proofs.Places.{same-item}
 use Rattle.tpcc_core.proofs.Items.{number_of}
@@ -53,8 +53,8 @@ seat_numbered count t = by_place (place_of t (length (seats_of count))) refl
 
 -- of each terminal nothing is under way, and nothing was collected
 pub record HasBegun (d : DeskNow) (t : ℕ) : Type 0 where
-  pub none_unserved : unserved (under_way d t) ≡ []
-  pub none_waiting : waiting (under_way d t) ≡ []
+  pub none_unserved : unserved_request (under_way d t) ≡ []
+  pub none_waiting : waiting_answer (under_way d t) ≡ []
   pub none_collected : collected_of d t ≡ []
   pub own : (owner : ℕ) → map (λ p. p.terminal) (purses_in (under_way d t)) ≡ owner ∷ [] → owner ≡ t
 
@@ -62,9 +62,9 @@ begun_at : (d : DeskNow) (t : ℕ) (o : Option (SeatNow PurseView)) → item d.s
 begun_at d t o at (inl none) =
     let way : under_way d t ≡ home = ap (way_in d.hands) (at ∙ none) in
     record {
-      none_unserved = ap unserved way;
-      none_waiting = ap waiting way;
-      none_collected = ap (told [] (λ seat. seat.collected)) (at ∙ none);
+      none_unserved = ap unserved_request way;
+      none_waiting = ap waiting_answer way;
+      none_collected = ap (map_or [] (λ seat. seat.collected)) (at ∙ none);
       own = λ owner is. absurd (empty owner (sym (ap (λ w. map (λ p. p.terminal) (purses_in w)) way) ∙ is));
     }
   where
@@ -73,21 +73,21 @@ begun_at d t o at (inl none) =
 begun_at d t o at (inr there) =
     let way : under_way d t ≡ (seat_of t).mailbox = ap (way_in d.hands) (at ∙ there) in
     record {
-      none_unserved = ap unserved way;
-      none_waiting = ap waiting way;
-      none_collected = ap (told [] (λ seat. seat.collected)) (at ∙ there);
+      none_unserved = ap unserved_request way;
+      none_waiting = ap waiting_answer way;
+      none_collected = ap (map_or [] (λ seat. seat.collected)) (at ∙ there);
       own = λ owner is. one t owner (sym (ap (λ w. map (λ p. p.terminal) (purses_in w)) way) ∙ is);
     }
   where
     one : (t owner : ℕ) → t ∷ [] ≡ owner ∷ [] → owner ≡ t
     one t owner h = cc
 
-pub begun : (opening : Opening) (terminals servers t : ℕ) → HasBegun (started opening terminals servers) t
-begun opening terminals servers t = begun_at (started opening terminals servers) t (item (seats_of terminals) t) refl (seat_numbered terminals t)
+pub opening_has_begun : (opening : Opening) (terminals servers t : ℕ) → HasBegun (opening_desk opening terminals servers) t
+opening_has_begun opening terminals servers t = begun_at (opening_desk opening terminals servers) t (item (seats_of terminals) t) refl (seat_numbered terminals t)
 
-pub start_sound : (opening : Opening) (terminals servers : ℕ) → IsSound (started opening terminals servers)
+pub start_sound : (opening : Opening) (terminals servers : ℕ) → IsSound (opening_desk opening terminals servers)
 start_sound opening terminals servers =
-    let b : (t : ℕ) → HasBegun (started opening terminals servers) t = begun opening terminals servers in
+    let b : (t : ℕ) → HasBegun (opening_desk opening terminals servers) t = opening_has_begun opening terminals servers in
     record {
       ordered = start_ordered opening terminals servers;
       own = λ t. (b t).own;

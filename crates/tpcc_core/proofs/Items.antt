@@ -2,7 +2,7 @@
 use Rattle.std.proofs.Common.{◌≡◌, ◌∙◌, sym, ap, refl, ℕ, zero, suc, Bool, true, false, cond, eqb, ◌≢◌, ◌⊎◌, inl, inr, ⊎_elim, List, [], ◌∷◌, length, length-set, nat_lt}
 use Rattle.std.specs.Prelude.{Option, Some, None, slice_get, slice_set}
 use Rattle.std.proofs.lemmas.Bool.Decides.{eqb_tells}
-use Rattle.tpcc_core.specs.Desks.{place_of, item_in, item, told}
+use Rattle.tpcc_core.specs.Desks.{place_of, item_in, item, map_or}
 use Rattle.tpcc_core.specs.Events.{IsChangedAt}
 
 put_here : {X : Type 0} (xs : List X) (place : ℕ) (was is : X) → slice_get xs place ≡ Some was → slice_get (slice_set xs place is) place ≡ Some is
@@ -53,16 +53,16 @@ else_at {X} xs ys number was is other c apart =
         put_else xs c.place place is (λ same. apart (number_of other (length xs) place e ∙ (ap suc same ∙ sym (number_of number (length xs) c.place c.numbered))))
 
 -- what is told of it
-pub told_of : {X Y : Type 0} (none : Y) (f : X → Y) (xs : List X) (number : ℕ) (x : X) → item xs number ≡ Some x → told none f (item xs number) ≡ f x
-told_of none f xs number x at = ap (told none f) at
+pub map_or_found : {X Y : Type 0} (none : Y) (f : X → Y) (xs : List X) (number : ℕ) (x : X) → item xs number ≡ Some x → map_or none f (item xs number) ≡ f x
+map_or_found none f xs number x at = ap (map_or none f) at
 
 -- what is the same of the one and the other is told as before of all
-pub told_kept : {X Y : Type 0} (none : Y) (f : X → Y) (xs ys : List X) (number : ℕ) (was is : X) (other : ℕ)
-    → IsChangedAt xs number was is ys → f is ≡ f was → told none f (item ys other) ≡ told none f (item xs other)
-told_kept none f xs ys number was is other c same =
+pub map_or_kept : {X Y : Type 0} (none : Y) (f : X → Y) (xs ys : List X) (number : ℕ) (was is : X) (other : ℕ)
+    → IsChangedAt xs number was is ys → f is ≡ f was → map_or none f (item ys other) ≡ map_or none f (item xs other)
+map_or_kept none f xs ys number was is other c same =
     ⊎_elim (λ (e : other ≡ number).
-    ap (λ n. told none f (item ys n)) e
-    ∙ (told_of none f ys number is (is_at xs ys number was is c)
-    ∙ (same ∙ (sym (told_of none f xs number was (was_at xs ys number was is c)) ∙ ap (λ n. told none f (item xs n)) (sym e)))))
-    (λ (apart : other ≡ number → ⊥). ap (told none f) (else_at xs ys number was is other c apart))
+    ap (λ n. map_or none f (item ys n)) e
+    ∙ (map_or_found none f ys number is (is_at xs ys number was is c)
+    ∙ (same ∙ (sym (map_or_found none f xs number was (was_at xs ys number was is c)) ∙ ap (λ n. map_or none f (item xs n)) (sym e)))))
+    (λ (apart : other ≡ number → ⊥). ap (map_or none f) (else_at xs ys number was is other c apart))
     (same_number other number)

@@ -15,13 +15,13 @@ use Rattle.tpcc_rows.specs.Turn.{reply_to}
 use Rattle.tpcc_laws.proofs.ListLemmas.{filter-append}
 use Rattle.tpcc_book.specs.Past.{Past}
 use Rattle.tpcc_book.specs.Purses.{PurseView}
-use Rattle.tpcc_book.specs.Told.{Told}
+use Rattle.tpcc_book.specs.AnswerView.{AnswerView}
 use Rattle.tpcc_book.specs.Turn.{entry_of, Accepts, Refuses}
 use Rattle.tpcc_book.specs.Serve.{IsServed}
 use Rattle.tpcc_book.proofs.Keeps.{accepted_by}
 use Rattle.tpcc_core.specs.declared.mailbox.Collected.{Collected}
 use Rattle.tpcc_core.specs.SeatSteps.{kept_of}
-use Rattle.tpcc_core.specs.Traces.{entered, entries_from, entries_by, StandsAt, IsRecorded}
+use Rattle.tpcc_core.specs.Traces.{with_entry, entries_from, entries_by, StandsAt, IsRecorded}
 
 -- from one journal to a later one: a terminal's new entries are those of its answers, each of which stands at its place
 pub record Records (t : ℕ) (old new : List Entry) (answered : List Collected) : Type 0 where
@@ -38,8 +38,8 @@ nothing_new t old new same =
 
 entered_more : (t : ℕ) (xs ys : List Collected) (n : ℕ) (request : Request) (o : Result Reply Refusal)
     → ((k : ℕ) → entries_from t k (xs ++ ys) ≡ entries_from t k xs ++ entries_from t (k + length (entries_from t k xs)) ys)
-    → entered t n request o (λ k. entries_from t k (xs ++ ys))
-    ≡ entered t n request o (λ k. entries_from t k xs) ++ entries_from t (n + length (entered t n request o (λ k. entries_from t k xs))) ys
+    → with_entry t n request o (λ k. entries_from t k (xs ++ ys))
+    ≡ with_entry t n request o (λ k. entries_from t k xs) ++ entries_from t (n + length (with_entry t n request o (λ k. entries_from t k xs))) ys
 entered_more t xs ys n request (Ok reply) rest =
     ap (λ es. record { terminal = t; number = n; request = request; reply = reply } ∷ es)
     (rest (n + 1) ∙ ap (λ k. entries_from t (n + 1) xs ++ entries_from t k ys) (omega arith))
@@ -102,7 +102,7 @@ own_entry : (t : ℕ) (old : List Entry) (e : Entry) (c : Collected) (reply : Re
     → e ≡ record { terminal = t; number = length (entries_by t old); request = c.request; reply = reply } → Records t old (old ++ e ∷ []) (c ∷ [])
 own_entry t old e c reply accepted place is =
     let one : entries_by t (e ∷ []) ≡ e ∷ [] = ap (λ b. cond b (e ∷ []) []) (eq-eqb e.terminal t (ap (λ (x : Entry). x.terminal) is)) in
-    let from : entries_from t (length (entries_by t old)) (c ∷ []) ≡ e ∷ [] = ap (λ o. entered t (length (entries_by t old)) c.request o (λ k. [])) accepted ∙ ap (λ x. x ∷ []) (sym is) in
+    let from : entries_from t (length (entries_by t old)) (c ∷ []) ≡ e ∷ [] = ap (λ o. with_entry t (length (entries_by t old)) c.request o (λ k. [])) accepted ∙ ap (λ x. x ∷ []) (sym is) in
     let at : StandsAt (old ++ e ∷ []) t c.request reply c.place = record { place = length old; number = length (entries_by t old); place_is = place; entry_is = get_last old e ∙ ap (λ x. Some x) is } in
     record {
       entries = filter-append (λ x. eqb x.terminal t) old (e ∷ []) ∙ ap (λ es. entries_by t old ++ es) (one ∙ sym from);
@@ -111,9 +111,9 @@ own_entry t old e c reply accepted place is =
       grown = refl;
     }
 
-refused : (t : ℕ) (old : List Entry) (c : Collected) (refusal : Refusal) → c.outcome ≡ Err refusal → c.place ≡ None → Records t old old (c ∷ [])
-refused t old c refusal is none =
-    let from : entries_from t (length (entries_by t old)) (c ∷ []) ≡ [] = ap (λ o. entered t (length (entries_by t old)) c.request o (λ k. [])) is in
+refusal_records : (t : ℕ) (old : List Entry) (c : Collected) (refusal : Refusal) → c.outcome ≡ Err refusal → c.place ≡ None → Records t old old (c ∷ [])
+refusal_records t old c refusal is none =
+    let from : entries_from t (length (entries_by t old)) (c ∷ []) ≡ [] = ap (λ o. with_entry t (length (entries_by t old)) c.request o (λ k. [])) is in
     record {
       entries = sym (ap (λ es. entries_by t old ++ es) from ∙ append-nil (entries_by t old));
       recorded = All-cons (IsRecorded old t) c [] (subst (λ o. MatchResult o (λ r. StandsAt old t c.request r c.place) (λ r. c.place ≡ None)) (sym is) none) (All-nil (IsRecorded old t));
@@ -150,12 +150,12 @@ turn_records old new purse request asked place (Err refusal) t same accepts refu
     let c : Collected = record { request = asked; outcome = Err refusal; place = place } in
     subst (λ es. Records t old.entries es (answer_for purse.terminal t c)) (sym (ap (λ (p : Past). p.entries) r.same))
     (⊎_elim
-    (λ (yes : (eqb purse.terminal t ≡ true) × (purse.terminal ≡ t)). subst (λ b. Records t old.entries old.entries (cond b (c ∷ []) [])) (sym yes.0) (refused t old.entries c refusal refl r.no_place))
+    (λ (yes : (eqb purse.terminal t ≡ true) × (purse.terminal ≡ t)). subst (λ b. Records t old.entries old.entries (cond b (c ∷ []) [])) (sym yes.0) (refusal_records t old.entries c refusal refl r.no_place))
     (λ (not : (eqb purse.terminal t ≡ false) × (purse.terminal ≢ t)). subst (λ b. Records t old.entries old.entries (cond b (c ∷ []) [])) (sym not.0) (nothing_new t old.entries old.entries refl))
     (eqb_tells purse.terminal t))
 
 -- the answer of a served request, of this terminal or another
-pub serve_records : (old new : Past) (request : Request) (purse : PurseView) (answer : Told PurseView) (t : ℕ) → IsServed old request purse answer new
+pub serve_records : (old new : Past) (request : Request) (purse : PurseView) (answer : AnswerView PurseView) (t : ℕ) → IsServed old request purse answer new
     → Records t old.entries new.entries (answer_for purse.terminal t (kept_of answer))
 serve_records old new request purse answer t served =
     turn_records old new purse request answer.request answer.place answer.outcome t served.turn.request_is served.turn.accepts served.turn.refuses

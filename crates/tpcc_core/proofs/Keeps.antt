@@ -10,7 +10,7 @@ use Rattle.tpcc_rows.specs.declared.refusals.Refusal.{Refusal}
 use Rattle.tpcc_rows.specs.Moments.{has_moment_in_range}
 use Rattle.tpcc_population.specs.declared.opening.Opening.{Opening}
 use Rattle.tpcc_population.specs.Opening.{opening_scale, opening_rows, IsSoundOpening}
-use Rattle.tpcc_book.specs.Past.{Past, IsKept, opened}
+use Rattle.tpcc_book.specs.Past.{Past, IsKept, opening_past}
 use Rattle.tpcc_book.specs.Turn.{Accepts, Refuses}
 use Rattle.tpcc_book.proofs.Keeps.{KeepLaws, PayLaws, after-kept}
 use Rattle.tpcc_core.specs.declared.event.Event.{Event}
@@ -18,7 +18,7 @@ use Rattle.tpcc_core.specs.declared.event.Event.TheVariants as event
 use Rattle.tpcc_core.specs.Desks.{DeskNow}
 use Rattle.tpcc_core.specs.Events.{is_ready, Steps}
 use Rattle.tpcc_core.specs.Runs.{MovesBy, Passes}
-use Rattle.tpcc_core.specs.Started.{started}
+use Rattle.tpcc_core.specs.OpeningDesk.{opening_desk}
 use Rattle.tpcc_core.specs.After.{After, is_in_range}
 use Rattle.tpcc_core.proofs.Begins.{start_sound}
 use Rattle.tpcc_core.proofs.Sound.{IsSound, move_leads, served_in_range, head_in_range, tail_in_range}
@@ -64,8 +64,8 @@ passes_stay keeps pays d (e ∷ es) n sound in_range p =
     let rest = passes_stay keeps pays m es n (move_leads (is_ready d e) d e m sound (head_in_range e es in_range) p.1).sound (tail_in_range e es in_range) p.2 in
     record { opening = rest.opening ∙ one.opening; kept = λ kept. rest.kept (one.kept kept) }
 
-opened_kept : (opening : Opening) → IsSoundOpening (opening_scale opening).customers (opening_rows opening) → IsKept (opened opening)
-opened_kept opening sound =
+opening_is_kept : (opening : Opening) → IsSoundOpening (opening_scale opening).customers (opening_rows opening) → IsKept (opening_past opening)
+opening_is_kept opening sound =
     record {
       sound = record { well_keyed = sound.well_keyed; queue = refl; stocked = sound.stocked; consistent = sound.consistent };
       replays = refl;
@@ -80,5 +80,5 @@ opened_kept opening sound =
 pub book_stays : (keeps : KeepLaws) (pays : PayLaws) (opening : Opening) → IsSoundOpening (opening_scale opening).customers (opening_rows opening)
     → (terminals servers : ℕ) (events : List Event) (desk : DeskNow) → After opening terminals servers events desk → IsKept desk.book × (desk.book.opening ≡ opening)
 book_stays keeps pays opening sound terminals servers events desk after =
-    let stays = passes_stay keeps pays (started opening terminals servers) events desk (start_sound opening terminals servers) after.in_range after.passes in
-    (stays.kept (opened_kept opening sound), stays.opening)
+    let stays = passes_stay keeps pays (opening_desk opening terminals servers) events desk (start_sound opening terminals servers) after.in_range after.passes in
+    (stays.kept (opening_is_kept opening sound), stays.opening)

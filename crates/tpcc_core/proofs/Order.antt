@@ -11,15 +11,15 @@ use Rattle.tpcc_core.specs.declared.mailbox.Hand.TheVariants as hand
 use Rattle.tpcc_core.specs.declared.mailbox.Mailbox.{Mailbox}
 use Rattle.tpcc_core.specs.declared.mailbox.Mailbox.TheVariants as box
 use Rattle.tpcc_core.specs.Seats.{SeatNow, is_taken}
-use Rattle.tpcc_core.specs.SeatSteps.{sent, emptied}
-use Rattle.tpcc_core.specs.Desks.{DeskNow, place_of, item_in, item, told}
+use Rattle.tpcc_core.specs.SeatSteps.{mailbox_after_post, mailbox_after_collect}
+use Rattle.tpcc_core.specs.Desks.{DeskNow, place_of, item_in, item, map_or}
 use Rattle.tpcc_core.specs.Hands.{holds_answer}
 use Rattle.tpcc_core.specs.Events.{tests_in, tests_at, answer_place, can_answer, is_ready, Steps, IsPostedAt, IsTakenAt, IsServedBy, IsAnsweredBy, IsCollectedAt}
 use Rattle.tpcc_core.specs.Flights.{held_for, taken_by, IsOrdered}
-use Rattle.tpcc_core.specs.Started.{seats_of, hands_of, seat_of, started}
+use Rattle.tpcc_core.specs.OpeningDesk.{seats_of, hands_of, seat_of, opening_desk}
 use Rattle.tpcc_core.specs.Runs.{MovesBy, Passes}
 use Rattle.tpcc_core.proofs.Places.{same-item}
-use Rattle.tpcc_core.proofs.Items.{same_number, was_at, is_at, else_at, told_of, told_kept}
+use Rattle.tpcc_core.proofs.Items.{same_number, was_at, is_at, else_at, map_or_found, map_or_kept}
 
 -- two look-ups, each of which undoes the other
 abbrev Points : (ℕ → Option ℕ) → (ℕ → Option ℕ) → Type 0
@@ -32,9 +32,9 @@ nothing : (o : Option ℕ) (a : ℕ) → o ≡ None → o ≡ Some a → ⊥
 nothing o a h k = absurd cc
 
 -- one more pair
-joined : (h h' k k' : ℕ → Option ℕ) (s t : ℕ) → Points h k → k t ≡ None → h' s ≡ Some t → k' t ≡ Some s
+one_pair_more : (h h' k k' : ℕ → Option ℕ) (s t : ℕ) → Points h k → k t ≡ None → h' s ≡ Some t → k' t ≡ Some s
     → ((n : ℕ) → (n ≡ s → ⊥) → h' n ≡ h n) → ((n : ℕ) → (n ≡ t → ⊥) → k' n ≡ k n) → Points h' k'
-joined h h' k k' s t points none here there h_else k_else a b is =
+one_pair_more h h' k k' s t points none here there h_else k_else a b is =
     ⊎_elim (λ (e : a ≡ s).
     let f : t ≡ b = same-item t b (sym here ∙ (ap h' (sym e) ∙ is)) in
     ap k' (sym f) ∙ (there ∙ ap (λ n. Some n) (sym e)))
@@ -44,9 +44,9 @@ joined h h' k k' s t points none here there h_else k_else a b is =
     (same_number a s)
 
 -- one pair less
-parted : (h h' k k' : ℕ → Option ℕ) (s t : ℕ) → Points h k → k t ≡ Some s → h' s ≡ None
+one_pair_less : (h h' k k' : ℕ → Option ℕ) (s t : ℕ) → Points h k → k t ≡ Some s → h' s ≡ None
     → ((n : ℕ) → (n ≡ s → ⊥) → h' n ≡ h n) → ((n : ℕ) → (n ≡ t → ⊥) → k' n ≡ k n) → Points h' k'
-parted h h' k k' s t points pair none h_else k_else a b is =
+one_pair_less h h' k k' s t points pair none h_else k_else a b is =
     ⊎_elim (λ (e : a ≡ s). absurd (nothing (h' a) b (ap h' e ∙ none) is))
     (λ (apart : a ≡ s → ⊥).
     let was : k b ≡ Some a = points a b (sym (h_else a apart) ∙ is) in
@@ -54,69 +54,69 @@ parted h h' k k' s t points pair none h_else k_else a b is =
     (same_number a s)
 
 -- the same in both
-kept : (h h' k k' : ℕ → Option ℕ) → AreMates h k → ((n : ℕ) → h' n ≡ h n) → ((n : ℕ) → k' n ≡ k n) → AreMates h' k'
-kept h h' k k' mates hs ks a b =
+same_mates : (h h' k k' : ℕ → Option ℕ) → AreMates h k → ((n : ℕ) → h' n ≡ h n) → ((n : ℕ) → k' n ≡ k n) → AreMates h' k'
+same_mates h h' k k' mates hs ks a b =
     (λ is. ks b ∙ (mates a b).0 (sym (hs a) ∙ is), λ is. hs a ∙ (mates a b).1 (sym (ks b) ∙ is))
 
 -- what is in a hand, and what was taken
 abbrev hand_of : List (Hand PurseView) → ℕ → Option ℕ
-hand_of hands server = told None held_for (item hands server)
+hand_of hands server = map_or None held_for (item hands server)
 
 abbrev taker_of : List (SeatNow PurseView) → ℕ → Option ℕ
-taker_of seats terminal = told None (λ seat. taken_by seat.mailbox) (item seats terminal)
+taker_of seats terminal = map_or None (λ seat. taken_by seat.mailbox) (item seats terminal)
 
 -- ---- each event
 
-sent_taken : (b : Mailbox PurseView) (q : Request) → taken_by (sent b q) ≡ taken_by b
-sent_taken (box.Free p) q = refl
-sent_taken (box.Posted l) q = refl
-sent_taken (box.Taken s) q = refl
-sent_taken (box.Answered a) q = refl
+post_keeps_taken : (b : Mailbox PurseView) (q : Request) → taken_by (mailbox_after_post b q) ≡ taken_by b
+post_keeps_taken (box.Free p) q = refl
+post_keeps_taken (box.Posted l) q = refl
+post_keeps_taken (box.Taken s) q = refl
+post_keeps_taken (box.Answered a) q = refl
 
-emptied_taken : (b : Mailbox PurseView) → taken_by (emptied b) ≡ taken_by b
-emptied_taken (box.Free p) = refl
-emptied_taken (box.Posted l) = refl
-emptied_taken (box.Taken s) = refl
-emptied_taken (box.Answered a) = refl
+collect_keeps_taken : (b : Mailbox PurseView) → taken_by (mailbox_after_collect b) ≡ taken_by b
+collect_keeps_taken (box.Free p) = refl
+collect_keeps_taken (box.Posted l) = refl
+collect_keeps_taken (box.Taken s) = refl
+collect_keeps_taken (box.Answered a) = refl
 
 post_ordered : (d m : DeskNow) (t : ℕ) (q : Request) → IsOrdered d → IsPostedAt d t q m → IsOrdered m
 post_ordered d m t q ordered p =
-    kept (hand_of d.hands) (hand_of m.hands) (taker_of d.seats) (taker_of m.seats) ordered
+    same_mates (hand_of d.hands) (hand_of m.hands) (taker_of d.seats) (taker_of m.seats) ordered
     (λ n. ap (λ (x : DeskNow). hand_of x.hands n) p.rest)
-    (λ n. told_kept None (λ seat. taken_by seat.mailbox) d.seats m.seats t p.seat (record p.seat { mailbox = sent p.seat.mailbox q }) n p.seats (sent_taken p.seat.mailbox q))
+    (λ n. map_or_kept None (λ seat. taken_by seat.mailbox) d.seats m.seats t p.seat (record p.seat { mailbox = mailbox_after_post p.seat.mailbox q }) n p.seats (post_keeps_taken p.seat.mailbox q))
 
 collect_ordered : (d m : DeskNow) (t : ℕ) → IsOrdered d → IsCollectedAt d t m → IsOrdered m
 collect_ordered d m t ordered p =
-    kept (hand_of d.hands) (hand_of m.hands) (taker_of d.seats) (taker_of m.seats) ordered
+    same_mates (hand_of d.hands) (hand_of m.hands) (taker_of d.seats) (taker_of m.seats) ordered
     (λ n. ap (λ (x : DeskNow). hand_of x.hands n) p.rest)
-    (λ n. told_kept None (λ seat. taken_by seat.mailbox) d.seats m.seats t p.seat _ n p.seats (emptied_taken p.seat.mailbox))
+    (λ n. map_or_kept None (λ seat. taken_by seat.mailbox) d.seats m.seats t p.seat _ n p.seats (collect_keeps_taken p.seat.mailbox))
 
 serve_ordered : (d m : DeskNow) (s : ℕ) → IsOrdered d → IsServedBy d s m → IsOrdered m
 serve_ordered d m s ordered p =
-    kept (hand_of d.hands) (hand_of m.hands) (taker_of d.seats) (taker_of m.seats) ordered
-    (λ n. told_kept None held_for d.hands m.hands s p.held p.holds n p.hands (ap held_for p.served.is ∙ sym (ap held_for p.served.was)))
+    same_mates (hand_of d.hands) (hand_of m.hands) (taker_of d.seats) (taker_of m.seats) ordered
+    (λ n. map_or_kept None held_for d.hands m.hands s p.held p.holds n p.hands (ap held_for p.served.is ∙ sym (ap held_for p.served.was)))
     (λ n. ap (λ (x : DeskNow). taker_of x.seats n) p.rest)
 
 take_ordered : (d m : DeskNow) (s t : ℕ) → IsOrdered d → IsTakenAt d s t m → IsOrdered m
 take_ordered d m s t ordered p =
     let h = hand_of d.hands in let h' = hand_of m.hands in let k = taker_of d.seats in let k' = taker_of m.seats in
-    let empty : h s ≡ None = told_of None held_for d.hands s hand.Empty (was_at d.hands m.hands s _ _ p.hands) in
-    let none : k t ≡ None = told_of None (λ seat. taken_by seat.mailbox) d.seats t p.seat (was_at d.seats m.seats t _ _ p.seats) ∙ ap taken_by p.ready in
-    let here : h' s ≡ Some t = told_of None held_for m.hands s (hand.Holds t p.letter) (is_at d.hands m.hands s _ _ p.hands) in
-    let there : k' t ≡ Some s = told_of None (λ seat. taken_by seat.mailbox) m.seats t (record p.seat { mailbox = box.Taken s }) (is_at d.seats m.seats t _ _ p.seats) in
-    let hs : (n : ℕ) → (n ≡ s → ⊥) → h' n ≡ h n = λ n apart. ap (told None held_for) (else_at d.hands m.hands s _ _ n p.hands apart) in
-    let ks : (n : ℕ) → (n ≡ t → ⊥) → k' n ≡ k n = λ n apart. ap (told None (λ seat. taken_by seat.mailbox)) (else_at d.seats m.seats t _ _ n p.seats apart) in
-    λ a b. (joined h h' k k' s t (λ x y. (ordered x y).0) none here there hs ks a b, joined k k' h h' t s (λ x y. (ordered y x).1) empty there here ks hs b a)
+    let empty : h s ≡ None = map_or_found None held_for d.hands s hand.Empty (was_at d.hands m.hands s _ _ p.hands) in
+    let none : k t ≡ None = map_or_found None (λ seat. taken_by seat.mailbox) d.seats t p.seat (was_at d.seats m.seats t _ _ p.seats) ∙ ap taken_by p.ready in
+    let here : h' s ≡ Some t = map_or_found None held_for m.hands s (hand.Holds t p.letter) (is_at d.hands m.hands s _ _ p.hands) in
+    let there : k' t ≡ Some s = map_or_found None (λ seat. taken_by seat.mailbox) m.seats t (record p.seat { mailbox = box.Taken s }) (is_at d.seats m.seats t _ _ p.seats) in
+    let hs : (n : ℕ) → (n ≡ s → ⊥) → h' n ≡ h n = λ n apart. ap (map_or None held_for) (else_at d.hands m.hands s _ _ n p.hands apart) in
+    let ks : (n : ℕ) → (n ≡ t → ⊥) → k' n ≡ k n = λ n apart. ap (map_or None (λ seat. taken_by seat.mailbox)) (else_at d.seats m.seats t _ _ n p.seats apart) in
+    λ a b. (one_pair_more h h' k k' s t (λ x y. (ordered x y).0) none here there hs ks a b, one_pair_more k k' h h' t s (λ x y. (ordered y x).1) empty there here ks hs b a)
 
 answer_ordered : (d m : DeskNow) (s : ℕ) → IsOrdered d → IsAnsweredBy d s m → IsOrdered m
 answer_ordered d m s ordered p =
     let h = hand_of d.hands in let h' = hand_of m.hands in let k = taker_of d.seats in let k' = taker_of m.seats in let t = p.terminal in
-    let held : h s ≡ Some t = told_of None held_for d.hands s (hand.Served t p.answer) (was_at d.hands m.hands s _ _ p.hands) in
-    let here : h' s ≡ None = told_of None held_for m.hands s hand.Empty (is_at d.hands m.hands s _ _ p.hands) in
-    let there : k' t ≡ None = told_of None (λ seat. taken_by seat.mailbox) m.seats t (record p.seat { mailbox = box.Answered p.answer }) (is_at d.seats m.seats t _ _ p.seats) in
-    let hs : (n : ℕ) → (n ≡ s → ⊥) → h' n ≡ h n = λ n apart. ap (told None held_for) (else_at d.hands m.hands s _ _ n p.hands apart) in
-    let ks : (n : ℕ) → (n ≡ t → ⊥) → k' n ≡ k n = λ n apart. ap (told None (λ seat. taken_by seat.mailbox)) (else_at d.seats m.seats t _ _ n p.seats apart) in
-    λ a b. (parted h h' k k' s t (λ x y. (ordered x y).0) ((ordered s t).0 held) here hs ks a b, parted k k' h h' t s (λ x y. (ordered y x).1) held there ks hs b a)
+    let held : h s ≡ Some t = map_or_found None held_for d.hands s (hand.Served t p.answer) (was_at d.hands m.hands s _ _ p.hands) in
+    let here : h' s ≡ None = map_or_found None held_for m.hands s hand.Empty (is_at d.hands m.hands s _ _ p.hands) in
+    let there : k' t ≡ None = map_or_found None (λ seat. taken_by seat.mailbox) m.seats t (record p.seat { mailbox = box.Answered p.answer }) (is_at d.seats m.seats t _ _ p.seats) in
+    let hs : (n : ℕ) → (n ≡ s → ⊥) → h' n ≡ h n = λ n apart. ap (map_or None held_for) (else_at d.hands m.hands s _ _ n p.hands apart) in
+    let ks : (n : ℕ) → (n ≡ t → ⊥) → k' n ≡ k n = λ n apart. ap (map_or None (λ seat. taken_by seat.mailbox)) (else_at d.seats m.seats t _ _ n p.seats apart) in
+    λ a b. (one_pair_less h h' k k' s t (λ x y. (ordered x y).0) ((ordered s t).0 held) here hs ks a b, one_pair_less k k' h h' t s (λ x y. (ordered y x).1) held there ks hs b a)
 
 -- every event that is ready keeps it
 pub step_ordered : (d : DeskNow) (e : Event) (m : DeskNow) → IsOrdered d → Steps d e m → IsOrdered m
@@ -138,11 +138,11 @@ passes_ordered d (e ∷ es) n ordered p = passes_ordered p.0 es n (move_ordered 
 -- ---- the start
 
 -- what is so of all of a list is so of the one with a number
-told_none : {X Y : Type 0} (f : X → Option Y) (xs : List X) (all : (place : ℕ) (x : X) → slice_get xs place ≡ Some x → f x ≡ None) (o : Option ℕ) → told None f (item_in xs o) ≡ None
-told_none f xs all None = refl
-told_none f xs all (Some place) = at (slice_get xs place) refl
+map_or_none : {X Y : Type 0} (f : X → Option Y) (xs : List X) (all : (place : ℕ) (x : X) → slice_get xs place ≡ Some x → f x ≡ None) (o : Option ℕ) → map_or None f (item_in xs o) ≡ None
+map_or_none f xs all None = refl
+map_or_none f xs all (Some place) = at (slice_get xs place) refl
   where
-    at : (o : Option _) → slice_get xs place ≡ o → told None f o ≡ None
+    at : (o : Option _) → slice_get xs place ≡ o → map_or None f o ≡ None
     at None e = refl
     at (Some x) e = all place x e
 
@@ -161,15 +161,15 @@ free_seats : (count : ℕ) (place : ℕ) (x : SeatNow PurseView) → slice_get (
 free_seats zero place x is = absurd cc
 free_seats (suc count) place x is = snoc_all (λ seat. taken_by seat.mailbox) (seats_of count) (seat_of (suc count)) (free_seats count) refl place x is
 
-pub start_ordered : (opening : Opening) (terminals servers : ℕ) → IsOrdered (started opening terminals servers)
+pub start_ordered : (opening : Opening) (terminals servers : ℕ) → IsOrdered (opening_desk opening terminals servers)
 start_ordered opening terminals servers a b = (
-  λ is. absurd (nothing _ b (told_none held_for (hands_of servers) (empty_hands servers) (place_of a (length (hands_of {P = PurseView} servers)))) is),
-  λ is. absurd (nothing _ a (told_none (λ seat. taken_by seat.mailbox) (seats_of terminals) (free_seats terminals) (place_of b (length (seats_of terminals)))) is),
+  λ is. absurd (nothing _ b (map_or_none held_for (hands_of servers) (empty_hands servers) (place_of a (length (hands_of {P = PurseView} servers)))) is),
+  λ is. absurd (nothing _ a (map_or_none (λ seat. taken_by seat.mailbox) (seats_of terminals) (free_seats terminals) (place_of b (length (seats_of terminals)))) is),
 )
 
 -- ---- an answer in a hand has its mailbox waiting for it
 
-taken_box : (o : Option (SeatNow PurseView)) (s : ℕ) → told None (λ seat. taken_by seat.mailbox) o ≡ Some s → told false (λ seat. is_taken seat.mailbox) o ≡ true
+taken_box : (o : Option (SeatNow PurseView)) (s : ℕ) → map_or None (λ seat. taken_by seat.mailbox) o ≡ Some s → map_or false (λ seat. is_taken seat.mailbox) o ≡ true
 taken_box None s is = absurd cc
 taken_box (Some seat) s is = box_taken seat.mailbox s is
   where
@@ -185,8 +185,8 @@ answer_ready_in d s ordered = by_item (item d.hands s) refl
     by_hand : (h : Hand PurseView) → item d.hands s ≡ Some h → tests_in (λ seat. is_taken seat.mailbox) d.seats (answer_place h d.seats) ≡ holds_answer h
     by_hand hand.Empty at = refl
     by_hand (hand.Holds t l) at = refl
-    by_hand (hand.Served t a) at = taken_box (item d.seats t) s ((ordered s t).0 (ap (told None held_for) at))
+    by_hand (hand.Served t a) at = taken_box (item d.seats t) s ((ordered s t).0 (ap (map_or None held_for) at))
 
-    by_item : (o : Option (Hand PurseView)) → item d.hands s ≡ o → told false (λ h. tests_in (λ seat. is_taken seat.mailbox) d.seats (answer_place h d.seats)) o ≡ told false holds_answer o
+    by_item : (o : Option (Hand PurseView)) → item d.hands s ≡ o → map_or false (λ h. tests_in (λ seat. is_taken seat.mailbox) d.seats (answer_place h d.seats)) o ≡ map_or false holds_answer o
     by_item None at = refl
     by_item (Some h) at = by_hand h at

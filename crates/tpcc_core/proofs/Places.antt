@@ -6,20 +6,20 @@ use Rattle.tpcc_core.specs.Desks.{place_of}
 use Rattle.tpcc_core.specs.Events.{tests_in, tests_at, IsChangedAt}
 
 -- it is tested at its place
-pub tested : {X : Type 0} (test : X → Bool) (xs : List X) (number place : ℕ) (was : X)
+pub test_at_place : {X : Type 0} (test : X → Bool) (xs : List X) (number place : ℕ) (was : X)
     → place_of number (length xs) ≡ Some place → slice_get xs place ≡ Some was → tests_at test xs number ≡ test was
-tested test xs number place was numbered found =
+test_at_place test xs number place was numbered found =
     ap (tests_in test xs) numbered ∙ ap (λ o. unwrap_or (option_map test o) false) found
 
 -- what is not there is not so
-pub untested : {X : Type 0} (test : X → Bool) (xs : List X) (number : ℕ)
+pub no_place_fails : {X : Type 0} (test : X → Bool) (xs : List X) (number : ℕ)
     → place_of number (length xs) ≡ None → tests_at test xs number ≡ false
-untested test xs number none = ap (tests_in test xs) none
+no_place_fails test xs number none = ap (tests_in test xs) none
 
 -- another in its place
-pub changed : {X : Type 0} (xs : List X) (number place : ℕ) (was is new : X)
+pub change_at_place : {X : Type 0} (xs : List X) (number place : ℕ) (was is new : X)
     → place_of number (length xs) ≡ Some place → slice_get xs place ≡ Some was → new ≡ is → IsChangedAt xs number was is (slice_set xs place new)
-changed xs number place was is new numbered found same =
+change_at_place xs number place was is new numbered found same =
     record { place = place; numbered = numbered; found = found; set = ap (slice_set xs place) same }
 
 -- what an index gives
@@ -33,7 +33,7 @@ pub same-item : {X : Type 0} (a b : X) → Some a ≡ Some b → a ≡ b
 same-item a b h = cc
 
 -- the same in its place
-pub unchanged : {X : Type 0} (xs : List X) (place : ℕ) (was new : X) → slice_get xs place ≡ Some was → new ≡ was → slice_set xs place new ≡ xs
-unchanged [] place was new found same = refl
-unchanged (x ∷ xs) zero was new found same = ap (λ y. y ∷ xs) (same ∙ sym (same-item x was found))
-unchanged (x ∷ xs) (suc place) was new found same = ap (λ ys. x ∷ ys) (unchanged xs place was new found same)
+pub same_at_place : {X : Type 0} (xs : List X) (place : ℕ) (was new : X) → slice_get xs place ≡ Some was → new ≡ was → slice_set xs place new ≡ xs
+same_at_place [] place was new found same = refl
+same_at_place (x ∷ xs) zero was new found same = ap (λ y. y ∷ xs) (same ∙ sym (same-item x was found))
+same_at_place (x ∷ xs) (suc place) was new found same = ap (λ ys. x ∷ ys) (same_at_place xs place was new found same)

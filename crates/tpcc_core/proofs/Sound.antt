@@ -9,8 +9,8 @@ use Rattle.tpcc_rows.specs.Moments.{has_moment_in_range}
 use Rattle.tpcc_rows.specs.Replay.{paid_by_request}
 use Rattle.tpcc_book.specs.Past.{Past}
 use Rattle.tpcc_book.specs.Purses.{PurseView}
-use Rattle.tpcc_book.specs.Told.{Told}
-use Rattle.tpcc_book.specs.Serve.{IsServed, credited}
+use Rattle.tpcc_book.specs.AnswerView.{AnswerView}
+use Rattle.tpcc_book.specs.Serve.{IsServed, purse_after}
 use Rattle.tpcc_core.specs.declared.event.Event.{Event}
 use Rattle.tpcc_core.specs.declared.event.Event.TheVariants as event
 use Rattle.tpcc_core.specs.declared.mailbox.Collected.{Collected}
@@ -18,10 +18,10 @@ use Rattle.tpcc_core.specs.declared.mailbox.Hand.TheVariants as hand
 use Rattle.tpcc_core.specs.declared.mailbox.Letter.{Letter}
 use Rattle.tpcc_core.specs.declared.mailbox.Mailbox.TheVariants as box
 use Rattle.tpcc_core.specs.SeatSteps.{kept_of}
-use Rattle.tpcc_core.specs.Desks.{DeskNow, item, told, collected_of}
+use Rattle.tpcc_core.specs.Desks.{DeskNow, item, map_or, collected_of}
 use Rattle.tpcc_core.specs.Events.{is_ready, Steps, IsServedBy}
 use Rattle.tpcc_core.specs.Runs.{MovesBy, Passes}
-use Rattle.tpcc_core.specs.Flights.{held_for, IsOrdered, under_way, unserved}
+use Rattle.tpcc_core.specs.Flights.{held_for, IsOrdered, under_way, unserved_request}
 use Rattle.tpcc_core.specs.Shares.{purses_in}
 use Rattle.tpcc_core.specs.Traces.{asked_by, answer_in, answered_by, posts_of, served_of}
 use Rattle.tpcc_core.specs.After.{is_in_range}
@@ -63,16 +63,16 @@ asked_in_range t event.Close h = refl
 pub record IsSound (d : DeskNow) : Type 0 where
   pub ordered : IsOrdered d
   pub own : (t owner : ℕ) → map (λ p. p.terminal) (purses_in (under_way d t)) ≡ owner ∷ [] → owner ≡ t
-  pub in_range : (t : ℕ) → AreInRange (unserved (under_way d t))
+  pub in_range : (t : ℕ) → AreInRange (unserved_request (under_way d t))
 
 -- ---- an answer is by the letter's purse
 
 by_purse : (request : Request) (was is : PurseView) (o : Result Reply Refusal)
-    → MatchResult o (λ reply. is ≡ credited was (paid_by_request request)) (λ refusal. is ≡ was) → is.terminal ≡ was.terminal
+    → MatchResult o (λ reply. is ≡ purse_after was (paid_by_request request)) (λ refusal. is ≡ was) → is.terminal ≡ was.terminal
 by_purse request was is (Ok reply) h = ap (λ (p : PurseView). p.terminal) h
 by_purse request was is (Err refusal) h = ap (λ (p : PurseView). p.terminal) h
 
-answers_to : (old new : Past) (letter : Letter PurseView) (answer : Told PurseView) → IsServed old letter.request letter.purse answer new → IsAnswerTo letter answer
+answers_to : (old new : Past) (letter : Letter PurseView) (answer : AnswerView PurseView) → IsServed old letter.request letter.purse answer new → IsAnswerTo letter answer
 answers_to old new letter answer served =
     record { request = served.fits.request_is; terminal = by_purse letter.request letter.purse answer.purse answer.outcome served.fits.purse_is }
 
@@ -81,7 +81,7 @@ pub served_way : (d m : DeskNow) (s : ℕ) → IsOrdered d → (p : IsServedBy d
 served_way d m s ordered p =
     let t = p.served.terminal in
     let was : item d.hands s ≡ Some (hand.Holds t p.served.letter) = was_at d.hands m.hands s p.held p.holds p.hands ∙ ap (λ h. Some h) p.served.was in
-    way_held d.hands s (hand.Holds t p.served.letter) (item d.seats t) ((ordered s t).0 (ap (told None held_for) was)) was
+    way_held d.hands s (hand.Holds t p.served.letter) (item d.seats t) ((ordered s t).0 (ap (map_or None held_for) was)) was
 
 pub served_purse : (d m : DeskNow) (s : ℕ) → IsSound d → (p : IsServedBy d s m) → p.served.letter.purse.terminal ≡ p.served.terminal
 served_purse d m s sound p =
@@ -89,7 +89,7 @@ served_purse d m s sound p =
 
 pub served_in_range : (d m : DeskNow) (s : ℕ) → IsSound d → (p : IsServedBy d s m) → has_moment_in_range p.served.letter.request ≡ true
 served_in_range d m s sound p =
-    one p.served.letter.request (subst (λ w. AreInRange (unserved w)) (served_way d m s sound.ordered p) (sound.in_range p.served.terminal))
+    one p.served.letter.request (subst (λ w. AreInRange (unserved_request w)) (served_way d m s sound.ordered p) (sound.in_range p.served.terminal))
   where
     one : (q : Request) → AreInRange (q ∷ []) → has_moment_in_range q ≡ true
     one q h = grind (arith, h)
@@ -104,7 +104,7 @@ serve_step : (d m : DeskNow) (s n : ℕ) → IsSound d → IsServedBy d s m → 
 serve_step d m s n sound p =
     let answer = p.served.answer in
     let is : item m.hands s ≡ Some (hand.Served p.served.terminal answer) = is_at d.hands m.hands s p.held p.holds p.hands ∙ ap (λ h. Some h) p.served.is in
-    let told_is : answered_by n (event.Serve s) m ≡ answer_for p.served.terminal n (kept_of answer) = ap (told [] (answer_in n)) is in
+    let told_is : answered_by n (event.Serve s) m ≡ answer_for p.served.terminal n (kept_of answer) = ap (map_or [] (answer_in n)) is in
     subst (Records n d.book.entries m.book.entries) (sym told_is)
     (subst (λ k. Records n d.book.entries m.book.entries (answer_for k n (kept_of answer))) (served_purse d m s sound p)
     (serve_records d.book m.book p.served.letter.request p.served.letter.purse answer n p.served.served))
@@ -123,8 +123,8 @@ sound_after d m asked answered sound ordered in_range trips =
     record {
       ordered = ordered;
       own = λ t owner is. sound.own t owner (sym (trips t).purses ∙ is);
-      in_range = λ t. in_range_last (map (λ a. a.request) (answered t)) (unserved (under_way m t))
-          (subst AreInRange (trips t).posts (in_range_both (unserved (under_way d t)) (asked t) (sound.in_range t) (in_range t)));
+      in_range = λ t. in_range_last (map (λ a. a.request) (answered t)) (unserved_request (under_way m t))
+          (subst AreInRange (trips t).posts (in_range_both (unserved_request (under_way d t)) (asked t) (sound.in_range t) (in_range t)));
     }
 
 -- from one desk to a later one

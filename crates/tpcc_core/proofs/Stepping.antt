@@ -10,29 +10,29 @@ use Rattle.tpcc_core.specs.declared.mailbox.Hand.{Hand}
 use Rattle.tpcc_core.specs.declared.mailbox.Hand.TheVariants as hand
 use Rattle.tpcc_core.specs.declared.mailbox.Mailbox.TheVariants as box
 use Rattle.tpcc_core.specs.Seats.{SeatNow, is_free, is_taken, is_answered}
-use Rattle.tpcc_core.specs.SeatSteps.{sent, collected_from}
+use Rattle.tpcc_core.specs.SeatSteps.{mailbox_after_post, seat_after_collect}
 use Rattle.tpcc_core.specs.Hands.{Serves, answer_for}
 use Rattle.tpcc_core.specs.Exchanges.{IsReturned}
 use Rattle.tpcc_core.specs.Desks.{DeskNow, place_of}
 use Rattle.tpcc_core.specs.Events.{tests_in, place_in, answer_place, can_answer, IsPostedAt, IsServedBy, IsAnsweredBy, IsCollectedAt}
-use Rattle.tpcc_core.proofs.Places.{changed, tested, unchanged}
+use Rattle.tpcc_core.proofs.Places.{change_at_place, test_at_place, same_at_place}
 
 -- a request at a seat is a request at the desk
 pub posted_at : {T E : Type 0} (d : DeskNow) (t place : ℕ) (seat new : SeatNow PurseView) (request : Request) (r : Result T E)
     → place_of t (length d.seats) ≡ Some place → slice_get d.seats place ≡ Some seat
-    → OnOk r (is_free seat.mailbox ≡ true) → OnOk r (new ≡ record seat { mailbox = sent seat.mailbox request })
+    → OnOk r (is_free seat.mailbox ≡ true) → OnOk r (new ≡ record seat { mailbox = mailbox_after_post seat.mailbox request })
     → OnOk r (IsPostedAt d t request (record d { seats = slice_set d.seats place new }))
 posted_at d t place seat new request (Ok v) numbered found ready is =
-    record { seat = seat; seats = changed d.seats t place seat (record seat { mailbox = sent seat.mailbox request }) new numbered found is; ready = ready; rest = refl }
+    record { seat = seat; seats = change_at_place d.seats t place seat (record seat { mailbox = mailbox_after_post seat.mailbox request }) new numbered found is; ready = ready; rest = refl }
 posted_at d t place seat new request (Err e) numbered found ready is = ready
 
 -- a collected answer
 pub collected_at : {T E : Type 0} (d : DeskNow) (t place : ℕ) (seat new : SeatNow PurseView) (r : Result T E)
     → place_of t (length d.seats) ≡ Some place → slice_get d.seats place ≡ Some seat
-    → is_ok r ≡ is_answered seat.mailbox → OnOk r (new ≡ collected_from seat)
+    → is_ok r ≡ is_answered seat.mailbox → OnOk r (new ≡ seat_after_collect seat)
     → OnOk r (IsCollectedAt d t (record d { seats = slice_set d.seats place new }))
 collected_at d t place seat new (Ok v) numbered found ready is =
-    record { seat = seat; ready = sym ready; seats = changed d.seats t place seat (collected_from seat) new numbered found is; rest = refl }
+    record { seat = seat; ready = sym ready; seats = change_at_place d.seats t place seat (seat_after_collect seat) new numbered found is; rest = refl }
 collected_at d t place seat new (Err e) numbered found ready is = is
 
 -- a served letter
@@ -41,7 +41,7 @@ pub served_by : {T E : Type 0} (d : DeskNow) (s place : ℕ) (held holds : Hand 
     → OnOk r (Serves held d.book holds after)
     → OnOk r (IsServedBy d s (record d { book = after; hands = slice_set d.hands place holds }))
 served_by d s place held holds after r numbered found =
-    on_ok_weaker r (λ is. record { held = held; holds = holds; served = is; hands = changed d.hands s place held holds holds numbered found refl; rest = refl })
+    on_ok_weaker r (λ is. record { held = held; holds = holds; served = is; hands = change_at_place d.hands s place held holds holds numbered found refl; rest = refl })
 
 same-number : (a b : ℕ) → Some a ≡ Some b → a ≡ b
 same-number a b h = cc
@@ -59,8 +59,8 @@ answered_by d s at place seat after held holds (Ok v) handed held_is numbered fo
       answer = is.answer;
       seat = seat;
       ready = sym (ready ∙ ap (λ o. is_some o && is_taken seat.mailbox) for);
-      seats = changed d.seats is.given.terminal place seat (record seat { mailbox = box.Answered is.answer }) after (sym (ap (place_in d.seats) for) ∙ numbered) found is.after_is;
-      hands = changed d.hands s at (hand.Served is.given.terminal is.answer) hand.Empty holds handed (held_is ∙ ap (λ h. Some h) is.given.was) is.given.is;
+      seats = change_at_place d.seats is.given.terminal place seat (record seat { mailbox = box.Answered is.answer }) after (sym (ap (place_in d.seats) for) ∙ numbered) found is.after_is;
+      hands = change_at_place d.hands s at (hand.Served is.given.terminal is.answer) hand.Empty holds handed (held_is ∙ ap (λ h. Some h) is.given.was) is.given.is;
       rest = refl;
     }
 answered_by d s at place seat after held holds (Err e) handed held_is numbered found ready is = is
@@ -76,7 +76,7 @@ pub answer_ready : (d : DeskNow) (s at place : ℕ) (seat : SeatNow PurseView) (
     → answer_place held d.seats ≡ Some place → slice_get d.seats place ≡ Some seat
     → done ≡ is_some (answer_for held) && is_taken seat.mailbox → done ≡ can_answer d s
 answer_ready d s at place seat held done handed held_is numbered found ready =
-    let one = tested (λ h. tests_in (λ x. is_taken x.mailbox) d.seats (answer_place h d.seats)) d.hands s at held handed held_is in
+    let one = test_at_place (λ h. tests_in (λ x. is_taken x.mailbox) d.seats (answer_place h d.seats)) d.hands s at held handed held_is in
     let two = ap (tests_in (λ x. is_taken x.mailbox) d.seats) numbered in
     let three = ap (λ o. unwrap_or (option_map (λ x. is_taken x.mailbox) o) false) found in
     ready ∙ ap (λ b. b && is_taken seat.mailbox) (answer-for held d.seats place numbered) ∙ sym (one ∙ two ∙ three)
@@ -87,14 +87,14 @@ pub served_none : {T E : Type 0} (d : DeskNow) (at : ℕ) (held holds : Hand Pur
     → OnErr r (record d { book = after; hands = slice_set d.hands at holds } ≡ d)
 served_none d at held holds after (Ok v) found same book = same
 served_none d at held holds after (Err e) found same book =
-    ap (λ b. record d { book = b; hands = slice_set d.hands at holds }) book ∙ ap (λ hs. record d { hands = hs }) (unchanged d.hands at held holds found same)
+    ap (λ b. record d { book = b; hands = slice_set d.hands at holds }) book ∙ ap (λ hs. record d { hands = hs }) (same_at_place d.hands at held holds found same)
 
 pub answered_none : {T E : Type 0} (d : DeskNow) (at place : ℕ) (seat after : SeatNow PurseView) (held holds : Hand PurseView) (r : Result T E)
     → slice_get d.hands at ≡ Some held → slice_get d.seats place ≡ Some seat → OnErr r (after ≡ seat) → OnErr r (holds ≡ held)
     → OnErr r (record d { seats = slice_set d.seats place after; hands = slice_set d.hands at holds } ≡ d)
 answered_none d at place seat after held holds (Ok v) held_is found same kept = same
 answered_none d at place seat after held holds (Err e) held_is found same kept =
-    ap (λ ss. record d { seats = ss; hands = slice_set d.hands at holds }) (unchanged d.seats place seat after found same) ∙ ap (λ hs. record d { hands = hs }) (unchanged d.hands at held holds held_is kept)
+    ap (λ ss. record d { seats = ss; hands = slice_set d.hands at holds }) (same_at_place d.seats place seat after found same) ∙ ap (λ hs. record d { hands = hs }) (same_at_place d.hands at held holds held_is kept)
 
 same-hand : (a b : Hand PurseView) (o : Option (Hand PurseView)) → o ≡ Some a → o ≡ Some b → a ≡ b
 same-hand a b o h k = cc

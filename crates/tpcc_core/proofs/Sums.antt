@@ -17,7 +17,7 @@ use Rattle.tpcc_population.specs.declared.opening.Opening.{Opening}
 use Rattle.tpcc_book.specs.Past.{Past, IsKept}
 use Rattle.tpcc_book.specs.Purses.{PurseView, all_parts, most_purses}
 use Rattle.tpcc_book.specs.Turn.{entry_of, Accepts, Refuses}
-use Rattle.tpcc_book.specs.Serve.{credited}
+use Rattle.tpcc_book.specs.Serve.{purse_after}
 use Rattle.tpcc_core.specs.declared.event.Event.{Event}
 use Rattle.tpcc_core.specs.declared.event.Event.TheVariants as event
 use Rattle.tpcc_core.specs.declared.mailbox.Hand.{Hand}
@@ -25,11 +25,11 @@ use Rattle.tpcc_core.specs.declared.mailbox.Hand.TheVariants as hand
 use Rattle.tpcc_core.specs.declared.mailbox.Mailbox.{Mailbox}
 use Rattle.tpcc_core.specs.declared.mailbox.Mailbox.TheVariants as box
 use Rattle.tpcc_core.specs.Seats.{SeatNow, is_taken}
-use Rattle.tpcc_core.specs.SeatSteps.{sent, emptied, collected_from}
+use Rattle.tpcc_core.specs.SeatSteps.{mailbox_after_post, mailbox_after_collect, seat_after_collect}
 use Rattle.tpcc_core.specs.Desks.{DeskNow}
 use Rattle.tpcc_core.specs.Events.{is_ready, Steps, IsChangedAt, IsPostedAt, IsTakenAt, IsServedBy, IsAnsweredBy, IsCollectedAt}
 use Rattle.tpcc_core.specs.Runs.{MovesBy, Passes}
-use Rattle.tpcc_core.specs.Started.{started, seats_of, seat_of, hands_of}
+use Rattle.tpcc_core.specs.OpeningDesk.{opening_desk, seats_of, seat_of, hands_of}
 use Rattle.tpcc_core.specs.Shares.{purses_in, purses_held, purses_of, AddsUp}
 use Rattle.tpcc_core.specs.After.{After}
 
@@ -82,17 +82,17 @@ worth_of_both f d m s t was is held holds changed moved rest same =
     let first : f m.first ≡ f d.first = ap f rest in
     omega (arith, ints, seats, hands, first, same)
 
-sent_same : (f : PurseView → ℤ) (b : Mailbox PurseView) (q : Request) → total f (purses_in (sent b q)) ≡ total f (purses_in b)
-sent_same f (box.Free p) q = refl
-sent_same f (box.Posted l) q = refl
-sent_same f (box.Taken s) q = refl
-sent_same f (box.Answered a) q = refl
+post_keeps_purses : (f : PurseView → ℤ) (b : Mailbox PurseView) (q : Request) → total f (purses_in (mailbox_after_post b q)) ≡ total f (purses_in b)
+post_keeps_purses f (box.Free p) q = refl
+post_keeps_purses f (box.Posted l) q = refl
+post_keeps_purses f (box.Taken s) q = refl
+post_keeps_purses f (box.Answered a) q = refl
 
-emptied_same : (f : PurseView → ℤ) (b : Mailbox PurseView) → total f (purses_in (emptied b)) ≡ total f (purses_in b)
-emptied_same f (box.Free p) = refl
-emptied_same f (box.Posted l) = refl
-emptied_same f (box.Taken s) = refl
-emptied_same f (box.Answered a) = refl
+collect_keeps_purses : (f : PurseView → ℤ) (b : Mailbox PurseView) → total f (purses_in (mailbox_after_collect b)) ≡ total f (purses_in b)
+collect_keeps_purses f (box.Free p) = refl
+collect_keeps_purses f (box.Posted l) = refl
+collect_keeps_purses f (box.Taken s) = refl
+collect_keeps_purses f (box.Answered a) = refl
 
 taken_none : (f : PurseView → ℤ) (b : Mailbox PurseView) → is_taken b ≡ true → total f (purses_in b) ≡ pos 0
 taken_none f (box.Free p) is = absurd cc
@@ -101,10 +101,10 @@ taken_none f (box.Taken s) is = refl
 taken_none f (box.Answered a) is = absurd cc
 
 post_worth : (f : PurseView → ℤ) (d m : DeskNow) (t : ℕ) (q : Request) → IsPostedAt d t q m → worth f m ≡ worth f d
-post_worth f d m t q p = worth_of_seat f d m t p.seat (record p.seat { mailbox = sent p.seat.mailbox q }) p.seats p.rest (sent_same f p.seat.mailbox q)
+post_worth f d m t q p = worth_of_seat f d m t p.seat (record p.seat { mailbox = mailbox_after_post p.seat.mailbox q }) p.seats p.rest (post_keeps_purses f p.seat.mailbox q)
 
 collect_worth : (f : PurseView → ℤ) (d m : DeskNow) (t : ℕ) → IsCollectedAt d t m → worth f m ≡ worth f d
-collect_worth f d m t p = worth_of_seat f d m t p.seat (collected_from p.seat) p.seats p.rest (emptied_same f p.seat.mailbox)
+collect_worth f d m t p = worth_of_seat f d m t p.seat (seat_after_collect p.seat) p.seats p.rest (collect_keeps_purses f p.seat.mailbox)
 
 take_worth : (f : PurseView → ℤ) (d m : DeskNow) (s t : ℕ) → IsTakenAt d s t m → worth f m ≡ worth f d
 take_worth f d m s t p =
@@ -136,10 +136,10 @@ record Grows (old new : Past) (was is : PurseView) : Type 0 where
 paid_more : (entries : List Entry) (entry : Entry) → paid_by_entries (entries ++ entry ∷ []) ≡ paid_by_entries entries +ℤ paid_by_request entry.request
 paid_more entries entry = let more = total-append (λ (e : Entry). paid_by_request e.request) entries (entry ∷ []) in omega (arith, ints, more)
 
-grown : (old new : Past) (purse is : PurseView) (request : Request) (place : Option ℕ) (o : Result Reply Refusal)
+shares_grow : (old new : Past) (purse is : PurseView) (request : Request) (place : Option ℕ) (o : Result Reply Refusal)
     → ForOk o (Accepts old purse.terminal purse.entries request place new) → ForErr o (Refuses old purse.terminal purse.entries request place new)
-    → MatchResult o (λ reply. is ≡ credited purse (paid_by_request request)) (λ refusal. is ≡ purse) → Grows old new purse is
-grown old new purse is request place (Ok reply) accepts refuses fits =
+    → MatchResult o (λ reply. is ≡ purse_after purse (paid_by_request request)) (λ refusal. is ≡ purse) → Grows old new purse is
+shares_grow old new purse is request place (Ok reply) accepts refuses fits =
     let a = accepts reply refl in
     let entry = entry_of old purse.terminal purse.entries request in
     let longer : length new.entries ≡ length old.entries + 1 = ap (λ (p : Past). length p.entries) a.new_is ∙ length-append old.entries (entry ∷ []) in
@@ -147,7 +147,7 @@ grown old new purse is request place (Ok reply) accepts refuses fits =
     let entries_is : is.entries ≡ purse.entries + 1 = ap (λ (p : PurseView). p.entries) fits in
     let paid_is : is.paid ≡ purse.paid +ℤ paid_by_request request = ap (λ (p : PurseView). p.paid) fits in
     record { room = ap (λ (p : PurseView). p.room) fits; entries = omega (arith, longer, entries_is); paid = omega (arith, ints, paid, paid_is) }
-grown old new purse is request place (Err refusal) accepts refuses fits =
+shares_grow old new purse is request place (Err refusal) accepts refuses fits =
     let same = (refuses refusal refl).same in
     let longer : length new.entries ≡ length old.entries = ap (λ (p : Past). length p.entries) same in
     let paid : paid_by_entries new.entries ≡ paid_by_entries old.entries = ap (λ (p : Past). paid_by_entries p.entries) same in
@@ -185,7 +185,7 @@ serve_balances d m s p balances =
     let letter = p.served.letter in
     let answer = p.served.answer in
     let turn = p.served.served.turn in
-    let grows = grown d.book m.book letter.purse answer.purse letter.request answer.place answer.outcome turn.accepts turn.refuses p.served.served.fits.purse_is in
+    let grows = shares_grow d.book m.book letter.purse answer.purse letter.request answer.place answer.outcome turn.accepts turn.refuses p.served.served.fits.purse_is in
     let room_is = grows.room in
     let entries_are = grows.entries in
     let paid_is = grows.paid in
@@ -236,7 +236,7 @@ none_held f (suc count) =
     let rest = none_held f count in
     omega (arith, ints, more, rest)
 
-start_balances : (opening : Opening) (terminals servers : ℕ) → terminals ≤ most_purses → Balances (started opening terminals servers)
+start_balances : (opening : Opening) (terminals servers : ℕ) → terminals ≤ most_purses → Balances (opening_desk opening terminals servers)
 start_balances opening terminals servers most =
     let rooms = one_seated room_column (λ t. refl) terminals in
     let entries = none_seated entries_column (λ t. refl) terminals in
@@ -267,4 +267,4 @@ adds_up d balances kept =
 
 pub purses_add_up : (opening : Opening) (terminals servers : ℕ) (events : List Event) (desk : DeskNow) → After opening terminals servers events desk → IsKept desk.book → AddsUp desk
 purses_add_up opening terminals servers events desk after kept =
-    adds_up desk (passes_balance (started opening terminals servers) events desk after.passes (start_balances opening terminals servers after.terminals_in.1)) kept
+    adds_up desk (passes_balance (opening_desk opening terminals servers) events desk after.passes (start_balances opening terminals servers after.terminals_in.1)) kept

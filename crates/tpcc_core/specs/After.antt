@@ -10,7 +10,7 @@ use Rattle.tpcc_core.specs.declared.event.Event.TheVariants as event
 use Rattle.tpcc_core.specs.declared.mailbox.Collected.{Collected}
 use Rattle.tpcc_core.specs.Desks.{DeskNow}
 use Rattle.tpcc_core.specs.Runs.{Passes}
-use Rattle.tpcc_core.specs.Started.{started}
+use Rattle.tpcc_core.specs.OpeningDesk.{opening_desk}
 use Rattle.tpcc_core.specs.Traces.{posts_of, served_of}
 
 -- the request of a post has its moment in range
@@ -27,12 +27,12 @@ pub record After (opening : Opening) (terminals servers : ℕ) (events : List Ev
   pub terminals_in : (1 ≤ terminals) × (terminals ≤ most_purses)
   pub servers_in : 1 ≤ servers
   pub in_range : list_all is_in_range events ≡ true
-  pub passes : Passes (started opening terminals servers) events desk
+  pub passes : Passes (opening_desk opening terminals servers) events desk
 
 -- the requests of a terminal's ready posts in that run, in posting order
-abbrev pub posted : {opening : Opening} {terminals servers : ℕ} {events : List Event} {desk : DeskNow} → After opening terminals servers events desk → ℕ → List Request
-posted {opening} {terminals} {servers} {events} {desk} after t = posts_of t (started opening terminals servers) events desk after.passes
+abbrev pub posted_requests : {opening : Opening} {terminals servers : ℕ} {events : List Event} {desk : DeskNow} → After opening terminals servers events desk → ℕ → List Request
+posted_requests {opening} {terminals} {servers} {events} {desk} after t = posts_of t (opening_desk opening terminals servers) events desk after.passes
 
 -- what the book answered it in that run, refusals too, in the order of serving
-abbrev pub served : {opening : Opening} {terminals servers : ℕ} {events : List Event} {desk : DeskNow} → After opening terminals servers events desk → ℕ → List Collected
-served {opening} {terminals} {servers} {events} {desk} after t = served_of t (started opening terminals servers) events desk after.passes
+abbrev pub served_answers : {opening : Opening} {terminals servers : ℕ} {events : List Event} {desk : DeskNow} → After opening terminals servers events desk → ℕ → List Collected
+served_answers {opening} {terminals} {servers} {events} {desk} after t = served_of t (opening_desk opening terminals servers) events desk after.passes

@@ -28,12 +28,12 @@ abbrev pub item : {X : Type 0} → List X → ℕ → Option X
 item xs number = item_in xs (place_of number (length xs))
 
 -- what f tells of an item, and a value where there is none
-abbrev pub told : {X Y : Type 0} → Y → (X → Y) → Option X → Y
-told none f found = unwrap_or (option_map f found) none
+abbrev pub map_or : {X Y : Type 0} → Y → (X → Y) → Option X → Y
+map_or none f found = unwrap_or (option_map f found) none
 
 -- of a number of no terminal there is neither purse nor answer
 abbrev pub purse_of : DeskNow → ℕ → Option PurseView
-purse_of d terminal = told None (λ seat. purse_at seat.mailbox) (item d.seats terminal)
+purse_of d terminal = map_or None (λ seat. purse_at seat.mailbox) (item d.seats terminal)
 
 abbrev pub collected_of : DeskNow → ℕ → List Collected
-collected_of d terminal = told [] (λ seat. seat.collected) (item d.seats terminal)
+collected_of d terminal = map_or [] (λ seat. seat.collected) (item d.seats terminal)

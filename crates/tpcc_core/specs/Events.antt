@@ -2,7 +2,7 @@
 use Rattle.std.specs.Prelude.{ℕ, ◌≡◌, Bool, true, false, ◌&&◌, List, length, slice_get, slice_set, Option, Some, None}
 use Rattle.tpcc_rows.specs.declared.requests.Request.{Request}
 use Rattle.tpcc_book.specs.Purses.{PurseView}
-use Rattle.tpcc_book.specs.Told.{Told}
+use Rattle.tpcc_book.specs.AnswerView.{AnswerView}
 use Rattle.tpcc_core.specs.declared.event.Event.{Event}
 use Rattle.tpcc_core.specs.declared.event.Event.TheVariants as event
 use Rattle.tpcc_core.specs.declared.mailbox.Hand.{Hand}
@@ -10,13 +10,13 @@ use Rattle.tpcc_core.specs.declared.mailbox.Hand.TheVariants as hand
 use Rattle.tpcc_core.specs.declared.mailbox.Mailbox.TheVariants as box
 use Rattle.tpcc_core.specs.declared.mailbox.Letter.{Letter}
 use Rattle.tpcc_core.specs.Seats.{SeatNow, is_free, is_posted, is_taken, is_answered}
-use Rattle.tpcc_core.specs.SeatSteps.{sent, collected_from}
+use Rattle.tpcc_core.specs.SeatSteps.{mailbox_after_post, seat_after_collect}
 use Rattle.tpcc_core.specs.Hands.{is_empty, holds_letter, answer_for, Serves}
-use Rattle.tpcc_core.specs.Desks.{DeskNow, place_of, item_in, told}
+use Rattle.tpcc_core.specs.Desks.{DeskNow, place_of, item_in, map_or}
 
 -- what has this number is so; nothing that is not there is
 abbrev pub tests_in : {X : Type 0} → (X → Bool) → List X → Option ℕ → Bool
-tests_in test xs place = told false test (item_in xs place)
+tests_in test xs place = map_or false test (item_in xs place)
 
 abbrev pub tests_at : {X : Type 0} → (X → Bool) → List X → ℕ → Bool
 tests_at test xs number = tests_in test xs (place_of number (length xs))
@@ -55,7 +55,7 @@ pub record IsChangedAt {X : Type 0} (old : List X) (number : ℕ) (was is : X) (
 -- Post: the terminal's mailbox is free, and gets its purse with the request
 pub record IsPostedAt (old : DeskNow) (terminal : ℕ) (request : Request) (new : DeskNow) : Type 0 where
   pub seat : SeatNow PurseView
-  pub seats : IsChangedAt old.seats terminal seat (record seat { mailbox = sent seat.mailbox request }) new.seats
+  pub seats : IsChangedAt old.seats terminal seat (record seat { mailbox = mailbox_after_post seat.mailbox request }) new.seats
   pub ready : is_free seat.mailbox ≡ true
   pub rest : new ≡ record old { seats = new.seats }
 
@@ -79,7 +79,7 @@ pub record IsServedBy (old : DeskNow) (server : ℕ) (new : DeskNow) : Type 0 wh
 -- Answer: the answer goes from the server's hand into the letter's mailbox
 pub record IsAnsweredBy (old : DeskNow) (server : ℕ) (new : DeskNow) : Type 0 where
   pub terminal : ℕ
-  pub answer : Told PurseView
+  pub answer : AnswerView PurseView
   pub seat : SeatNow PurseView
   pub ready : is_taken seat.mailbox ≡ true
   pub seats : IsChangedAt old.seats terminal seat (record seat { mailbox = box.Answered answer }) new.seats
@@ -90,7 +90,7 @@ pub record IsAnsweredBy (old : DeskNow) (server : ℕ) (new : DeskNow) : Type 0 
 pub record IsCollectedAt (old : DeskNow) (terminal : ℕ) (new : DeskNow) : Type 0 where
   pub seat : SeatNow PurseView
   pub ready : is_answered seat.mailbox ≡ true
-  pub seats : IsChangedAt old.seats terminal seat (collected_from seat) new.seats
+  pub seats : IsChangedAt old.seats terminal seat (seat_after_collect seat) new.seats
   pub rest : new ≡ record old { seats = new.seats }
 
 -- when an event is ready

@@ -1,6 +1,6 @@
 -- What goes between a mailbox and a hand.
 use Rattle.std.specs.Prelude.{ℕ, ◌≡◌}
-use Rattle.tpcc_book.specs.Told.{Told}
+use Rattle.tpcc_book.specs.AnswerView.{AnswerView}
 use Rattle.tpcc_core.specs.declared.mailbox.Hand.{Hand}
 use Rattle.tpcc_core.specs.declared.mailbox.Hand.TheVariants as hand
 use Rattle.tpcc_core.specs.declared.mailbox.Mailbox.TheVariants as box
@@ -17,6 +17,6 @@ pub record IsHanded {P : Type 0} (seat : SeatNow P) (held : Hand P) (server term
 
 -- the answer in a hand is in its mailbox
 pub record IsReturned {P : Type 0} (seat : SeatNow P) (held : Hand P) (after : SeatNow P) (holds : Hand P) : Type 0 where
-  pub answer : Told P
+  pub answer : AnswerView P
   pub given : IsGiven held answer holds
   pub after_is : after ≡ record seat { mailbox = box.Answered answer }

@@ -2,7 +2,7 @@
 use Rattle.std.specs.Prelude.{ℕ, ◌≡◌, Bool, true, false, Option, Some, None}
 use Rattle.tpcc_book.specs.Past.{Past}
 use Rattle.tpcc_book.specs.Purses.{PurseView}
-use Rattle.tpcc_book.specs.Told.{Told}
+use Rattle.tpcc_book.specs.AnswerView.{AnswerView}
 use Rattle.tpcc_book.specs.Serve.{IsServed}
 use Rattle.tpcc_core.specs.declared.mailbox.Hand.{Hand}
 use Rattle.tpcc_core.specs.declared.mailbox.Hand.TheVariants as hand
@@ -30,7 +30,7 @@ answer_for (hand.Holds terminal letter) = None
 answer_for (hand.Served terminal answer) = Some terminal
 
 -- the answer leaves the hand
-pub record IsGiven {P : Type 0} (old : Hand P) (answer : Told P) (new : Hand P) : Type 0 where
+pub record IsGiven {P : Type 0} (old : Hand P) (answer : AnswerView P) (new : Hand P) : Type 0 where
   pub terminal : ℕ
   pub was : old ≡ hand.Served terminal answer
   pub is : new ≡ hand.Empty
@@ -39,7 +39,7 @@ pub record IsGiven {P : Type 0} (old : Hand P) (answer : Told P) (new : Hand P) 
 pub record Serves (old : Hand PurseView) (book : Past) (new : Hand PurseView) (after : Past) : Type 0 where
   pub terminal : ℕ
   pub letter : Letter PurseView
-  pub answer : Told PurseView
+  pub answer : AnswerView PurseView
   pub was : old ≡ hand.Holds terminal letter
   pub served : IsServed book letter.request letter.purse answer after
   pub is : new ≡ hand.Served terminal answer

@@ -4,7 +4,7 @@ pub mod Hands
 pub mod Desks
 pub mod Events
 pub mod Exchanges
-pub mod Started
+pub mod OpeningDesk
 pub mod Runs
 pub mod Flights
 pub mod Traces

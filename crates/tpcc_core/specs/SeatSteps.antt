@@ -1,7 +1,7 @@
 -- What events do to a terminal's seat.
 use Rattle.std.specs.Prelude.{ℕ, ◌≡◌, List, [], ◌∷◌, ◌++◌}
 use Rattle.tpcc_rows.specs.declared.requests.Request.{Request}
-use Rattle.tpcc_book.specs.Told.{Told}
+use Rattle.tpcc_book.specs.AnswerView.{AnswerView}
 use Rattle.tpcc_core.specs.declared.mailbox.Mailbox.{Mailbox}
 use Rattle.tpcc_core.specs.declared.mailbox.Mailbox.TheVariants as box
 use Rattle.tpcc_core.specs.declared.mailbox.Letter.{Letter}
@@ -9,11 +9,11 @@ use Rattle.tpcc_core.specs.declared.mailbox.Collected.{Collected}
 use Rattle.tpcc_core.specs.Seats.{SeatNow}
 
 -- the purse of a free mailbox goes into it with a request
-abbrev pub sent : {P : Type 0} → Mailbox P → Request → Mailbox P
-sent (box.Free purse) request = box.Posted (record { request = request; purse = purse })
-sent (box.Posted letter) request = box.Posted letter
-sent (box.Taken server) request = box.Taken server
-sent (box.Answered answer) request = box.Answered answer
+abbrev pub mailbox_after_post : {P : Type 0} → Mailbox P → Request → Mailbox P
+mailbox_after_post (box.Free purse) request = box.Posted (record { request = request; purse = purse })
+mailbox_after_post (box.Posted letter) request = box.Posted letter
+mailbox_after_post (box.Taken server) request = box.Taken server
+mailbox_after_post (box.Answered answer) request = box.Answered answer
 
 -- a server has the letter
 pub record IsTakenFrom {P : Type 0} (old : SeatNow P) (server : ℕ) (letter : Letter P) (new : SeatNow P) : Type 0 where
@@ -21,21 +21,21 @@ pub record IsTakenFrom {P : Type 0} (old : SeatNow P) (server : ℕ) (letter : L
   pub is : new ≡ record old { mailbox = box.Taken server }
 
 -- what a terminal keeps of an answer
-abbrev pub kept_of : {P : Type 0} → Told P → Collected
+abbrev pub kept_of : {P : Type 0} → AnswerView P → Collected
 kept_of answer = record { request = answer.request; outcome = answer.outcome; place = answer.place }
 
 -- the terminal takes the purse out of its mailbox, and keeps the answer that waits there
-abbrev pub emptied : {P : Type 0} → Mailbox P → Mailbox P
-emptied (box.Free purse) = box.Free purse
-emptied (box.Posted letter) = box.Posted letter
-emptied (box.Taken server) = box.Taken server
-emptied (box.Answered answer) = box.Free answer.purse
+abbrev pub mailbox_after_collect : {P : Type 0} → Mailbox P → Mailbox P
+mailbox_after_collect (box.Free purse) = box.Free purse
+mailbox_after_collect (box.Posted letter) = box.Posted letter
+mailbox_after_collect (box.Taken server) = box.Taken server
+mailbox_after_collect (box.Answered answer) = box.Free answer.purse
 
-abbrev pub waiting : {P : Type 0} → Mailbox P → List Collected
-waiting (box.Free purse) = []
-waiting (box.Posted letter) = []
-waiting (box.Taken server) = []
-waiting (box.Answered answer) = kept_of answer ∷ []
+abbrev pub waiting_answer : {P : Type 0} → Mailbox P → List Collected
+waiting_answer (box.Free purse) = []
+waiting_answer (box.Posted letter) = []
+waiting_answer (box.Taken server) = []
+waiting_answer (box.Answered answer) = kept_of answer ∷ []
 
-abbrev pub collected_from : {P : Type 0} → SeatNow P → SeatNow P
-collected_from seat = record { mailbox = emptied seat.mailbox; collected = seat.collected ++ waiting seat.mailbox }
+abbrev pub seat_after_collect : {P : Type 0} → SeatNow P → SeatNow P
+seat_after_collect seat = record { mailbox = mailbox_after_collect seat.mailbox; collected = seat.collected ++ waiting_answer seat.mailbox }

@@ -11,7 +11,7 @@ use Rattle.tpcc_core.specs.declared.mailbox.Collected.{Collected}
 use Rattle.tpcc_core.specs.declared.mailbox.Hand.{Hand}
 use Rattle.tpcc_core.specs.declared.mailbox.Hand.TheVariants as hand
 use Rattle.tpcc_core.specs.SeatSteps.{kept_of}
-use Rattle.tpcc_core.specs.Desks.{DeskNow, item, told}
+use Rattle.tpcc_core.specs.Desks.{DeskNow, item, map_or}
 use Rattle.tpcc_core.specs.Events.{is_ready}
 use Rattle.tpcc_core.specs.Runs.{Passes}
 
@@ -34,7 +34,7 @@ answer_in t (hand.Served terminal answer) = if terminal == t then kept_of answer
 abbrev pub answered_by : ℕ → Event → DeskNow → List Collected
 answered_by t (event.Post terminal request) new = []
 answered_by t (event.Take server terminal) new = []
-answered_by t (event.Serve server) new = told [] (answer_in t) (item new.hands server)
+answered_by t (event.Serve server) new = map_or [] (answer_in t) (item new.hands server)
 answered_by t (event.Answer server) new = []
 answered_by t (event.Collect terminal) new = []
 answered_by t event.Close new = []
@@ -50,13 +50,13 @@ served_of t old [] new passes = []
 served_of t old (e ∷ es) new passes = (if is_ready old e then answered_by t e passes.0 else []) ++ served_of t passes.0 es new passes.2
 
 -- the entries that a terminal's answers stand for, the accepted ones alone, numbered from n on
-abbrev pub entered : ℕ → ℕ → Request → Result Reply Refusal → (ℕ → List Entry) → List Entry
-entered t n request (Ok reply) more = record { terminal = t; number = n; request = request; reply = reply } ∷ more (n + 1)
-entered t n request (Err refusal) more = more n
+abbrev pub with_entry : ℕ → ℕ → Request → Result Reply Refusal → (ℕ → List Entry) → List Entry
+with_entry t n request (Ok reply) more = record { terminal = t; number = n; request = request; reply = reply } ∷ more (n + 1)
+with_entry t n request (Err refusal) more = more n
 
 abbrev pub entries_from : ℕ → ℕ → List Collected → List Entry
 entries_from t n [] = []
-entries_from t n (c ∷ cs) = entered t n c.request c.outcome (λ k. entries_from t k cs)
+entries_from t n (c ∷ cs) = with_entry t n c.request c.outcome (λ k. entries_from t k cs)
 
 -- a terminal's entries in a journal
 abbrev pub entries_by : ℕ → List Entry → List Entry

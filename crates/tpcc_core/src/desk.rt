@@ -3,7 +3,7 @@ ghost use Rattle.std.specs.Prelude.{◌≡◌, take, is_ok, ◌↔◌, ◌<◌, 
 ghost use Rattle.std.specs.Option.{option_copied};
 ghost use Rattle.tpcc_book.specs.Past.{IsKept};
 ghost use Rattle.tpcc_book.specs.Purses.{most_purses};
-ghost use Rattle.tpcc_core.specs.Started.{started};
+ghost use Rattle.tpcc_core.specs.OpeningDesk.{opening_desk};
 ghost use Rattle.tpcc_core.specs.Runs.{Moves, Passes, StopsAt};
 ghost use Rattle.tpcc_core.specs.Desks.{place_of, purse_of, collected_of};
 ghost use Rattle.tpcc_core.specs.Events.{answer_place, is_ready, is_post, Steps, IsPostedAt, IsTakenAt, IsServedBy, IsAnsweredBy, IsCollectedAt, can_post, can_take, can_serve, can_answer, can_collect};
@@ -92,7 +92,7 @@ impl<N: Naming> Desk<N> {
         requires cents { blanks.cents.name ≡ N.cents }
         requires terminals { (1 ≤ terminals) × (terminals ≤ most_purses) }
         requires servers { 1 ≤ servers }
-        ensures started { IfOk result (λ d. d ≡ started opening.now terminals servers) }
+        ensures started { IfOk result (λ d. d ≡ opening_desk opening.now terminals servers) }
     {
         let (book, first) = Book::start(alloc, opening, blanks)?;
         let mut first = first;
@@ -255,7 +255,7 @@ impl<N: Naming> Desk<N> {
         Ok(())
     }
 
-    #[tactic(auto, using(crate::proofs::Running::moved, crate::proofs::Running::stayed))]
+    #[tactic(auto, using(crate::proofs::Running::ready_moves, crate::proofs::Running::unready_stays))]
     // One event, or nothing where it is not ready; false where memory is wanted, and nothing happened.
     fn go(&mut self, event: Event) -> bool
         ensures went { result ≡ true → Moves self.old event self.new }

@@ -5,14 +5,14 @@ ghost use Rattle.tpcc_book.specs.Past.{IsKept};
 ghost use Rattle.tpcc_book.specs.Purses.{most_purses};
 ghost use Rattle.tpcc_population.specs.declared.opening.Opening.{Opening};
 ghost use Rattle.tpcc_core.specs.declared.event.Event.{Event};
-ghost use Rattle.tpcc_core.specs.After.{After, is_in_range, posted, served};
+ghost use Rattle.tpcc_core.specs.After.{After, is_in_range, posted_requests, served_answers};
 ghost use Rattle.tpcc_core.specs.Desks.{DeskNow, collected_of};
 ghost use Rattle.tpcc_core.specs.Events.{can_answer, tests_at};
 ghost use Rattle.tpcc_core.specs.Hands.{holds_answer};
-ghost use Rattle.tpcc_core.specs.Flights.{IsOrdered, under_way, unserved};
+ghost use Rattle.tpcc_core.specs.Flights.{IsOrdered, under_way, unserved_request};
 ghost use Rattle.tpcc_core.specs.Runs.{Passes};
-ghost use Rattle.tpcc_core.specs.Started.{started};
-ghost use Rattle.tpcc_core.specs.SeatSteps.{waiting};
+ghost use Rattle.tpcc_core.specs.OpeningDesk.{opening_desk};
+ghost use Rattle.tpcc_core.specs.SeatSteps.{waiting_answer};
 ghost use Rattle.tpcc_core.specs.Shares.{AddsUp};
 ghost use Rattle.tpcc_core.specs.Traces.{entries_by, entries_from, IsRecorded, IsAllOrAllButLast};
 
@@ -50,23 +50,23 @@ pub fn letters_are_apart()
 pub fn requests_are_served_in_order()
     ensures order { (opening : Opening) (terminals servers : ℕ) (events : List Event)
         (desk : DeskNow) (after : After opening terminals servers events desk) (terminal : ℕ)
-        → IsAllOrAllButLast (map (λ answer. answer.request) (served after terminal))
-        (posted after terminal) }
+        → IsAllOrAllButLast (map (λ answer. answer.request) (served_answers after terminal))
+        (posted_requests after terminal) }
     ensures last { (opening : Opening) (terminals servers : ℕ) (events : List Event)
         (desk : DeskNow) (after : After opening terminals servers events desk) (terminal : ℕ)
-        → posted after terminal
-        ≡ map (λ answer. answer.request) (served after terminal)
-        ++ unserved (under_way desk terminal) }
+        → posted_requests after terminal
+        ≡ map (λ answer. answer.request) (served_answers after terminal)
+        ++ unserved_request (under_way desk terminal) }
 {}
 
 /// A terminal has collected all its answers, or all but the last, which is then under way.
 pub fn answers_are_collected_in_order()
     ensures order { (opening : Opening) (terminals servers : ℕ) (events : List Event)
         (desk : DeskNow) (after : After opening terminals servers events desk) (terminal : ℕ)
-        → IsAllOrAllButLast (collected_of desk terminal) (served after terminal) }
+        → IsAllOrAllButLast (collected_of desk terminal) (served_answers after terminal) }
     ensures last { (opening : Opening) (terminals servers : ℕ) (events : List Event)
         (desk : DeskNow) (after : After opening terminals servers events desk) (terminal : ℕ)
-        → served after terminal ≡ collected_of desk terminal ++ waiting (under_way desk terminal) }
+        → served_answers after terminal ≡ collected_of desk terminal ++ waiting_answer (under_way desk terminal) }
 {}
 
 /// A terminal's entries in the journal are its accepted requests with their replies, in the order of serving and numbered
@@ -74,10 +74,10 @@ pub fn answers_are_collected_in_order()
 pub fn entries_are_accepted_requests()
     ensures entries { (opening : Opening) (terminals servers : ℕ) (events : List Event)
         (desk : DeskNow) (after : After opening terminals servers events desk) (terminal : ℕ)
-        → entries_by terminal desk.book.entries ≡ entries_from terminal 0 (served after terminal) }
+        → entries_by terminal desk.book.entries ≡ entries_from terminal 0 (served_answers after terminal) }
     ensures served { (opening : Opening) (terminals servers : ℕ) (events : List Event)
         (desk : DeskNow) (after : After opening terminals servers events desk) (terminal : ℕ)
-        → All (IsRecorded desk.book.entries terminal) (served after terminal) }
+        → All (IsRecorded desk.book.entries terminal) (served_answers after terminal) }
     ensures collected { (opening : Opening) (terminals servers : ℕ) (events : List Event)
         (desk : DeskNow) (after : After opening terminals servers events desk) (terminal : ℕ)
         → All (IsRecorded desk.book.entries terminal) (collected_of desk terminal) }
@@ -96,7 +96,7 @@ pub fn purses_add_up(opening: Opening)
 pub fn events_follow()
     ensures start { (opening : Opening) (terminals servers : ℕ) → (1 ≤ terminals)
         × (terminals ≤ most_purses) → 1 ≤ servers
-        → After opening terminals servers [] (started opening terminals servers) }
+        → After opening terminals servers [] (opening_desk opening terminals servers) }
     ensures more { (opening : Opening) (terminals servers : ℕ) (events later : List Event)
         (desk last : DeskNow)
         → After opening terminals servers events desk → list_all is_in_range later ≡ true

@@ -1,7 +1,7 @@
 //! The seats and servers that a desk starts with.
 ghost use Rattle.std.specs.Prelude.{◌≡◌, ◌≤◌, ◌-◌, pos, IfOk, OnOk};
 ghost use Rattle.tpcc_book.specs.Purses.{first_purse, most_purses};
-ghost use Rattle.tpcc_core.specs.Started.{seats_of, hands_of};
+ghost use Rattle.tpcc_core.specs.OpeningDesk.{seats_of, hands_of};
 
 use crate::seat::Seat;
 use crate::server::Server;

@@ -2,7 +2,7 @@
 ghost use Rattle.std.specs.Prelude.{◌≡◌, is_ok, is_some, IfErr, ◌<◌, ◌∷◌, ◌++◌, vec_len, vec_capacity, ◌↔◌, [], IfOk, IfSome, IfNone, OnOk, OnErr, IsErrOf, Option, Some, None, true, false};
 ghost use Rattle.std.specs.Option.{option_copied};
 ghost use Rattle.tpcc_core.specs.Seats.{is_free, is_posted, is_answered, is_taken, purse_at};
-ghost use Rattle.tpcc_core.specs.SeatSteps.{sent, IsTakenFrom, collected_from};
+ghost use Rattle.tpcc_core.specs.SeatSteps.{mailbox_after_post, IsTakenFrom, seat_after_collect};
 
 use crate::fault::CoreFault;
 use crate::mailbox::{Collected, Letter, Mailbox};
@@ -86,7 +86,7 @@ impl<P: Drop> Seat<P> {
     /// The purse goes into the mailbox with a request.
     pub(crate) fn post(&mut self, request: Request) -> Result<(), CoreFault>
         ensures posted { OnOk result (self.new
-            ≡ record self.old { mailbox = sent self.old.mailbox request }) }
+            ≡ record self.old { mailbox = mailbox_after_post self.old.mailbox request }) }
         ensures not_ready { IsErrOf result CoreFault.NotReady ↔ (is_free self.old.mailbox ≡ false) }
         ensures ready { OnOk result (is_free self.old.mailbox ≡ true) }
         ensures same { OnErr result (self.new ≡ self.old) }
@@ -127,7 +127,7 @@ impl<P: Drop> Seat<P> {
 
     /// The terminal takes its purse and its answer out.
     pub(crate) fn collect(&mut self) -> Result<(), CoreFault>
-        ensures collected { OnOk result (self.new ≡ collected_from self.old) }
+        ensures collected { OnOk result (self.new ≡ seat_after_collect self.old) }
         ensures ready { is_ok result ≡ is_answered self.old.mailbox }
         ensures fault { IfErr result (λ fault. fault ≡ CoreFault.NotReady) }
         ensures same { OnErr result (self.new ≡ self.old) }
@@ -177,7 +177,7 @@ pub(crate) fn refuse(request: Request, fault: CoreFault) -> CoreFault
 
 // The purse of a free mailbox goes into it with a request.
 fn send<P: Drop>(mailbox: Mailbox<P>, request: Request) -> Mailbox<P>
-    ensures { result ≡ sent mailbox request }
+    ensures { result ≡ mailbox_after_post mailbox request }
 {
     match mailbox {
         Mailbox::Free(purse) => post_letter(request, purse),

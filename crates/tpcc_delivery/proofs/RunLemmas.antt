@@ -43,9 +43,9 @@ first_ready rows queue q at order e oldest none =
 
 -- ---- a run that was prepared
 
-abbrev shown : DistrictDelivery → Delivery → DistrictDelivery
-shown other NoneQueued = other
-shown other (District d) = d
+abbrev district_or : DistrictDelivery → Delivery → DistrictDelivery
+district_or other NoneQueued = other
+district_or other (District d) = d
 
 -- what is known of the district that a run delivers
 pub record IsNext (rows : Rows) (queue : List QueuedTicket) (d : DistrictDelivery) : Type 0 where
@@ -55,6 +55,6 @@ pub record IsNext (rows : Rows) (queue : List QueuedTicket) (d : DistrictDeliver
 pub district_known : (rows : Rows) (queue : List QueuedTicket) (at : ℕ) (d : DistrictDelivery) → IsQueueInRange queue → run_refusal rows queue ≡ None → District d ≡ run_reply rows queue at → IsNext rows queue d
 district_known rows [] at d all none e = cc
 district_known rows (q ∷ queue) at d all none e =
-    let there : delivery_of rows q at ≡ d = sym (ap (shown d) e) in
+    let there : delivery_of rows q at ≡ d = sym (ap (district_or d) e) in
     subst (IsNext rows (q ∷ queue)) there
     (record { carrier = carrier_in q (first_in_range (q ∷ queue) q all refl); accepted = sym (refusal_of_first rows (q ∷ queue) q refl) ∙ none })

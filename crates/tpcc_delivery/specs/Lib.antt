@@ -1,2 +1,2 @@
-pub mod Waiting
+pub mod QueueView
 pub mod Runs

@@ -19,9 +19,9 @@ pub struct Queue {
 impl Model for Queue {
     ghost use Rattle.std.specs.Prelude.{◌-◌, vec_len, vec_capacity};
     ghost use Rattle.tpcc_rows.specs.WellKeyed.{IsQueueInRange};
-    ghost use Rattle.tpcc_delivery.specs.Waiting.{Waiting};
+    ghost use Rattle.tpcc_delivery.specs.QueueView.{QueueView};
 
-    ghost Value = { Waiting };
+    ghost Value = { QueueView };
 
     ghost view = { λ q. record { tickets = q.tickets.items; room = vec_capacity q.tickets - vec_len q.tickets } };
 

@@ -7,7 +7,7 @@ use Rattle.std.specs.List.{list_all, list_any}
 use Rattle.std.proofs.lemmas.Bool.Decides.{nat_tests}
 use Rattle.std.proofs.lemmas.List.Quantifiers.{position-Some}
 use Rattle.tpcc_rows.specs.Lists.{updated, inserted, inserted_all, is_ascending, key_before}
-use Rattle.tpcc_laws.proofs.ListLemmas.{has_one, one_of_key, updated_absent, not_taken}
+use Rattle.tpcc_laws.proofs.ListLemmas.{has_one, one_of_key, updated_absent, else_taken}
 use Rattle.tpcc_keyed.specs.Searches.{is_same_key}
 use Rattle.tpcc_keyed.proofs.PlaceLemmas.{found_there, none_before}
 
@@ -80,7 +80,7 @@ replaced_step passes change x y ys true is one at next =
 replaced_step passes change x y ys false is one at next =
     let later : has_one passes ys ≡ true = grind (arith, is) in
     let found : find passes ys ≡ Some x = grind (arith, is) in
-    λ i. (not_taken (passes y) (change x) y is ∙ sym (not_taken (passes y) (change y) y is)) i ∷ next later found i
+    λ i. (else_taken (passes y) (change x) y is ∙ sym (else_taken (passes y) (change y) y is)) i ∷ next later found i
 
 replaced_one : {X : Type 0} (passes : X → Bool) (change : X → X) (x : X) (xs : List X) → has_one passes xs ≡ true → find passes xs ≡ Some x → updated passes (λ z. change x) xs ≡ updated passes change xs
 replaced_one passes change x [] one at = refl
@@ -109,7 +109,7 @@ unfound_updated passes change [] e = refl
 unfound_updated passes change (x ∷ xs) e =
     let other : passes x ≡ false = grind arith in
     let rest : find passes xs ≡ None = grind arith in
-    λ i. sym (not_taken (passes x) (change x) x other) i ∷ unfound_updated passes change xs rest i
+    λ i. sym (else_taken (passes x) (change x) x other) i ∷ unfound_updated passes change xs rest i
 
 -- ---- filters of ascending rows
 

@@ -17,16 +17,16 @@ use Rattle.tpcc_rows.specs.Tables.{Rows, is_district, is_order, is_line_of, is_n
 use Rattle.tpcc_rows.specs.WellKeyed.{IsKeyed, HasParents, has_order}
 use Rattle.tpcc_rows.specs.Conditions.{IsConsistent, keeps_1, keeps_2, keeps_3, keeps_4, keeps_5, keeps_6, keeps_7, keeps_8, keeps_9, keeps_10, keeps_12, new_order_numbers, delivered_amount, delivered_to}
 use Rattle.tpcc_rows.specs.Delivery.{after_delivery, oldest_new_order, order_amount, delivered_customer}
-use Rattle.tpcc_laws.proofs.ListLemmas.{has_one, one_of_key, list_all-mono, list_all-updated, find-none, filter-none, total-updated_none, total-updated_same, taken, not_taken}
+use Rattle.tpcc_laws.proofs.ListLemmas.{has_one, one_of_key, list_all-mono, list_all-updated, find-none, filter-none, total-updated_none, total-updated_same, then_taken, else_taken}
 use Rattle.tpcc_laws.proofs.RemoveLemmas.{found_passes, filter-removed_other, find-removed_other, find-removed, find-updated_other, find-updated_self, length-updated_same, sum_by-updated_same, map-updated_same, total-updated_all, total-changed_one, is_rising, above-smallest, filter-above, rising-span}
 use Rattle.tpcc_laws.proofs.OrderKeeps.{test_2, test_3, all_equal, both_equal, by_contradiction, true_is_false, first, second}
 use Rattle.tpcc_laws.proofs.PaymentKeeps.{equal, as_equal}
 
-abbrev pub carried : ℕ → OrderRow → OrderRow
-carried carrier r = record r { carrier = Some carrier }
+abbrev pub with_carrier : ℕ → OrderRow → OrderRow
+with_carrier carrier r = record r { carrier = Some carrier }
 
-abbrev pub stamped : ℕ → OrderLineRow → OrderLineRow
-stamped at l = record l { delivered = Some at }
+abbrev pub with_delivery_date : ℕ → OrderLineRow → OrderLineRow
+with_delivery_date at l = record l { delivered = Some at }
 
 -- ---- keys of three numbers
 
@@ -42,40 +42,40 @@ pub delivery_keeps_4 : (rows : Rows) (W D o carrier at : ℕ) → list_all (keep
 unfolding keeps_4 after_delivery
 delivery_keeps_4 rows W D o carrier at h =
     list_all-mono (keeps_4 rows) (keeps_4 (after_delivery rows W D o carrier at))
-    (λ d k. (λ i. sum_by-updated_same (λ r. r.line_count) (λ r. (r.warehouse == d.warehouse) && (r.district == d.id)) (is_order W D o) (carried carrier) (λ r. (refl, refl)) rows.orders i == length-updated_same (λ l. (l.warehouse == d.warehouse) && (l.district == d.id)) (is_line_of W D o) (stamped at) (λ l. refl) rows.order_lines i) ∙ k)
+    (λ d k. (λ i. sum_by-updated_same (λ r. r.line_count) (λ r. (r.warehouse == d.warehouse) && (r.district == d.id)) (is_order W D o) (with_carrier carrier) (λ r. (refl, refl)) rows.orders i == length-updated_same (λ l. (l.warehouse == d.warehouse) && (l.district == d.id)) (is_line_of W D o) (with_delivery_date at) (λ l. refl) rows.order_lines i) ∙ k)
     rows.districts h
 
-pub delivery_keeps_6 : (rows : Rows) (W D o carrier at : ℕ) → list_all (keeps_6 rows) rows.orders ≡ true → list_all (keeps_6 (after_delivery rows W D o carrier at)) (updated (is_order W D o) (carried carrier) rows.orders) ≡ true
+pub delivery_keeps_6 : (rows : Rows) (W D o carrier at : ℕ) → list_all (keeps_6 rows) rows.orders ≡ true → list_all (keeps_6 (after_delivery rows W D o carrier at)) (updated (is_order W D o) (with_carrier carrier) rows.orders) ≡ true
 unfolding keeps_6 after_delivery
 delivery_keeps_6 rows W D o carrier at =
-    list_all-updated (keeps_6 rows) (keeps_6 (after_delivery rows W D o carrier at)) (is_order W D o) (carried carrier)
-    (λ r k other. (λ i. r.line_count == length-updated_same (is_line_of r.warehouse r.district r.id) (is_line_of W D o) (stamped at) (λ l. refl) rows.order_lines i) ∙ k)
-    (λ r k this. (λ i. r.line_count == length-updated_same (is_line_of r.warehouse r.district r.id) (is_line_of W D o) (stamped at) (λ l. refl) rows.order_lines i) ∙ k)
+    list_all-updated (keeps_6 rows) (keeps_6 (after_delivery rows W D o carrier at)) (is_order W D o) (with_carrier carrier)
+    (λ r k other. (λ i. r.line_count == length-updated_same (is_line_of r.warehouse r.district r.id) (is_line_of W D o) (with_delivery_date at) (λ l. refl) rows.order_lines i) ∙ k)
+    (λ r k this. (λ i. r.line_count == length-updated_same (is_line_of r.warehouse r.district r.id) (is_line_of W D o) (with_delivery_date at) (λ l. refl) rows.order_lines i) ∙ k)
     rows.orders
 
 -- ---- conditions 5 and 7
 
-pub delivery_keeps_5 : (rows : Rows) (W D o carrier at : ℕ) → list_all (keeps_5 rows) rows.orders ≡ true → list_all (keeps_5 (after_delivery rows W D o carrier at)) (updated (is_order W D o) (carried carrier) rows.orders) ≡ true
+pub delivery_keeps_5 : (rows : Rows) (W D o carrier at : ℕ) → list_all (keeps_5 rows) rows.orders ≡ true → list_all (keeps_5 (after_delivery rows W D o carrier at)) (updated (is_order W D o) (with_carrier carrier) rows.orders) ≡ true
 unfolding keeps_5 after_delivery
 delivery_keeps_5 rows W D o carrier at =
-    list_all-updated (keeps_5 rows) (keeps_5 (after_delivery rows W D o carrier at)) (is_order W D o) (carried carrier)
+    list_all-updated (keeps_5 rows) (keeps_5 (after_delivery rows W D o carrier at)) (is_order W D o) (with_carrier carrier)
     (λ r k other. (λ i. beq (is_none r.carrier) (is_some (find-removed_other (is_new_order r.warehouse r.district r.id) (is_new_order W D o) (λ n here. keys_apart r.warehouse r.district r.id W D o n.warehouse n.district n.order other here) rows.new_orders i))) ∙ k)
     (λ r k this i. beq false (find-removed (is_new_order r.warehouse r.district r.id) (is_new_order W D o) (λ n here. keys_same r.warehouse r.district r.id W D o n.warehouse n.district n.order this here) rows.new_orders i))
     rows.orders
 
-carrier_of : (r : Option OrderRow) (carrier : ℕ) → is_some r ≡ true → is_none (unwrap_or (option_map (carried carrier) r) no_order).carrier ≡ false
+carrier_of : (r : Option OrderRow) (carrier : ℕ) → is_some r ≡ true → is_none (unwrap_or (option_map (with_carrier carrier) r) no_order).carrier ≡ false
 carrier_of None carrier e = cc
 carrier_of (Some r) carrier e = refl
 
-pub delivery_keeps_7 : (rows : Rows) (W D o carrier at : ℕ) → is_some (find_order rows W D o) ≡ true → list_all (keeps_7 rows) rows.order_lines ≡ true → list_all (keeps_7 (after_delivery rows W D o carrier at)) (updated (is_line_of W D o) (stamped at) rows.order_lines) ≡ true
+pub delivery_keeps_7 : (rows : Rows) (W D o carrier at : ℕ) → is_some (find_order rows W D o) ≡ true → list_all (keeps_7 rows) rows.order_lines ≡ true → list_all (keeps_7 (after_delivery rows W D o carrier at)) (updated (is_line_of W D o) (with_delivery_date at) rows.order_lines) ≡ true
 unfolding keeps_7 after_delivery
 delivery_keeps_7 rows W D o carrier at found =
-    list_all-updated (keeps_7 rows) (keeps_7 (after_delivery rows W D o carrier at)) (is_line_of W D o) (stamped at)
-    (λ l k other. (λ i. beq (is_none l.delivered) (is_none (unwrap_or (find-updated_other (is_order l.warehouse l.district l.order) (is_order W D o) (carried carrier) (λ r here. (keys_apart l.warehouse l.district l.order W D o r.warehouse r.district r.id other here, keys_apart l.warehouse l.district l.order W D o r.warehouse r.district r.id other here)) rows.orders i) no_order).carrier)) ∙ k)
+    list_all-updated (keeps_7 rows) (keeps_7 (after_delivery rows W D o carrier at)) (is_line_of W D o) (with_delivery_date at)
+    (λ l k other. (λ i. beq (is_none l.delivered) (is_none (unwrap_or (find-updated_other (is_order l.warehouse l.district l.order) (is_order W D o) (with_carrier carrier) (λ r here. (keys_apart l.warehouse l.district l.order W D o r.warehouse r.district r.id other here, keys_apart l.warehouse l.district l.order W D o r.warehouse r.district r.id other here)) rows.orders i) no_order).carrier)) ∙ k)
     (λ l k this.
     let same = all_equal l.warehouse W l.district D l.order o this in
-    (λ i. beq false (is_none (unwrap_or (find (is_order (same.0 i) (same.1 i) (same.2 i)) (updated (is_order W D o) (carried carrier) rows.orders)) no_order).carrier))
-    ∙ (λ i. beq false (is_none (unwrap_or (find-updated_self (is_order W D o) (carried carrier) (λ r. refl) rows.orders i) no_order).carrier))
+    (λ i. beq false (is_none (unwrap_or (find (is_order (same.0 i) (same.1 i) (same.2 i)) (updated (is_order W D o) (with_carrier carrier) rows.orders)) no_order).carrier))
+    ∙ (λ i. beq false (is_none (unwrap_or (find-updated_self (is_order W D o) (with_carrier carrier) (λ r. refl) rows.orders i) no_order).carrier))
     ∙ (λ i. beq false (carrier_of (find_order rows W D o) carrier found i)))
     rows.order_lines
 
@@ -209,7 +209,7 @@ numbers_this rows W D o carrier at d this =
 
 orders_same : (rows : Rows) (W D o carrier at : ℕ) (d : DistrictRow) → map (λ r. r.id) (orders_in (after_delivery rows W D o carrier at) d.warehouse d.id) ≡ map (λ r. r.id) (orders_in rows d.warehouse d.id)
 unfolding after_delivery
-orders_same rows W D o carrier at d = map-updated_same (λ r. r.id) (λ r. (r.warehouse == d.warehouse) && (r.district == d.id)) (is_order W D o) (carried carrier) (λ r. (refl, refl)) rows.orders
+orders_same rows W D o carrier at d = map-updated_same (λ r. r.id) (λ r. (r.warehouse == d.warehouse) && (r.district == d.id)) (is_order W D o) (with_carrier carrier) (λ r. (refl, refl)) rows.orders
 
 oldest_of : (rows : Rows) (W D o : ℕ) (d : DistrictRow) → is_district W D d ≡ true → oldest_new_order rows W D ≡ Some o → smallest (new_order_numbers rows d) ≡ Some o
 oldest_of rows W D o d this e = let same = both_equal d.warehouse W d.id D this in (λ i. oldest_new_order rows (same.0 i) (same.1 i)) ∙ e
@@ -255,9 +255,9 @@ and_none : (a b : Bool) → (a ≡ true → b ≡ false) → (a && b) ≡ false
 and_none true b h = h refl
 and_none false b h = refl
 
-undelivered : (rows : Rows) (W D o : ℕ) → is_none (order_at rows W D o).carrier ≡ true → list_all (keeps_7 rows) rows.order_lines ≡ true → total (λ l. l.amount) (filter (λ l. is_line_of W D o l && is_some l.delivered) rows.order_lines) ≡ pos 0
+no_carrier_no_amount : (rows : Rows) (W D o : ℕ) → is_none (order_at rows W D o).carrier ≡ true → list_all (keeps_7 rows) rows.order_lines ≡ true → total (λ l. l.amount) (filter (λ l. is_line_of W D o l && is_some l.delivered) rows.order_lines) ≡ pos 0
 unfolding keeps_7
-undelivered rows W D o none h =
+no_carrier_no_amount rows W D o none h =
     ap (total (λ l. l.amount)) (filter-none (keeps_7 rows) (λ l. is_line_of W D o l && is_some l.delivered)
     (λ l k. and_none (is_line_of W D o l) (is_some l.delivered) (λ this.
     let same = all_equal l.warehouse W l.district D l.order o this in
@@ -267,7 +267,7 @@ undelivered rows W D o none h =
 amount_other : (rows : Rows) (W D o carrier at : ℕ) (r : OrderRow) → is_order W D o r ≡ false → delivered_amount (after_delivery rows W D o carrier at) r ≡ delivered_amount rows r
 unfolding after_delivery
 amount_other rows W D o carrier at r other =
-    total-updated_none (λ l. l.amount) (λ l. is_line_of r.warehouse r.district r.id l && is_some l.delivered) (is_line_of W D o) (stamped at)
+    total-updated_none (λ l. l.amount) (λ l. is_line_of r.warehouse r.district r.id l && is_some l.delivered) (is_line_of W D o) (with_delivery_date at)
     (λ l here.
     let apart = keys_apart r.warehouse r.district r.id W D o l.warehouse l.district l.order other here in
     (ap (λ b. b && is_some l.delivered) apart, ap (λ b. b && true) apart))
@@ -280,17 +280,17 @@ amount_this : (rows : Rows) (W D o carrier at : ℕ) → is_none (order_at rows 
 unfolding after_delivery
 amount_this rows W D o carrier at none h r this =
     let same = all_equal r.warehouse W r.district D r.id o this in
-    let after : total (λ l. l.amount) (filter (λ l. is_line_of W D o l && is_some l.delivered) (updated (is_line_of W D o) (stamped at) rows.order_lines)) ≡ order_amount rows W D o =
-    total-updated_all (λ l. l.amount) (is_line_of W D o) (λ l. is_some l.delivered) (stamped at) (λ l here. (here, refl, refl)) rows.order_lines in
+    let after : total (λ l. l.amount) (filter (λ l. is_line_of W D o l && is_some l.delivered) (updated (is_line_of W D o) (with_delivery_date at) rows.order_lines)) ≡ order_amount rows W D o =
+    total-updated_all (λ l. l.amount) (is_line_of W D o) (λ l. is_some l.delivered) (with_delivery_date at) (λ l here. (here, refl, refl)) rows.order_lines in
     let before : delivered_amount rows r ≡ pos 0 =
-    (λ i. total (λ l. l.amount) (filter (λ l. is_line_of (same.0 i) (same.1 i) (same.2 i) l && is_some l.delivered) rows.order_lines)) ∙ undelivered rows W D o none h in
-    (λ i. total (λ l. l.amount) (filter (λ l. is_line_of (same.0 i) (same.1 i) (same.2 i) l && is_some l.delivered) (updated (is_line_of W D o) (stamped at) rows.order_lines)))
+    (λ i. total (λ l. l.amount) (filter (λ l. is_line_of (same.0 i) (same.1 i) (same.2 i) l && is_some l.delivered) rows.order_lines)) ∙ no_carrier_no_amount rows W D o none h in
+    (λ i. total (λ l. l.amount) (filter (λ l. is_line_of (same.0 i) (same.1 i) (same.2 i) l && is_some l.delivered) (updated (is_line_of W D o) (with_delivery_date at) rows.order_lines)))
     ∙ after ∙ zero_and (delivered_amount rows r) (order_amount rows W D o) before
 
 orders_after_delivery : (rows : Rows) (W D o carrier at : ℕ) (c : CustomerRow) → delivered_to (after_delivery rows W D o carrier at) c ≡ total (delivered_amount (after_delivery rows W D o carrier at)) (orders_of rows c.warehouse c.district c.id)
 unfolding after_delivery
 orders_after_delivery rows W D o carrier at c =
-    total-updated_same (delivered_amount (after_delivery rows W D o carrier at)) (is_order_of c.warehouse c.district c.id) (is_order W D o) (carried carrier) (λ r. (refl, refl)) rows.orders
+    total-updated_same (delivered_amount (after_delivery rows W D o carrier at)) (is_order_of c.warehouse c.district c.id) (is_order W D o) (with_carrier carrier) (λ r. (refl, refl)) rows.orders
 
 -- what is known of a delivered order
 pub record Known (rows : Rows) (W D o : ℕ) : Type 0 where
@@ -332,16 +332,16 @@ pub delivery_keeps_10 : (rows : Rows) (W D o carrier at : ℕ) (known : Known ro
 unfolding keeps_10
 delivery_keeps_10 rows W D o carrier at known h7 =
     list_all-updated (keeps_10 rows) (keeps_10 (after_delivery rows W D o carrier at)) (is_customer W D (order_at rows W D o).customer) (delivered_customer (order_amount rows W D o))
-    (λ c k other. (λ i. int_eq c.balance ((delivered_to_after rows W D o carrier at known h7 c ∙ not_taken _ _ _ (of_customer rows W D o known c false other)) i -ℤ paid_total rows W D o carrier at c i)) ∙ k)
-    (λ c k this. (λ i. int_eq (c.balance +ℤ order_amount rows W D o) (delivered_to (after_delivery rows W D o carrier at) c -ℤ paid_total rows W D o carrier at c i)) ∙ risen_10 c.balance (delivered_to rows c) (delivered_to (after_delivery rows W D o carrier at) c) (total (λ h. h.amount) (paid_by rows c.warehouse c.district c.id)) (order_amount rows W D o) k (delivered_to_after rows W D o carrier at known h7 c ∙ taken _ _ _ (of_customer rows W D o known c true this)))
+    (λ c k other. (λ i. int_eq c.balance ((delivered_to_after rows W D o carrier at known h7 c ∙ else_taken _ _ _ (of_customer rows W D o known c false other)) i -ℤ paid_total rows W D o carrier at c i)) ∙ k)
+    (λ c k this. (λ i. int_eq (c.balance +ℤ order_amount rows W D o) (delivered_to (after_delivery rows W D o carrier at) c -ℤ paid_total rows W D o carrier at c i)) ∙ risen_10 c.balance (delivered_to rows c) (delivered_to (after_delivery rows W D o carrier at) c) (total (λ h. h.amount) (paid_by rows c.warehouse c.district c.id)) (order_amount rows W D o) k (delivered_to_after rows W D o carrier at known h7 c ∙ then_taken _ _ _ (of_customer rows W D o known c true this)))
     rows.customers
 
 pub delivery_keeps_12 : (rows : Rows) (W D o carrier at : ℕ) (known : Known rows W D o) → list_all (keeps_7 rows) rows.order_lines ≡ true → list_all (keeps_12 rows) rows.customers ≡ true → list_all (keeps_12 (after_delivery rows W D o carrier at)) (updated (is_customer W D (order_at rows W D o).customer) (delivered_customer (order_amount rows W D o)) rows.customers) ≡ true
 unfolding keeps_12
 delivery_keeps_12 rows W D o carrier at known h7 =
     list_all-updated (keeps_12 rows) (keeps_12 (after_delivery rows W D o carrier at)) (is_customer W D (order_at rows W D o).customer) (delivered_customer (order_amount rows W D o))
-    (λ c k other. (λ i. int_eq (c.balance +ℤ c.ytd_payment) ((delivered_to_after rows W D o carrier at known h7 c ∙ not_taken _ _ _ (of_customer rows W D o known c false other)) i)) ∙ k)
-    (λ c k this. risen_12 c.balance c.ytd_payment (delivered_to rows c) (delivered_to (after_delivery rows W D o carrier at) c) (order_amount rows W D o) k (delivered_to_after rows W D o carrier at known h7 c ∙ taken _ _ _ (of_customer rows W D o known c true this)))
+    (λ c k other. (λ i. int_eq (c.balance +ℤ c.ytd_payment) ((delivered_to_after rows W D o carrier at known h7 c ∙ else_taken _ _ _ (of_customer rows W D o known c false other)) i)) ∙ k)
+    (λ c k this. risen_12 c.balance c.ytd_payment (delivered_to rows c) (delivered_to (after_delivery rows W D o carrier at) c) (order_amount rows W D o) k (delivered_to_after rows W D o carrier at known h7 c ∙ then_taken _ _ _ (of_customer rows W D o known c true this)))
     rows.customers
 
 -- a look-up that finds something

@@ -16,7 +16,7 @@ use Rattle.tpcc_rows.specs.WellKeyed.{IsKeyed, IsInRange, IsQueueInRange}
 use Rattle.tpcc_rows.specs.Delivery.{after_delivery, delivered_customer, order_amount, rows_after_district, state_after_run, delivery_tests, district_refusal, run_refusal, oldest_new_order, queue_with, ticket_refusal, ticket_tests}
 use Rattle.tpcc_laws.proofs.ListLemmas.{has_one, list_all-updated, list_all-updated_found, updated_absent}
 use Rattle.tpcc_laws.proofs.DeliveryKeys.{list_all-filter}
-use Rattle.tpcc_laws.proofs.DeliveryKeeps.{carried, stamped}
+use Rattle.tpcc_laws.proofs.DeliveryKeeps.{with_carrier, with_delivery_date}
 use Rattle.tpcc_laws.proofs.RemoveLemmas.{found_passes}
 use Rattle.tpcc_rows.proofs.Booleans.{split, both_true}
 use Rattle.tpcc_laws.proofs.TurnKeeps.{all_false}
@@ -32,20 +32,20 @@ fourth_last_changed x e a b c e' h k = grind arith
 last_but_one : (x e f e' : Bool) → (x && e && f) ≡ true → e' ≡ true → (x && e' && f) ≡ true
 last_but_one x e f e' h k = grind arith
 
-credited : (x b y c d i b' d' : Bool) → (x && b && y && c && d && i) ≡ true → b' ≡ true → d' ≡ true → (x && b' && y && c && d' && i) ≡ true
-credited x b y c d i b' d' h hb hd = grind arith
+two_tests_replaced : (x b y c d i b' d' : Bool) → (x && b && y && c && d && i) ≡ true → b' ≡ true → d' ≡ true → (x && b' && y && c && d' && i) ≡ true
+two_tests_replaced x b y c d i b' d' h hb hd = grind arith
 
-carried_row : (carrier : ℕ) (o : OrderRow) → is_carrier carrier ≡ true → is_order_row o ≡ true → is_order_row (carried carrier o) ≡ true
+carried_row : (carrier : ℕ) (o : OrderRow) → is_carrier carrier ≡ true → is_order_row o ≡ true → is_order_row (with_carrier carrier o) ≡ true
 unfolding is_order_row
 carried_row carrier o h k = last_but_one _ (is_null_or is_carrier o.carrier) _ (is_carrier carrier) k h
 
-stamped_row : (at : ℕ) (l : OrderLineRow) → is_moment at ≡ true → is_order_line_row l ≡ true → is_order_line_row (stamped at l) ≡ true
+stamped_row : (at : ℕ) (l : OrderLineRow) → is_moment at ≡ true → is_order_line_row l ≡ true → is_order_line_row (with_delivery_date at l) ≡ true
 unfolding is_order_line_row
 stamped_row at l h k = fourth_last_changed _ (is_null_or is_moment l.delivered) _ _ _ (is_moment at) k h
 
 delivered_row : (amount : ℤ) (c : CustomerRow) → is_customer_row c ≡ true → is_balance (c.balance +ℤ amount) ≡ true → is_count (c.delivery_count + 1) ≡ true → is_customer_row (delivered_customer amount c) ≡ true
 unfolding is_customer_row
-delivered_row amount c h hb hd = credited _ (is_balance c.balance) (is_total c.ytd_payment) (is_count c.payment_count) (is_count c.delivery_count) (is_text 500 c.information) (is_balance (c.balance +ℤ amount)) (is_count (c.delivery_count + 1)) h hb hd
+delivered_row amount c h hb hd = two_tests_replaced _ (is_balance c.balance) (is_total c.ytd_payment) (is_count c.payment_count) (is_count c.delivery_count) (is_text 500 c.information) (is_balance (c.balance +ℤ amount)) (is_count (c.delivery_count + 1)) h hb hd
 
 none_any : {X : Type 0} (passes : X → Bool) (xs : List X) → find passes xs ≡ None → list_any passes xs ≡ false
 none_any passes [] e = refl
@@ -56,8 +56,8 @@ found_or_not : {X : Type 0} (test passes : X → Bool) (change : X → X) (xs : 
 found_or_not test passes change xs None e all one changed = ap (list_all test) (updated_absent passes change xs (none_any passes xs e)) ∙ all
 found_or_not test passes change xs (Some x) e all one changed = list_all-updated_found test passes change xs all (one x e) changed
 
-charged : (rows : Rows) (W D o : ℕ) (c : CustomerRow) → district_refusal rows W D (Some o) ≡ None → find (is_customer W D (order_at rows W D o).customer) rows.customers ≡ Some c → is_customer_row c ≡ true → is_customer_row (delivered_customer (order_amount rows W D o) c) ≡ true
-charged rows W D o c none e h =
+charge_is_in_range : (rows : Rows) (W D o : ℕ) (c : CustomerRow) → district_refusal rows W D (Some o) ≡ None → find (is_customer W D (order_at rows W D o).customer) rows.customers ≡ Some c → is_customer_row c ≡ true → is_customer_row (delivered_customer (order_amount rows W D o) c) ≡ true
+charge_is_in_range rows W D o c none e h =
     let t = all_false (delivery_tests rows W D o) none in
     let c_at : customer_at rows W D (order_at rows W D o).customer ≡ c = λ i. unwrap_or (e i) no_customer in
     delivered_row (order_amount rows W D o) c h (ap (λ (x : CustomerRow). is_balance (x.balance +ℤ order_amount rows W D o)) (sym c_at) ∙ not_false _ t.1.0) (ap (λ (x : CustomerRow). is_count (x.delivery_count + 1)) (sym c_at) ∙ not_false _ t.0)
@@ -70,10 +70,10 @@ delivery_in_range rows W D o carrier at hc hm none keyed h =
       warehouses = h.warehouses;
       districts = h.districts;
       customers = found_or_not is_customer_row (is_customer W D k) (delivered_customer (order_amount rows W D o)) rows.customers (find (is_customer W D k) rows.customers) refl h.customers (λ x e. one_customer rows W D k x keyed e)
-          (λ x e. charged rows W D o x none e (found_passes (is_customer W D k) is_customer_row rows.customers x e h.customers).1);
+          (λ x e. charge_is_in_range rows W D o x none e (found_passes (is_customer W D k) is_customer_row rows.customers x e h.customers).1);
       histories = h.histories;
-      orders = list_all-updated is_order_row is_order_row (is_order W D o) (carried carrier) (λ r j other. j) (λ r j this. carried_row carrier r hc j) rows.orders h.orders;
-      order_lines = list_all-updated is_order_line_row is_order_line_row (is_line_of W D o) (stamped at) (λ l j other. j) (λ l j this. stamped_row at l hm j) rows.order_lines h.order_lines;
+      orders = list_all-updated is_order_row is_order_row (is_order W D o) (with_carrier carrier) (λ r j other. j) (λ r j this. carried_row carrier r hc j) rows.orders h.orders;
+      order_lines = list_all-updated is_order_line_row is_order_line_row (is_line_of W D o) (with_delivery_date at) (λ l j other. j) (λ l j this. stamped_row at l hm j) rows.order_lines h.order_lines;
       new_orders = list_all-filter is_new_order_row (λ n. not (is_new_order W D o n)) rows.new_orders h.new_orders;
       items = h.items;
       stocks = h.stocks;

@@ -18,10 +18,10 @@ is_less Less e = refl
 is_less Equal e = cc
 is_less Greater e = cc
 
-reversed : (o p : Ordering) → o ≡ ordering_reverse p → is_lt o ≡ false → is_eq o ≡ false → is_lt p ≡ true
-reversed o Less e f g = refl
-reversed o Equal e f g = cc
-reversed o Greater e f g = let h : o ≡ Less = e in let k : is_lt o ≡ true = ap is_lt h in cc
+reverse_is_less : (o p : Ordering) → o ≡ ordering_reverse p → is_lt o ≡ false → is_eq o ≡ false → is_lt p ≡ true
+reverse_is_less o Less e f g = refl
+reverse_is_less o Equal e f g = cc
+reverse_is_less o Greater e f g = let h : o ≡ Less = e in let k : is_lt o ≡ true = ap is_lt h in cc
 
 not_both : (o p : Ordering) → o ≡ ordering_reverse p → is_lt o ≡ true → is_lt p ≡ false
 not_both o Less e f = let h : o ≡ Greater = e in let k : is_lt o ≡ false = ap is_lt h in cc
@@ -55,7 +55,7 @@ module _ {X : Type 0} (R : X → X → Ordering) (order : IsTotalOrder R) where
   through x y z h k = ap is_lt (order.trans x y z (is_less (R x y) h) (is_less (R y z) k))
 
   other_way : (x y : X) → before x y ≡ false → differs x y ≡ true → before y x ≡ true
-  other_way x y h k = reversed (R x y) (R y x) (order.antisymm x y) h (grind arith)
+  other_way x y h k = reverse_is_less (R x y) (R y x) (order.antisymm x y) h (grind arith)
 
   one_way : (x y : X) → before x y ≡ true → before y x ≡ false
   one_way x y h = not_both (R x y) (R y x) (order.antisymm x y) h

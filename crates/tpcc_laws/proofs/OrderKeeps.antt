@@ -17,7 +17,7 @@ use Rattle.tpcc_rows.specs.Lists.{updated, inserted, inserted_all, by_key, large
 use Rattle.tpcc_rows.specs.Tables.{Rows, order_line_key, districts_of, order_lines_in, lines_of, orders_of, is_order, is_line_of, is_new_order, is_order_of, find_order, find_stock, find_new_order, district_at, orders_in, is_district, no_district, no_order, paid_by, order_key, new_order_key}
 use Rattle.tpcc_rows.specs.Conditions.{IsConsistent, keeps_1, keeps_2, keeps_3, keeps_4, keeps_5, keeps_6, keeps_7, keeps_8, keeps_9, keeps_10, keeps_12, delivered_amount, delivered_to, new_order_numbers}
 use Rattle.tpcc_rows.specs.NewOrder.{after_order, order_line_row, order_line_rows, order_row, new_order_row, order_number, with_next_order}
-use Rattle.tpcc_laws.proofs.ListLemmas.{has_one, list_all-updated_one, list_all_both, taken, not_taken, list_all-mono, list_all-updated, total-updated_same, length-filter-map_all, filter-map_none, filter-none, list_any-none, list_all-map, find-none, total-same}
+use Rattle.tpcc_laws.proofs.ListLemmas.{has_one, list_all-updated_one, list_all_both, then_taken, else_taken, list_all-mono, list_all-updated, total-updated_same, length-filter-map_all, filter-map_none, filter-none, list_any-none, list_all-map, find-none, total-same}
 use Rattle.tpcc_laws.proofs.PaymentKeeps.{same_district, stays}
 use Rattle.tpcc_laws.proofs.InsertLemmas.{largest-inserted, smallest-inserted, length-inserted, sum_by-inserted, length-inserted_all, list_all-inserted, list_all-inserted_all, find-inserted_other, find-inserted_new, found-inserted_new, total-inserted, total-inserted_all}
 
@@ -112,12 +112,12 @@ order_keeps_3 rows order one h2 h3 =
     list_all-updated_one (λ d. keeps_2 rows d && keeps_3 rows d) (keeps_3 (after_order rows order)) (is_district order.warehouse order.district) with_next_order
     (λ d k other.
     let out = same_district d order.warehouse order.district false other in
-    (λ i. test_3 ((newest_after rows order d ∙ not_taken _ _ _ out) i) ((oldest_after rows order d ∙ not_taken _ _ _ out) i) ((count_after rows order d ∙ not_taken _ _ _ out) i))
+    (λ i. test_3 ((newest_after rows order d ∙ else_taken _ _ _ out) i) ((oldest_after rows order d ∙ else_taken _ _ _ out) i) ((count_after rows order d ∙ else_taken _ _ _ out) i))
     ∙ second (keeps_2 rows d) _ k)
     rows.districts (list_all_both (keeps_2 rows) (keeps_3 rows) rows.districts h2 h3) one
     (λ d found k this.
     let here = same_district d order.warehouse order.district true this in
-    (λ i. test_3 ((newest_after rows order d ∙ taken _ _ _ here) i) ((oldest_after rows order d ∙ taken _ _ _ here) i) ((count_after rows order d ∙ taken _ _ _ here) i))
+    (λ i. test_3 ((newest_after rows order d ∙ then_taken _ _ _ here) i) ((oldest_after rows order d ∙ then_taken _ _ _ here) i) ((count_after rows order d ∙ then_taken _ _ _ here) i))
     ∙ (λ i. test_3 (largest (number_of rows order d found i ∷ new_order_numbers rows d)) (smallest (number_of rows order d found i ∷ new_order_numbers rows d)) (suc (length (new_order_numbers rows d))))
     ∙ next_3 d.next_order (new_order_numbers rows d) (second (d.next_order == unwrap_or (largest (map (λ o. o.id) (orders_in rows d.warehouse d.id))) 0 + 1) _ (first (keeps_2 rows d) _ k)) (second (keeps_2 rows d) _ k))
 
@@ -164,10 +164,10 @@ order_keeps_4 rows order =
     list_all-updated (keeps_4 rows) (keeps_4 (after_order rows order)) (is_district order.warehouse order.district) with_next_order
     (λ d k other.
     let out = same_district d order.warehouse order.district false other in
-    (λ i. (line_counts_after rows order d ∙ not_taken _ _ _ out) i == (lines_after rows order d ∙ ap (λ ls. length ls + length (order_lines_in rows d.warehouse d.id)) (no_lines rows order d out) ∙ zero-add (length (order_lines_in rows d.warehouse d.id))) i) ∙ k)
+    (λ i. (line_counts_after rows order d ∙ else_taken _ _ _ out) i == (lines_after rows order d ∙ ap (λ ls. length ls + length (order_lines_in rows d.warehouse d.id)) (no_lines rows order d out) ∙ zero-add (length (order_lines_in rows d.warehouse d.id))) i) ∙ k)
     (λ d k this.
     let here = same_district d order.warehouse order.district true this in
-    (λ i. (line_counts_after rows order d ∙ taken _ _ _ here) i == (lines_after rows order d ∙ ap (λ n. n + length (order_lines_in rows d.warehouse d.id)) (own_lines rows order d here)) i)
+    (λ i. (line_counts_after rows order d ∙ then_taken _ _ _ here) i == (lines_after rows order d ∙ ap (λ n. n + length (order_lines_in rows d.warehouse d.id)) (own_lines rows order d here)) i)
     ∙ same_sum (sum_by (λ o. o.line_count) (orders_in rows d.warehouse d.id)) (length (order_lines_in rows d.warehouse d.id)) (length order.lines) k)
     rows.districts
 
@@ -187,8 +187,8 @@ below_next : (rows : Rows) (w d W D id : ℕ) → w ≡ W → d ≡ D → nat_lt
 below_next rows w d W D id e f h =
     let same : (district_at rows w d).next_order ≡ (district_at rows W D).next_order = λ i. (district_at rows (e i) (f i)).next_order in grind (arith, nat_tests)
 
-pub flipped : (a b : ℕ) → (a == b) ≡ (b == a)
-flipped a b = grind (arith, nat_tests)
+pub equality_is_symmetric : (a b : ℕ) → (a == b) ≡ (b == a)
+equality_is_symmetric a b = grind (arith, nat_tests)
 
 -- no old order has it
 pub not_order : (rows : Rows) (order : Order) (r : OrderRow) → is_numbered_below_next rows r ≡ true → is_order order.warehouse order.district (order_number rows order) r ≡ false
@@ -198,7 +198,7 @@ not_order rows order r h =
 
 not_of_order : (rows : Rows) (order : Order) (r : OrderRow) → is_numbered_below_next rows r ≡ true → ((order.warehouse == r.warehouse) && (order.district == r.district) && (order_number rows order == r.id)) ≡ false
 not_of_order rows order r h =
-    (λ i. flipped order.warehouse r.warehouse i && flipped order.district r.district i && flipped (order_number rows order) r.id i) ∙ not_order rows order r h
+    (λ i. equality_is_symmetric order.warehouse r.warehouse i && equality_is_symmetric order.district r.district i && equality_is_symmetric (order_number rows order) r.id i) ∙ not_order rows order r h
 
 pub no_old_order : (rows : Rows) (order : Order) → list_all (is_numbered_below_next rows) rows.orders ≡ true → is_some (find_order rows order.warehouse order.district (order_number rows order)) ≡ false
 no_old_order rows order h = find-none (is_numbered_below_next rows) (is_order order.warehouse order.district (order_number rows order)) (not_order rows order) rows.orders h
@@ -286,7 +286,7 @@ order_keeps_7 rows order numbers parents h =
     list_all-mono (λ l. keeps_7 rows l && has_order_and_stock rows l) (keeps_7 (after_order rows order))
     (λ l k.
     let apart = not_line rows order.warehouse order.district number (no_old_order rows order numbers) l (second (keeps_7 rows l) _ k) in
-    let other : is_order l.warehouse l.district l.order (order_row rows order) ≡ false = (λ i. flipped order.warehouse l.warehouse i && flipped order.district l.district i && flipped number l.order i) ∙ apart in
+    let other : is_order l.warehouse l.district l.order (order_row rows order) ≡ false = (λ i. equality_is_symmetric order.warehouse l.warehouse i && equality_is_symmetric order.district l.district i && equality_is_symmetric number l.order i) ∙ apart in
     (λ i. beq (is_none l.delivered) (is_none (unwrap_or (find-inserted_other (by_key order_key) (is_order l.warehouse l.district l.order) (order_row rows order) rows.orders other i) no_order).carrier))
     ∙ first (keeps_7 rows l) _ k)
     rows.order_lines (list_all_both (keeps_7 rows) (has_order_and_stock rows) rows.order_lines h parents) in

@@ -90,19 +90,19 @@ amount_fits q (negsuc k) hq hp = let b = amount_within (pos 1) (pos 99999) (negs
 
 -- ---- all STOCK rows
 
-abbrev supplied : StockRow → Line → Bool
-supplied s l = (l.supply == s.warehouse) && (l.item == s.item)
+abbrev is_line_of_stock : StockRow → Line → Bool
+is_line_of_stock s l = (l.supply == s.warehouse) && (l.item == s.item)
 
 none_filtered : {X : Type 0} (q : X → Bool) (xs : List X) → list_any q xs ≡ false → filter q xs ≡ []
 none_filtered q [] e = refl
 none_filtered q (x ∷ xs) e = grind (arith, none_filtered q xs)
 
 -- what a test says of some line that the row supplies
-by_some_line : (s : StockRow) (test : Line → Bool) (c : Bool) → ((l : Line) → supplied s l ≡ true → test l ≡ c) → (ls : List Line) → list_any (supplied s) ls ≡ true → list_all test ls ≡ true → c ≡ true
+by_some_line : (s : StockRow) (test : Line → Bool) (c : Bool) → ((l : Line) → is_line_of_stock s l ≡ true → test l ≡ c) → (ls : List Line) → list_any (is_line_of_stock s) ls ≡ true → list_all test ls ≡ true → c ≡ true
 by_some_line s test c same [] any all = cc
 by_some_line s test c same (l ∷ ls) any all = grind (arith, same l, by_some_line s test c same ls)
 
-supplied_by : (stocks : List StockRow) (s : StockRow) (l : Line) → IsFoundIn stocks s → supplied s l ≡ true → unwrap_or (find (is_stock l.supply l.item) stocks) no_stock ≡ s
+supplied_by : (stocks : List StockRow) (s : StockRow) (l : Line) → IsFoundIn stocks s → is_line_of_stock s l ≡ true → unwrap_or (find (is_stock l.supply l.item) stocks) no_stock ≡ s
 supplied_by stocks s l found h =
     let ew : l.supply ≡ s.warehouse = grind (arith, nat_tests) in
     let ei : l.item ≡ s.item = grind (arith, nat_tests) in
@@ -111,13 +111,13 @@ supplied_by stocks s l found h =
 abbrev pub fits_after : ℕ → List Line → StockRow → Bool
 fits_after home lines s = is_within 0 greatest_stock_ytd (stock_after home lines s).ytd && is_count (stock_after home lines s).order_count && is_count (stock_after home lines s).remote_count
 
-stock_in_range : (home : ℕ) (lines : List Line) (stocks : List StockRow) (s : StockRow) (b : Bool) → list_any (supplied s) lines ≡ b → list_all (λ l. is_within 1 10 l.quantity) lines ≡ true → list_all (λ l. fits_after home lines (unwrap_or (find (is_stock l.supply l.item) stocks) no_stock)) lines ≡ true → IsFoundIn stocks s → is_stock_row s ≡ true → is_stock_row (stock_after home lines s) ≡ true
+stock_in_range : (home : ℕ) (lines : List Line) (stocks : List StockRow) (s : StockRow) (b : Bool) → list_any (is_line_of_stock s) lines ≡ b → list_all (λ l. is_within 1 10 l.quantity) lines ≡ true → list_all (λ l. fits_after home lines (unwrap_or (find (is_stock l.supply l.item) stocks) no_stock)) lines ≡ true → IsFoundIn stocks s → is_stock_row s ≡ true → is_stock_row (stock_after home lines s) ≡ true
 stock_in_range home lines stocks s true any all fits found h =
     let f = by_some_line s (λ l. fits_after home lines (unwrap_or (find (is_stock l.supply l.item) stocks) no_stock)) (fits_after home lines s) (λ l k. ap (fits_after home lines) (supplied_by stocks s l found k)) lines any fits in
     let t = split (is_within 0 greatest_stock_ytd (stock_after home lines s).ytd && is_count (stock_after home lines s).order_count) (is_count (stock_after home lines s).remote_count) f in
     let u = split (is_within 0 greatest_stock_ytd (stock_after home lines s).ytd) (is_count (stock_after home lines s).order_count) t.0 in
     stock_row_after home lines s h all u.0 u.1 t.1
-stock_in_range home lines stocks s false any all fits found h = (λ i. is_stock_row (fold (stock_after_line home) s (none_filtered (supplied s) lines any i))) ∙ h
+stock_in_range home lines stocks s false any all fits found h = (λ i. is_stock_row (fold (stock_after_line home) s (none_filtered (is_line_of_stock s) lines any i))) ∙ h
 
 all_mapped : (home : ℕ) (lines : List Line) (xs : List StockRow) → Each (λ s. is_stock_row (stock_after home lines s) ≡ true) xs → list_all is_stock_row (map (stock_after home lines) xs) ≡ true
 all_mapped home lines [] all = refl
@@ -125,7 +125,7 @@ all_mapped home lines (s ∷ xs) all = both_true (is_stock_row (stock_after home
 
 pub stocks_in_range : (home : ℕ) (lines : List Line) (stocks : List StockRow) → is_ascending stock_key stocks ≡ true → list_all is_stock_row stocks ≡ true → list_all (λ l. is_within 1 10 l.quantity) lines ≡ true → list_all (λ l. fits_after home lines (unwrap_or (find (is_stock l.supply l.item) stocks) no_stock)) lines ≡ true → list_all is_stock_row (map (stock_after home lines) stocks) ≡ true
 stocks_in_range home lines stocks keyed h all fits =
-    all_mapped home lines stocks (each-with (IsFoundIn stocks) (λ s. is_stock_row (stock_after home lines s) ≡ true) is_stock_row (λ s found k. stock_in_range home lines stocks s (list_any (supplied s) lines) refl all fits found k) stocks (each_found stocks keyed) h)
+    all_mapped home lines stocks (each-with (IsFoundIn stocks) (λ s. is_stock_row (stock_after home lines s) ≡ true) is_stock_row (λ s found k. stock_in_range home lines stocks s (list_any (is_line_of_stock s) lines) refl all fits found k) stocks (each_found stocks keyed) h)
 
 -- ---- the order's lines
 

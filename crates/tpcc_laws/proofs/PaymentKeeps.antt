@@ -21,8 +21,8 @@ pub as_equal : (x y : ℤ) → x ≡ y → int_eq x y ≡ true
 as_equal x y h = (Decides-int_eq x y).1 h
 
 -- both sides of an equation that holds are changed alike
-pub moved : (x y x' y' a : ℤ) → int_eq x y ≡ true → x' ≡ x +ℤ a → y' ≡ y +ℤ a → int_eq x' y' ≡ true
-moved x y x' y' a h e f = let same = equal x y h in as_equal x' y' (omega (arith, ints))
+pub both_sides_rise : (x y x' y' a : ℤ) → int_eq x y ≡ true → x' ≡ x +ℤ a → y' ≡ y +ℤ a → int_eq x' y' ≡ true
+both_sides_rise x y x' y' a h e f = let same = equal x y h in as_equal x' y' (omega (arith, ints))
 
 pub stays : (x y y' : ℤ) → int_eq x y ≡ true → y' ≡ y → int_eq x y' ≡ true
 stays x y y' h e = ap (int_eq x) e ∙ h
@@ -38,7 +38,7 @@ unfolding keeps_1 after_payment
 payment_keeps_1 rows p one =
     list_all-updated (keeps_1 rows) (keeps_1 (after_payment rows p)) (is_warehouse p.warehouse) (paid_warehouse p)
     (λ w h other. stays w.ytd (total (λ d. d.ytd) (filter (λ d. d.warehouse == w.id) rows.districts)) _ h (total-updated_none (λ d. d.ytd) (λ d. d.warehouse == w.id) (is_district p.warehouse p.district) (paid_district p) (λ d here. (district_of_other d w.id p.warehouse p.district other here, district_of_other d w.id p.warehouse p.district other here)) rows.districts))
-    (λ w h this. moved w.ytd (total (λ d. d.ytd) (filter (λ d. d.warehouse == w.id) rows.districts)) _ _ p.amount h refl (total-updated_one (λ d. d.ytd) (λ d. d.warehouse == w.id) (is_district p.warehouse p.district) (paid_district p) p.amount (λ d here. (district_of_this d w.id p.warehouse p.district this here, district_of_this d w.id p.warehouse p.district this here, refl)) rows.districts one))
+    (λ w h this. both_sides_rise w.ytd (total (λ d. d.ytd) (filter (λ d. d.warehouse == w.id) rows.districts)) _ _ p.amount h refl (total-updated_one (λ d. d.ytd) (λ d. d.warehouse == w.id) (is_district p.warehouse p.district) (paid_district p) p.amount (λ d here. (district_of_this d w.id p.warehouse p.district this here, district_of_this d w.id p.warehouse p.district this here, refl)) rows.districts one))
     rows.warehouses
 
 -- ---- HISTORY with one more row
@@ -66,7 +66,7 @@ unfolding keeps_8 after_payment
 payment_keeps_8 rows p =
     list_all-updated (keeps_8 rows) (keeps_8 (after_payment rows p)) (is_warehouse p.warehouse) (paid_warehouse p)
     (λ w h other. stays w.ytd (total (λ h. h.amount) (filter (λ h. h.warehouse == w.id) rows.histories)) _ h (push_out (λ h. h.amount) (λ h. h.warehouse == w.id) rows.histories (payment_history rows p (paying_customer rows p)) (same_warehouse w.id p.warehouse false other)))
-    (λ w h this. moved w.ytd (total (λ h. h.amount) (filter (λ h. h.warehouse == w.id) rows.histories)) _ _ p.amount h refl (push_in (λ h. h.amount) (λ h. h.warehouse == w.id) rows.histories (payment_history rows p (paying_customer rows p)) (same_warehouse w.id p.warehouse true this)))
+    (λ w h this. both_sides_rise w.ytd (total (λ h. h.amount) (filter (λ h. h.warehouse == w.id) rows.histories)) _ _ p.amount h refl (push_in (λ h. h.amount) (λ h. h.warehouse == w.id) rows.histories (payment_history rows p (paying_customer rows p)) (same_warehouse w.id p.warehouse true this)))
     rows.warehouses
 
 pub payment_keeps_9 : (rows : Rows) (p : Payment) → list_all (keeps_9 rows) rows.districts ≡ true → list_all (keeps_9 (after_payment rows p)) (after_payment rows p).districts ≡ true
@@ -74,15 +74,15 @@ unfolding keeps_9 after_payment
 payment_keeps_9 rows p =
     list_all-updated (keeps_9 rows) (keeps_9 (after_payment rows p)) (is_district p.warehouse p.district) (paid_district p)
     (λ d h other. stays d.ytd (total (λ h. h.amount) (filter (λ h. (h.warehouse == d.warehouse) && (h.district == d.id)) rows.histories)) _ h (push_out (λ h. h.amount) (λ h. (h.warehouse == d.warehouse) && (h.district == d.id)) rows.histories (payment_history rows p (paying_customer rows p)) (same_district d p.warehouse p.district false other)))
-    (λ d h this. moved d.ytd (total (λ h. h.amount) (filter (λ h. (h.warehouse == d.warehouse) && (h.district == d.id)) rows.histories)) _ _ p.amount h refl (push_in (λ h. h.amount) (λ h. (h.warehouse == d.warehouse) && (h.district == d.id)) rows.histories (payment_history rows p (paying_customer rows p)) (same_district d p.warehouse p.district true this)))
+    (λ d h this. both_sides_rise d.ytd (total (λ h. h.amount) (filter (λ h. (h.warehouse == d.warehouse) && (h.district == d.id)) rows.histories)) _ _ p.amount h refl (push_in (λ h. h.amount) (λ h. (h.warehouse == d.warehouse) && (h.district == d.id)) rows.histories (payment_history rows p (paying_customer rows p)) (same_district d p.warehouse p.district true this)))
     rows.districts
 
 -- balance and payments
-fallen : (b d t t' a : ℤ) → int_eq b (d -ℤ t) ≡ true → t' ≡ t +ℤ a → int_eq (b -ℤ a) (d -ℤ t') ≡ true
-fallen b d t t' a h e = let same = equal b (d -ℤ t) h in as_equal (b -ℤ a) (d -ℤ t') (omega (arith, ints))
+balance_falls : (b d t t' a : ℤ) → int_eq b (d -ℤ t) ≡ true → t' ≡ t +ℤ a → int_eq (b -ℤ a) (d -ℤ t') ≡ true
+balance_falls b d t t' a h e = let same = equal b (d -ℤ t) h in as_equal (b -ℤ a) (d -ℤ t') (omega (arith, ints))
 
-unfallen : (b d t t' : ℤ) → int_eq b (d -ℤ t) ≡ true → t' ≡ t → int_eq b (d -ℤ t') ≡ true
-unfallen b d t t' h e = ap (λ u. int_eq b (d -ℤ u)) e ∙ h
+balance_stays : (b d t t' : ℤ) → int_eq b (d -ℤ t) ≡ true → t' ≡ t → int_eq b (d -ℤ t') ≡ true
+balance_stays b d t t' h e = ap (λ u. int_eq b (d -ℤ u)) e ∙ h
 
 across : (b y d a : ℤ) → int_eq (b +ℤ y) d ≡ true → int_eq ((b -ℤ a) +ℤ (y +ℤ a)) d ≡ true
 across b y d a h = let same = equal (b +ℤ y) d h in as_equal ((b -ℤ a) +ℤ (y +ℤ a)) d (omega (arith, ints))
@@ -93,8 +93,8 @@ payment_keeps_10 rows p =
     let payer = paying_customer rows p in
     let paid = payment_history rows p payer in
     list_all-updated (keeps_10 rows) (keeps_10 (after_payment rows p)) (is_customer payer.warehouse payer.district payer.id) (paid_customer p)
-    (λ c h other. unfallen c.balance (delivered_to rows c) _ _ h (push_out (λ h. h.amount) (is_paid_by c.warehouse c.district c.id) rows.histories paid (same_customer c payer.warehouse payer.district payer.id false other)))
-    (λ c h this. fallen c.balance (delivered_to rows c) _ _ p.amount h (push_in (λ h. h.amount) (is_paid_by c.warehouse c.district c.id) rows.histories paid (same_customer c payer.warehouse payer.district payer.id true this)))
+    (λ c h other. balance_stays c.balance (delivered_to rows c) _ _ h (push_out (λ h. h.amount) (is_paid_by c.warehouse c.district c.id) rows.histories paid (same_customer c payer.warehouse payer.district payer.id false other)))
+    (λ c h this. balance_falls c.balance (delivered_to rows c) _ _ p.amount h (push_in (λ h. h.amount) (is_paid_by c.warehouse c.district c.id) rows.histories paid (same_customer c payer.warehouse payer.district payer.id true this)))
     rows.customers
 
 pub payment_keeps_12 : (rows : Rows) (p : Payment) → list_all (keeps_12 rows) rows.customers ≡ true → list_all (keeps_12 (after_payment rows p)) (after_payment rows p).customers ≡ true

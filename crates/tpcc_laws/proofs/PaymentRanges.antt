@@ -19,7 +19,7 @@ use Rattle.tpcc_laws.proofs.ListLemmas.{has_one, one_of_key, list_all-updated_fo
 use Rattle.tpcc_laws.proofs.RemoveLemmas.{found_passes}
 use Rattle.tpcc_rows.proofs.Booleans.{split, both_true}
 use Rattle.tpcc_laws.proofs.Numbers.{amount_within, is_amount, within}
-use Rattle.tpcc_rows.proofs.PrintableTexts.{are_printable, joined, decimal_printable}
+use Rattle.tpcc_rows.proofs.PrintableTexts.{are_printable, append_is_printable, decimal_printable}
 use Rattle.tpcc_laws.proofs.TextLaws.{amount_printable, text_tells, is_a_text, cut_text}
 use Rattle.tpcc_laws.proofs.PaymentFacts.{payment_facts}
 
@@ -97,21 +97,21 @@ note_printable p c hc hd hw pd pw ha =
     let ed = decimal_printable p.district pd in
     let ew = decimal_printable p.warehouse pw in
     let am = amount_printable p.amount ha in
-    joined (decimal c.id ++ 32 ∷ decimal c.district ++ 32 ∷ decimal c.warehouse ++ 32 ∷ decimal p.district ++ 32 ∷ decimal p.warehouse ++ 32 ∷ amount_text p.amount) (32 ∷ [])
-    (joined (decimal c.id ++ 32 ∷ decimal c.district ++ 32 ∷ decimal c.warehouse ++ 32 ∷ decimal p.district ++ 32 ∷ decimal p.warehouse) (32 ∷ amount_text p.amount)
-    (joined (decimal c.id ++ 32 ∷ decimal c.district ++ 32 ∷ decimal c.warehouse ++ 32 ∷ decimal p.district) (32 ∷ decimal p.warehouse)
-    (joined (decimal c.id ++ 32 ∷ decimal c.district ++ 32 ∷ decimal c.warehouse) (32 ∷ decimal p.district)
-    (joined (decimal c.id ++ 32 ∷ decimal c.district) (32 ∷ decimal c.warehouse) (joined (decimal c.id) (32 ∷ decimal c.district) dc dd) dw) ed) ew) am) refl
+    append_is_printable (decimal c.id ++ 32 ∷ decimal c.district ++ 32 ∷ decimal c.warehouse ++ 32 ∷ decimal p.district ++ 32 ∷ decimal p.warehouse ++ 32 ∷ amount_text p.amount) (32 ∷ [])
+    (append_is_printable (decimal c.id ++ 32 ∷ decimal c.district ++ 32 ∷ decimal c.warehouse ++ 32 ∷ decimal p.district ++ 32 ∷ decimal p.warehouse) (32 ∷ amount_text p.amount)
+    (append_is_printable (decimal c.id ++ 32 ∷ decimal c.district ++ 32 ∷ decimal c.warehouse ++ 32 ∷ decimal p.district) (32 ∷ decimal p.warehouse)
+    (append_is_printable (decimal c.id ++ 32 ∷ decimal c.district ++ 32 ∷ decimal c.warehouse) (32 ∷ decimal p.district)
+    (append_is_printable (decimal c.id ++ 32 ∷ decimal c.district) (32 ∷ decimal c.warehouse) (append_is_printable (decimal c.id) (32 ∷ decimal c.district) dc dd) dw) ed) ew) am) refl
 
 information_text : (b : Bool) (note old : List ℕ) → are_printable note ≡ true → is_text 500 old ≡ true → is_text 500 (if b then take 500 (note ++ old) else old) ≡ true
-information_text true note old h k = cut_text 500 (note ++ old) (joined note old h (text_tells 500 old k).1)
+information_text true note old h k = cut_text 500 (note ++ old) (append_is_printable note old h (text_tells 500 old k).1)
 information_text false note old h k = k
 
 history_text : (a b : List ℕ) → is_text 10 a ≡ true → is_text 10 b ≡ true → is_text 24 (a ++ codes "    " ++ b) ≡ true
 history_text a b h k =
     let ta = text_tells 10 a h in
     let tb = text_tells 10 b k in
-    is_a_text 24 (a ++ codes "    " ++ b) (omega (arith, length-append (a ++ codes "    ") b, length-append a (codes "    "))) (joined (a ++ codes "    ") b (joined a (codes "    ") ta.1 refl) tb.1)
+    is_a_text 24 (a ++ codes "    " ++ b) (omega (arith, length-append (a ++ codes "    ") b, length-append a (codes "    "))) (append_is_printable (a ++ codes "    ") b (append_is_printable a (codes "    ") ta.1 refl) tb.1)
 
 small_id : (high n : ℕ) → high ≤ 100000 → is_within 1 high n ≡ true → n < 2 ^ 64
 small_id high n l h = let s = within 1 high n h in omega arith

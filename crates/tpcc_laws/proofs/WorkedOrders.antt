@@ -19,13 +19,13 @@ use Rattle.tpcc_rows.specs.Tables.{Rows, State, is_stock, is_district, warehouse
 use Rattle.tpcc_rows.specs.Conditions.{first_broken}
 use Rattle.tpcc_rows.specs.Opening.{plain_rows}
 use Rattle.tpcc_rows.specs.Turn.{refusal, state_after, reply_to}
-use Rattle.tpcc_laws.proofs.Small.{computed, opening, orders, pays, line, times}
+use Rattle.tpcc_laws.proofs.Small.{all_definitions, opening, orders, pays, line, times}
 
 abbrev five : Request
 five = orders 1 1 1 0 (line 20 1 10 ∷ line 26 1 8 ∷ line 12 1 10 ∷ line 21 1 5 ∷ line 11 1 10 ∷ [])
 
 five_accepted : refusal opening five ≡ None
-unfolding computed
+unfolding all_definitions
 five_accepted = refl
 
 five_shown : reply_to opening five ≡
@@ -50,11 +50,11 @@ five_shown : reply_to opening five ≡
           ∷ record { number = 5; supply = 1; item = 11; name = codes "ITEMNAME000011"; quantity = 10; stock = 11; brand = Generic; price = pos 110; amount = pos 1100 }
           ∷ [];
     }))
-unfolding computed
+unfolding all_definitions
 five_shown = refl
 
 five_consistent : first_broken (state_after opening five).rows ≡ None
-unfolding computed
+unfolding all_definitions
 five_consistent = refl
 
 -- fifteen lines of one item: its STOCK row is taken from fifteen times
@@ -64,28 +64,28 @@ fifteen = orders 1 1 1 0 (times 15 (line 1 1 1))
 abbrev after_fifteen : State
 after_fifteen = state_after opening fifteen
 
-abbrev sold : StockRow → List ℕ
-sold s = s.quantity ∷ s.ytd ∷ s.order_count ∷ s.remote_count ∷ []
+abbrev stock_columns : StockRow → List ℕ
+stock_columns s = s.quantity ∷ s.ytd ∷ s.order_count ∷ s.remote_count ∷ []
 
-fifteen_sold : sold (stock_at after_fifteen.rows 1 1) ≡ 87 ∷ 15 ∷ 15 ∷ 0 ∷ []
-unfolding computed
+fifteen_sold : stock_columns (stock_at after_fifteen.rows 1 1) ≡ 87 ∷ 15 ∷ 15 ∷ 0 ∷ []
+unfolding all_definitions
 fifteen_sold = refl
 
 abbrev stocks_shown : List EnteredLine → List ℕ
 stocks_shown lines = map (λ l. l.stock) lines
 
-abbrev shown : State → Request → List ℕ
-shown s request = stocks_of (reply_to s request) where
+abbrev reply_stocks : State → Request → List ℕ
+reply_stocks s request = stocks_of (reply_to s request) where
   stocks_of : Reply → List ℕ
   stocks_of (tell.Entered (Accepted a)) = stocks_shown a.lines
   stocks_of _ = []
 
-fifteen_shown : shown opening fifteen ≡ 10 ∷ 100 ∷ 99 ∷ 98 ∷ 97 ∷ 96 ∷ 95 ∷ 94 ∷ 93 ∷ 92 ∷ 91 ∷ 90 ∷ 89 ∷ 88 ∷ 87 ∷ []
-unfolding computed
+fifteen_shown : reply_stocks opening fifteen ≡ 10 ∷ 100 ∷ 99 ∷ 98 ∷ 97 ∷ 96 ∷ 95 ∷ 94 ∷ 93 ∷ 92 ∷ 91 ∷ 90 ∷ 89 ∷ 88 ∷ 87 ∷ []
+unfolding all_definitions
 fifteen_shown = refl
 
 fifteen_consistent : first_broken after_fifteen.rows ≡ None
-unfolding computed
+unfolding all_definitions
 fifteen_consistent = refl
 
 -- what is refused
@@ -93,27 +93,27 @@ abbrev of_lines : List Line → Request
 of_lines lines = orders 1 1 1 0 lines
 
 four_lines : refusal opening (of_lines (times 4 (line 1 1 1))) ≡ Some LineCount
-unfolding computed
+unfolding all_definitions
 four_lines = refl
 
 sixteen_lines : refusal opening (of_lines (times 16 (line 1 1 1))) ≡ Some LineCount
-unfolding computed
+unfolding all_definitions
 sixteen_lines = refl
 
 no_lines : refusal opening (of_lines []) ≡ Some LineCount
-unfolding computed
+unfolding all_definitions
 no_lines = refl
 
 quantity_0 : refusal opening (of_lines (times 4 (line 1 1 1) ++ line 1 1 0 ∷ [])) ≡ Some Quantity
-unfolding computed
+unfolding all_definitions
 quantity_0 = refl
 
 quantity_11 : refusal opening (of_lines (line 1 1 11 ∷ times 4 (line 1 1 1))) ≡ Some Quantity
-unfolding computed
+unfolding all_definitions
 quantity_11 = refl
 
 supply_2 : refusal opening (of_lines (times 4 (line 1 1 1) ++ line 1 2 1 ∷ [])) ≡ Some NoSupply
-unfolding computed
+unfolding all_definitions
 supply_2 = refl
 
 -- an unused item number rolls the order back
@@ -121,22 +121,22 @@ abbrev unused : Request
 unused = of_lines (line 1 1 1 ∷ line 2 1 1 ∷ line 3 1 1 ∷ line 4 1 1 ∷ line 101 1 1 ∷ [])
 
 unused_shown : reply_to opening unused ≡ tell.Entered (RolledBack (record { warehouse = 1; district = 1; customer = 1; last = codes "BARBARBAR"; credit = codes "GC"; order = 11 }))
-unfolding computed
+unfolding all_definitions
 unused_shown = refl
 
 unused_leaves : state_after opening unused ≡ opening
-unfolding computed
+unfolding all_definitions
 unused_leaves = refl
 
 abbrev used : Request
 used = of_lines (line 1 1 1 ∷ line 2 1 1 ∷ line 3 1 1 ∷ line 4 1 1 ∷ line 5 1 1 ∷ [])
 
-used_shown : shown (state_after opening unused) used ≡ 10 ∷ 11 ∷ 12 ∷ 13 ∷ 14 ∷ []
-unfolding computed
+used_shown : reply_stocks (state_after opening unused) used ≡ 10 ∷ 11 ∷ 12 ∷ 13 ∷ 14 ∷ []
+unfolding all_definitions
 used_shown = refl
 
 used_lines : total (λ l. l.amount) (lines_of (state_after opening used).rows 1 1 11) ≡ pos 510
-unfolding computed
+unfolding all_definitions
 used_lines = refl
 
 -- ranges are tested only of an order that is not rolled back
@@ -150,41 +150,41 @@ abbrev worn : State
 worn = with_stock (λ s. record s { order_count = 999999999 })
 
 rolled_back_first : refusal worn (of_lines (line 1 1 1 ∷ line 2 1 1 ∷ line 101 1 1 ∷ line 3 1 1 ∷ line 4 1 1 ∷ [])) ≡ None
-unfolding computed
+unfolding all_definitions
 rolled_back_first = refl
 
 then_the_count : refusal worn (of_lines (line 1 1 1 ∷ line 2 1 1 ∷ line 5 1 1 ∷ line 3 1 1 ∷ line 4 1 1 ∷ [])) ≡ Some (Count StockOrders)
-unfolding computed
+unfolding all_definitions
 then_the_count = refl
 
 abbrev at_the_last_number : State
 at_the_last_number = with_district (λ d. record d { next_order = 9999999 })
 
 last_number_rolled_back : refusal at_the_last_number unused ≡ None
-unfolding computed
+unfolding all_definitions
 last_number_rolled_back = refl
 
 last_number : refusal at_the_last_number used ≡ Some OrderNumbers
-unfolding computed
+unfolding all_definitions
 last_number = refl
 
 abbrev nearly_worn : State
 nearly_worn = with_stock (λ s. record s { order_count = 999999990 })
 
 nine_more : refusal nearly_worn (of_lines (times 9 (line 1 1 1))) ≡ None
-unfolding computed
+unfolding all_definitions
 nine_more = refl
 
 ten_more : refusal nearly_worn (of_lines (times 10 (line 1 1 1))) ≡ Some (Count StockOrders)
-unfolding computed
+unfolding all_definitions
 ten_more = refl
 
 ytd_over : refusal (with_stock (λ s. record s { ytd = 99999995 })) (of_lines (times 5 (line 1 1 1))) ≡ Some (Total StockYtd)
-unfolding computed
+unfolding all_definitions
 ytd_over = refl
 
 ytd_full : refusal (with_stock (λ s. record s { ytd = 99999994 })) (of_lines (times 5 (line 1 1 1))) ≡ None
-unfolding computed
+unfolding all_definitions
 ytd_full = refl
 
 -- two warehouses: a line of the other one
@@ -198,32 +198,32 @@ abbrev after_remote : State
 after_remote = state_after two remote
 
 remote_order : (order_at after_remote.rows 1 1 11).all_local ≡ false
-unfolding computed
+unfolding all_definitions
 remote_order = refl
 
 remote_sum : total (λ l. l.amount) (lines_of after_remote.rows 1 1 11) ≡ pos 718
-unfolding computed
+unfolding all_definitions
 remote_sum = refl
 
-remote_sold : sold (stock_at after_remote.rows 2 5) ≡ 12 ∷ 3 ∷ 1 ∷ 1 ∷ []
-unfolding computed
+remote_sold : stock_columns (stock_at after_remote.rows 2 5) ≡ 12 ∷ 3 ∷ 1 ∷ 1 ∷ []
+unfolding all_definitions
 remote_sold = refl
 
 abbrev after_remote_payment : Rows
 after_remote_payment = (state_after after_remote (pays 1 2 2 3 (Number 5) 10000 0)).rows
 
 remote_w_ytd : (warehouse_at after_remote_payment 1).ytd ≡ pos 110000
-unfolding computed
+unfolding all_definitions
 remote_w_ytd = refl
 
 remote_d_ytd : (district_at after_remote_payment 1 2).ytd ≡ pos 20000
-unfolding computed
+unfolding all_definitions
 remote_d_ytd = refl
 
 remote_balance : (customer_at after_remote_payment 2 3 5).balance ≡ neg_ℤ (pos 11000)
-unfolding computed
+unfolding all_definitions
 remote_balance = refl
 
 remote_consistent : first_broken after_remote_payment ≡ None
-unfolding computed
+unfolding all_definitions
 remote_consistent = refl

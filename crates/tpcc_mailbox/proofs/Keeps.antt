@@ -18,7 +18,7 @@ use Rattle.tpcc_mailbox.specs.declared.rule.View.{View}
 use Rattle.atomic_table.specs.declared.shared.Seat.{Seat}
 use Rattle.tpcc_mailbox.specs.Rule.{word_of, Found, view_with, seat_with, server_seat, serving_role, serving_slots, splits_of, hand_of, splits_in, hand_in, half, halved, MailboxOk, Underway, Ruled}
 use Rattle.tpcc_mailbox.specs.Steps.{PostStep, TakeStep, AnswerStep, CollectStep, with_flag, FirstCollectStep}
-use Rattle.tpcc_mailbox.proofs.Moves.{standing, put_here, stays, moves}
+use Rattle.tpcc_mailbox.proofs.Moves.{word_in_block, put_here, stays, moves}
 
 module _ {J : Type 0} where
   abbrev mailbox_in : List (Role J) → ℕ
@@ -84,7 +84,7 @@ module _ {J A : Type 0} (fits : J → A → Type 0) where
         subst (λ b. Ruled fits (stepped s (word_of k) (either b 2 x) id me.1 w (takes k (Some (Letter j))))) (sym (eq-eqb x 1 hit))
             (moves fits s r k 2 id (Sent j) (set s.homes k none) me.0 (Server d) (Holder d k j) me.0.answered inside at is (inl got.1) (inl (λ e. omega arith)) (length-set s.homes k none) (λ i ne. set_else s.homes k i none ne)
             record { posted = λ e. absurd (omega arith); answered = λ e. absurd (omega arith); used = (omega arith, omega arith) }
-            (inside, put_here r.phase k (Sent j), get_or-set_same s.words (word_of k) 2 0 (standing k r.n (length s.words) word_count (omega arith)), put_here r.server k id) (λ _. (d, j, refl)) tt (λ top. refl) refl),
+            (inside, put_here r.phase k (Sent j), get_or-set_same s.words (word_of k) 2 0 (word_in_block k r.n (length s.words) word_count (omega arith)), put_here r.server k id) (λ _. (d, j, refl)) tt (λ top. refl) refl),
         λ d' is'. (
           (λ _ k' here. let same = mailbox_same k k' here in (j, λ t. (view_with (Holder (ap splits_in (sym is ∙ is') t) (same t) j) me.0.closed me.0.answered, (same t, Some (Letter j)) ∷ me.1))),
           λ miss. absurd (miss hit),
@@ -177,13 +177,13 @@ module _ {J A : Type 0} (s : Seat (Option (Mail J A)) (View J)) where
   busy_server k j e f = (ap (λ z. z.me.0.roles) e ∙ ap (λ (w : Option (ℕ × J)). serving_role (splits_of s.me.0) w ∷ []) f, ap (λ z. z.me.1) e ∙ ap serving_slots f)
 
 -- the slot that the seat has in hand was exchanged
-pub filled : {J A : Type 0} (m m' : Me (Option (Mail J A)) (View J)) (k : ℕ) (r : Role J) (x y : Option (Mail J A)) → m.0.roles ≡ r ∷ [] → m.1 ≡ (k, x) ∷ [] → m' ≡ (m.0, (k, y) ∷ rest m.1)
+pub slot_is_exchanged : {J A : Type 0} (m m' : Me (Option (Mail J A)) (View J)) (k : ℕ) (r : Role J) (x y : Option (Mail J A)) → m.0.roles ≡ r ∷ [] → m.1 ≡ (k, x) ∷ [] → m' ≡ (m.0, (k, y) ∷ rest m.1)
     → (m'.0.roles ≡ r ∷ []) × (m'.1 ≡ (k, y) ∷ [])
-filled m m' k r x y a b e = (ap (λ z. z.0.roles) e ∙ a, ap (λ z. z.1) e ∙ ap (λ l. (k, y) ∷ rest l) b)
+slot_is_exchanged m m' k r x y a b e = (ap (λ z. z.0.roles) e ∙ a, ap (λ z. z.1) e ∙ ap (λ l. (k, y) ∷ rest l) b)
 
 -- a step that changes the flag alone
-pub reseated : {J A : Type 0} (s t : Seat (Option (Mail J A)) (View J)) (c : Bool) → s ≡ server_seat s (splits_of s.me.0) (hand_of s.me.0) → t.me ≡ with_flag s.me c → t ≡ server_seat t (splits_of t.me.0) (hand_of t.me.0)
-reseated s t c e f = is_seat_with t _ _ (ap (λ m. m.0.roles) f ∙ ap (λ z. z.me.0.roles) e) (ap (λ m. m.1) f ∙ ap (λ z. z.me.1) e)
+pub flag_keeps_seat : {J A : Type 0} (s t : Seat (Option (Mail J A)) (View J)) (c : Bool) → s ≡ server_seat s (splits_of s.me.0) (hand_of s.me.0) → t.me ≡ with_flag s.me c → t ≡ server_seat t (splits_of t.me.0) (hand_of t.me.0)
+flag_keeps_seat s t c e f = is_seat_with t _ _ (ap (λ m. m.0.roles) f ∙ ap (λ z. z.me.0.roles) e) (ap (λ m. m.1) f ∙ ap (λ z. z.me.1) e)
     ∙ ap (λ (l : List (Role _)). seat_with t (serving_role (splits_in l) (hand_in l)) (serving_slots (hand_in l))) (sym (ap (λ m. m.0.roles) f))
 
 -- a server's seat, once its right is cut in two

@@ -12,13 +12,13 @@ use Rattle.jiff_core.proofs.SignedLemmas.{signed_arith}
 use Rattle.jiff_core.proofs.CalendarLemmas.{days_from_civil-day_count, days_in_year_bounds, day_count-epoch, day_count-next_year, day_count-next_month, day_count-day, day_count-last_of_year}
 use Rattle.jiff_core.proofs.DateLemmas.{epoch_day_injective}
 use Rattle.jiff_core.proofs.DateTimeLemmas.{civil_nanos-parts, time_nanos_bound}
-use Rattle.tpcc_money.specs.Texts.{padded, year_and_day, month_and_day, date_text, time_text, moment_text}
+use Rattle.tpcc_money.specs.Texts.{padded_number, year_and_day, month_and_day, date_text, time_text, moment_text}
 
 -- what is written of a civil date and time
-abbrev pub written : DateTime → List ℕ
-written civil = padded 4 (unsigned_abs civil.date.year)
-    ++ 45 ∷ (padded 2 civil.date.month ++ 45 ∷ (padded 2 civil.date.day
-    ++ 84 ∷ (padded 2 civil.time.hour ++ 58 ∷ (padded 2 civil.time.minute ++ 58 ∷ padded 2 civil.time.second))))
+abbrev pub civil_text : DateTime → List ℕ
+civil_text civil = padded_number 4 (unsigned_abs civil.date.year)
+    ++ 45 ∷ (padded_number 2 civil.date.month ++ 45 ∷ (padded_number 2 civil.date.day
+    ++ 84 ∷ (padded_number 2 civil.time.hour ++ 58 ∷ (padded_number 2 civil.time.minute ++ 58 ∷ padded_number 2 civil.time.second))))
 
 -- so many days from 1 January of the year -10000 lie before the day of that place in the year, which has such a day
 pub record IsDayOfYear (count year day : ℕ) : Type 0 where
@@ -103,9 +103,9 @@ year_bound (suc years) year day =
     (omega (arith, year_bound years (year + 1) (day - days_in_year (pos year))))
 
 -- the parts in the order in which they are written, and as the text puts them together
-joined : (year month day hour minute second : List ℕ)
+parts_regroup : (year month day hour minute second : List ℕ)
     → year ++ 45 ∷ (month ++ 45 ∷ (day ++ 84 ∷ (hour ++ 58 ∷ (minute ++ 58 ∷ second)))) ≡ ((year ++ 45 ∷ month) ++ 45 ∷ day) ++ 84 ∷ ((hour ++ 58 ∷ minute) ++ 58 ∷ second)
-joined year month day hour minute second =
+parts_regroup year month day hour minute second =
     let time = (hour ++ 58 ∷ minute) ++ 58 ∷ second in
     sym (append_assoc (year ++ 45 ∷ month) (45 ∷ day) (84 ∷ time)
     ∙ append_assoc year (45 ∷ month) (45 ∷ (day ++ 84 ∷ time))
@@ -113,12 +113,12 @@ joined year month day hour minute second =
 
 text_by : (civil : DateTime) (year month day seconds : ℕ) → civil.date.year ≡ pos year → civil.date.month ≡ month → civil.date.day ≡ day
     → civil.time.hour ≡ seconds / 3600 → civil.time.minute ≡ seconds / 60 % 60 → civil.time.second ≡ seconds % 60
-    → written civil ≡ date_text year month day ++ 84 ∷ time_text seconds
+    → civil_text civil ≡ date_text year month day ++ 84 ∷ time_text seconds
 text_by civil year month day seconds y mo d h mi s =
-    rw (y, mo, d, h, mi, s) (joined (padded 4 year) (padded 2 month) (padded 2 day) (padded 2 (seconds / 3600)) (padded 2 (seconds / 60 % 60)) (padded 2 (seconds % 60)))
+    rw (y, mo, d, h, mi, s) (parts_regroup (padded_number 4 year) (padded_number 2 month) (padded_number 2 day) (padded_number 2 (seconds / 3600)) (padded_number 2 (seconds / 60 % 60)) (padded_number 2 (seconds % 60)))
 
 -- and the text of that moment
-pub text_is : (civil : DateTime) (s : ℕ) → s < 4102444800 → civil_nanos civil ≡ pos (s * 1000000000) → written civil ≡ moment_text s
+pub text_is : (civil : DateTime) (s : ℕ) → s < 4102444800 → civil_nanos civil ≡ pos (s * 1000000000) → civil_text civil ≡ moment_text s
 unfolding moment_text
 text_is civil s small e =
     let parts = civil_nanos-parts civil in

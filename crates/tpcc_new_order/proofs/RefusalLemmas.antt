@@ -15,24 +15,24 @@ use Rattle.tpcc_laws.proofs.TurnKeeps.{all_false, first_none}
 use Rattle.tpcc_new_order.specs.Tests.{line_tests, overruns_of, range_tests}
 
 -- the refusal by the three look-ups and the tests of the lines
-abbrev laid : Option WarehouseRow → Option DistrictRow → Option CustomerRow → List (Bool × Refusal) → Option Refusal
-laid w d c rest = first_finding ((is_none w, NoWarehouse) ∷ (is_none d, NoDistrict) ∷ (is_none c, NoCustomer) ∷ rest)
+abbrev first_refusal : Option WarehouseRow → Option DistrictRow → Option CustomerRow → List (Bool × Refusal) → Option Refusal
+first_refusal w d c rest = first_finding ((is_none w, NoWarehouse) ∷ (is_none d, NoDistrict) ∷ (is_none c, NoCustomer) ∷ rest)
 
-laid_out : (rows : Rows) (o : Order) → order_refusal_by_input rows o ≡ laid (find_warehouse rows o.warehouse) (find_district rows o.warehouse o.district) (find_customer rows o.warehouse o.district o.customer) (line_tests rows o.lines)
+laid_out : (rows : Rows) (o : Order) → order_refusal_by_input rows o ≡ first_refusal (find_warehouse rows o.warehouse) (find_district rows o.warehouse o.district) (find_customer rows o.warehouse o.district o.customer) (line_tests rows o.lines)
 unfolding order_input_tests line_tests
 laid_out rows o = refl
 
 pub warehouse_missing : (rows : Rows) (o : Order) → find_warehouse rows o.warehouse ≡ None → order_refusal_by_input rows o ≡ Some NoWarehouse
-warehouse_missing rows o e = laid_out rows o ∙ (λ i. laid (e i) (find_district rows o.warehouse o.district) (find_customer rows o.warehouse o.district o.customer) (line_tests rows o.lines))
+warehouse_missing rows o e = laid_out rows o ∙ (λ i. first_refusal (e i) (find_district rows o.warehouse o.district) (find_customer rows o.warehouse o.district o.customer) (line_tests rows o.lines))
 
 pub district_missing : (rows : Rows) (o : Order) (w : WarehouseRow) → find_warehouse rows o.warehouse ≡ Some w → find_district rows o.warehouse o.district ≡ None → order_refusal_by_input rows o ≡ Some NoDistrict
-district_missing rows o w e f = laid_out rows o ∙ (λ i. laid (e i) (f i) (find_customer rows o.warehouse o.district o.customer) (line_tests rows o.lines))
+district_missing rows o w e f = laid_out rows o ∙ (λ i. first_refusal (e i) (f i) (find_customer rows o.warehouse o.district o.customer) (line_tests rows o.lines))
 
 pub customer_missing : (rows : Rows) (o : Order) (w : WarehouseRow) (d : DistrictRow) → find_warehouse rows o.warehouse ≡ Some w → find_district rows o.warehouse o.district ≡ Some d → find_customer rows o.warehouse o.district o.customer ≡ None → order_refusal_by_input rows o ≡ Some NoCustomer
-customer_missing rows o w d e f g = laid_out rows o ∙ (λ i. laid (e i) (f i) (g i) (line_tests rows o.lines))
+customer_missing rows o w d e f g = laid_out rows o ∙ (λ i. first_refusal (e i) (f i) (g i) (line_tests rows o.lines))
 
 pub by_lines : (rows : Rows) (o : Order) (w : WarehouseRow) (d : DistrictRow) (c : CustomerRow) → find_warehouse rows o.warehouse ≡ Some w → find_district rows o.warehouse o.district ≡ Some d → find_customer rows o.warehouse o.district o.customer ≡ Some c → order_refusal_by_input rows o ≡ first_finding (line_tests rows o.lines)
-by_lines rows o w d c e f g = laid_out rows o ∙ (λ i. laid (e i) (f i) (g i) (line_tests rows o.lines))
+by_lines rows o w d c e f g = laid_out rows o ∙ (λ i. first_refusal (e i) (f i) (g i) (line_tests rows o.lines))
 
 -- the refusal by the tests of ranges
 pub by_ranges : (rows : Rows) (o : Order) → first_finding (range_tests (order_number rows o) (overruns_of (stocks_after rows o))) ≡ order_refusal_by_range rows o
@@ -41,8 +41,8 @@ by_ranges rows o = refl
 
 -- ---- what a look-up answered
 
-pub copied : {T : Type 0} (r : Option (Bor T)) (f : Option T) (x : Bor T) → option_copied r ≡ f → r ≡ Some x → f ≡ Some x.now
-copied r f x e h = sym e ∙ ap option_copied h
+pub copy_is_some : {T : Type 0} (r : Option (Bor T)) (f : Option T) (x : Bor T) → option_copied r ≡ f → r ≡ Some x → f ≡ Some x.now
+copy_is_some r f x e h = sym e ∙ ap option_copied h
 
 pub copied_none : {T : Type 0} (r : Option (Bor T)) (f : Option T) → option_copied r ≡ f → r ≡ None → f ≡ None
 copied_none r f e h = sym e ∙ ap option_copied h

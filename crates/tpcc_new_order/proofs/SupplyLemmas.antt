@@ -10,15 +10,15 @@ use Rattle.tpcc_rows.proofs.Booleans.{split}
 use Rattle.tpcc_laws.proofs.Numbers.{within}
 use Rattle.tpcc_new_order.specs.Supplied.{numbers_of, numbers_after_line, IsNear}
 
-abbrev supplied : ℕ → ℕ → Line → Bool
-supplied w i l = (l.supply == w) && (l.item == i)
+abbrev is_line_of_item : ℕ → ℕ → Line → Bool
+is_line_of_item w i l = (l.supply == w) && (l.item == i)
 
 -- one line taken, or passed over
-line_taken : (home : ℕ) (s t : StockRow) (l : Line) (ls : List Line) (b : Bool) → supplied s.warehouse s.item l ≡ b → t.warehouse ≡ s.warehouse → fold (stock_after_line home) (if b then stock_after_line home t l else t) ls ≡ fold (stock_after_line home) t (if b then l ∷ ls else ls)
+line_taken : (home : ℕ) (s t : StockRow) (l : Line) (ls : List Line) (b : Bool) → is_line_of_item s.warehouse s.item l ≡ b → t.warehouse ≡ s.warehouse → fold (stock_after_line home) (if b then stock_after_line home t l else t) ls ≡ fold (stock_after_line home) t (if b then l ∷ ls else ls)
 line_taken home s t l ls true e w = refl
 line_taken home s t l ls false e w = refl
 
-one_line : (home : ℕ) (s t : StockRow) (l : Line) (b : Bool) → supplied s.warehouse s.item l ≡ b → t.warehouse ≡ s.warehouse → numbers_after_line home s (numbers_of t) l ≡ numbers_of (if b then stock_after_line home t l else t)
+one_line : (home : ℕ) (s t : StockRow) (l : Line) (b : Bool) → is_line_of_item s.warehouse s.item l ≡ b → t.warehouse ≡ s.warehouse → numbers_after_line home s (numbers_of t) l ≡ numbers_of (if b then stock_after_line home t l else t)
 one_line home s t l true e w = λ i. if e i then record { quantity = quantity_after t.quantity l.quantity; ytd = t.ytd + l.quantity; order_count = t.order_count + 1; remote_count = if sym w i == home then t.remote_count else t.remote_count + 1 } else numbers_of t
 one_line home s t l false e w = λ i. if e i then record { quantity = quantity_after t.quantity l.quantity; ytd = t.ytd + l.quantity; order_count = t.order_count + 1; remote_count = if s.warehouse == home then t.remote_count else t.remote_count + 1 } else numbers_of t
 
@@ -26,14 +26,14 @@ same_home : (home : ℕ) (t : StockRow) (l : Line) (b : Bool) → (if b then sto
 same_home home t l true = refl
 same_home home t l false = refl
 
-fold_numbers : (home : ℕ) (s t : StockRow) (ls : List Line) → t.warehouse ≡ s.warehouse → fold (numbers_after_line home s) (numbers_of t) ls ≡ numbers_of (fold (stock_after_line home) t (filter (supplied s.warehouse s.item) ls))
+fold_numbers : (home : ℕ) (s t : StockRow) (ls : List Line) → t.warehouse ≡ s.warehouse → fold (numbers_after_line home s) (numbers_of t) ls ≡ numbers_of (fold (stock_after_line home) t (filter (is_line_of_item s.warehouse s.item) ls))
 fold_numbers home s t [] w = refl
 fold_numbers home s t (l ∷ ls) w =
-    let b = supplied s.warehouse s.item l in
+    let b = is_line_of_item s.warehouse s.item l in
     let next : StockRow = if b then stock_after_line home t l else t in
     (λ i. fold (numbers_after_line home s) (one_line home s t l b refl w i) ls)
     ∙ fold_numbers home s next ls (same_home home t l b ∙ w)
-    ∙ ap numbers_of (line_taken home s t l (filter (supplied s.warehouse s.item) ls) b refl w)
+    ∙ ap numbers_of (line_taken home s t l (filter (is_line_of_item s.warehouse s.item) ls) b refl w)
 
 -- all lines, one after another
 pub numbers_in_turn : (home : ℕ) (s : StockRow) (lines : List Line) → fold (numbers_after_line home s) (numbers_of s) lines ≡ numbers_of (stock_after home lines s)

@@ -7,7 +7,7 @@ use Rattle.std.proofs.lemmas.Nat.{mul-le}
 use Rattle.std.proofs.lemmas.Fmt.{decimal_by_steps, length-decimal-le}
 use Rattle.std.proofs.lemmas.List.{length-replicate}
 use Rattle.std.proofs.lemmas.List.Folds.{list_all-append}
-use Rattle.tpcc_money.specs.Texts.{padded}
+use Rattle.tpcc_money.specs.Texts.{padded_number}
 use Rattle.tpcc_rows.specs.LastName.{syllables, syllable, last_name}
 use Rattle.tpcc_rows.specs.Printable.{is_printable}
 use Rattle.tpcc_rows.specs.Ranges.{is_within, is_amount_within, is_text, is_exact_text}
@@ -43,14 +43,14 @@ more_digits n ds h all = grind (arith, one_digit (n % 10) (omega arith), list_al
 decimal_is_printable : (n : ℕ) → n < 2 ^ 64 → list_all is_printable (decimal n) ≡ true
 decimal_is_printable n h = decimal_by_steps (λ n ds. list_all is_printable ds ≡ true) one_digit more_digits n h
 
-pub padded_is_printable : (places v : ℕ) → v < 2 ^ 64 → list_all is_printable (padded places v) ≡ true
+pub padded_is_printable : (places v : ℕ) → v < 2 ^ 64 → list_all is_printable (padded_number places v) ≡ true
 padded_is_printable places v h =
     grind (arith, all-replicate is_printable (places - length (decimal v)) 48 refl, decimal_is_printable v h, list_all-append is_printable (replicate (places - length (decimal v)) 48) (decimal v))
 
-pub numbered_is_printable : (prefix : List ℕ) (places v : ℕ) → list_all is_printable prefix ≡ true → v < 2 ^ 64 → list_all is_printable (prefix ++ padded places v) ≡ true
-numbered_is_printable prefix places v all small = grind (arith, all, padded_is_printable places v small, list_all-append is_printable prefix (padded places v))
+pub numbered_is_printable : (prefix : List ℕ) (places v : ℕ) → list_all is_printable prefix ≡ true → v < 2 ^ 64 → list_all is_printable (prefix ++ padded_number places v) ≡ true
+numbered_is_printable prefix places v all small = grind (arith, all, padded_is_printable places v small, list_all-append is_printable prefix (padded_number places v))
 
-pub length-padded : (places v : ℕ) → 0 < places → v < 10 ^ places → v < 2 ^ 64 → length (padded places v) ≡ places
+pub length-padded : (places v : ℕ) → 0 < places → v < 10 ^ places → v < 2 ^ 64 → length (padded_number places v) ≡ places
 length-padded places v some fits small =
     omega (arith, length-decimal-le places v some fits small, length-append (replicate (places - length (decimal v)) 48) (decimal v), length-replicate {A = ℕ} (places - length (decimal v)) 48)
 

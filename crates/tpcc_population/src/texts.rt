@@ -1,7 +1,7 @@
 //! Texts of the openings that are not drawn.
 ghost use Rattle.std.specs.Prelude.{◌≡◌, ◌++◌, ◌+◌, ◌<◌, ◌≤◌, ◌^◌, true, if◌then◌else◌, codes, length};
 ghost use Rattle.std.specs.List.{list_all};
-ghost use Rattle.tpcc_money.specs.Texts.{padded};
+ghost use Rattle.tpcc_money.specs.Texts.{padded_number};
 ghost use Rattle.tpcc_rows.specs.Opening.{plain_district_information};
 ghost use Rattle.tpcc_rows.specs.Printable.{is_printable};
 
@@ -15,7 +15,7 @@ pub(crate) fn numbered_text<const N: usize>(prefix: &[u8], places: usize, number
     requires small { number < 10 ^ places }
     requires room { length prefix.now + places ≤ N }
     requires short { N ≤ 65535 }
-    ensures text { result ≡ prefix.now ++ padded places number }
+    ensures text { result ≡ prefix.now ++ padded_number places number }
 {
     let mut text = Text::of(prefix);
     text.extend_padded(places, number);

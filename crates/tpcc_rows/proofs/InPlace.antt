@@ -9,7 +9,7 @@ use Rattle.tpcc_rows.specs.TextView.{IsText}
 use Rattle.tpcc_rows.specs.FewView.{IsFew}
 use Rattle.tpcc_rows.specs.declared.text.Text.TheInside.{Inside}
 use Rattle.tpcc_rows.specs.declared.few.Few.TheInside as few
-use Rattle.tpcc_rows.proofs.PrintableTexts.{joined}
+use Rattle.tpcc_rows.proofs.PrintableTexts.{append_is_printable}
 
 -- printable bytes before zeros
 front_is_text : (N : ℕ) (k : ℕ) (front b : List ℕ) → length front ≡ k → k ≤ N → length b ≡ N → list_all is_printable front ≡ true → drop k b ≡ replicate (N - k) 0
@@ -27,14 +27,14 @@ pub copied_in : (N : ℕ) → (source : List ℕ) → length source ≤ N → li
 copied_in N source fits printable = front_is_text N (length source) source (replicate N 0) refl fits (length-replicate N 0) printable (drop-replicate (length source) N 0)
 
 -- bytes written behind those that are used
-pub added : (N : ℕ) (t : Inside N) (xs : List ℕ) → t.len + length xs ≤ N → IsText N t → list_all is_printable xs ≡ true
+pub extended_is_text : (N : ℕ) (t : Inside N) (xs : List ℕ) → t.len + length xs ≤ N → IsText N t → list_all is_printable xs ≡ true
     → IsText N (record { bytes = (take t.len t.bytes ++ xs) ++ drop (t.len + length xs) t.bytes; len = t.len + length xs })
-added N t xs fits h printable =
+extended_is_text N t xs fits h printable =
     let long = length-take-le t.len t.bytes (omega (arith, h.fits, h.whole)) in
     front_is_text N (t.len + length xs) (take t.len t.bytes ++ xs) t.bytes
     (length-append (take t.len t.bytes) xs ∙ ap (λ k. k + length xs) long)
     fits h.whole
-    (joined (take t.len t.bytes) xs h.printable printable)
+    (append_is_printable (take t.len t.bytes) xs h.printable printable)
     (ap (λ k. drop k t.bytes) (omega arith) ∙ sym (drop-drop (length xs) t.len t.bytes) ∙ ap (drop (length xs)) h.rest ∙ drop-replicate (length xs) (N - t.len) 0 ∙ ap (λ k. replicate k 0) (omega arith))
 
 -- what such a text shows

@@ -4,8 +4,8 @@ use Rattle.std.proofs.Common.{arith, ap, ◌∙◌, sym, take-append-drop, lengt
 use Rattle.tpcc_rows.specs.declared.few.Few.TheInside.{Inside}
 
 -- the values that are used
-abbrev pub shown : {T : Type 0} {N : ℕ} → Inside T N → List T
-shown t = take t.len t.items
+abbrev pub used_values : {T : Type 0} {N : ℕ} → Inside T N → List T
+used_values t = take t.len t.items
 
 -- N values, of which the unused ones are blank
 pub record IsFew {T : Type 0} (blank : T) (N : ℕ) (t : Inside T N) : Type 0 where
@@ -18,7 +18,7 @@ abbrev pub fields_of : {T : Type 0} → T → (N : ℕ) → List T → Inside T 
 fields_of blank N xs = record { items = xs ++ replicate (N - length xs) blank; len = length xs }
 
 -- they are those of the value itself
-pub gives_back : {T : Type 0} (blank : T) (N : ℕ) → (t : Inside T N) → IsFew blank N t → fields_of blank N (shown t) ≡ t
+pub gives_back : {T : Type 0} (blank : T) (N : ℕ) → (t : Inside T N) → IsFew blank N t → fields_of blank N (used_values t) ≡ t
 gives_back blank N t h =
     let long = length-take-le t.len t.items (omega (arith, h.fits, h.whole)) in
     let whole = ap (λ k. take t.len t.items ++ replicate (N - k) blank) long ∙ ap (λ rest. take t.len t.items ++ rest) (sym h.rest) ∙ take-append-drop t.len t.items in

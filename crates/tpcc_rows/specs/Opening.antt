@@ -1,7 +1,7 @@
 -- 4.3.3: the plain opening: each row by its number, with no draw.
 use Rattle.std.specs.Prelude.{ℕ, ◌+◌, ◌-◌, ◌*◌, ◌%◌, ◌==◌, true, List, ◌++◌, map, replicate, pos, neg_ℤ, Some, None, if◌then◌else◌, codes}
 use Rattle.std.specs.List.{range_with_len}
-use Rattle.tpcc_money.specs.Texts.{padded}
+use Rattle.tpcc_money.specs.Texts.{padded_number}
 use Rattle.tpcc_rows.specs.LastName.{last_name}
 use Rattle.tpcc_rows.specs.declared.rows.Address.{Address}
 use Rattle.tpcc_rows.specs.declared.rows.WarehouseRow.{WarehouseRow}
@@ -20,14 +20,14 @@ abbrev pub plain_address : Address
 plain_address = record { street_1 = codes "MAINSTREET"; street_2 = codes "SIDESTREET"; city = codes "CITYCENTRE"; state = codes "AB"; zip = codes "000111111" }
 
 abbrev pub plain_warehouse : Scale → ℕ → WarehouseRow
-plain_warehouse s w = record { id = w; name = codes "WARE" ++ padded 3 w; address = plain_address; tax = 1000; ytd = pos (s.customers * 10000) }
+plain_warehouse s w = record { id = w; name = codes "WARE" ++ padded_number 3 w; address = plain_address; tax = 1000; ytd = pos (s.customers * 10000) }
 
 abbrev pub plain_district : Scale → ℕ → ℕ → DistrictRow
 plain_district s w d =
     record {
       id = d;
       warehouse = w;
-      name = codes "DIST" ++ padded 2 d;
+      name = codes "DIST" ++ padded_number 2 d;
       address = plain_address;
       tax = d * 100;
       ytd = pos (s.customers * 1000);
@@ -40,11 +40,11 @@ plain_customer w d k =
       id = k;
       district = d;
       warehouse = w;
-      first = codes "FIRST" ++ padded 4 (9999 - k);
+      first = codes "FIRST" ++ padded_number 4 (9999 - k);
       middle = codes "OE";
       last = last_name ((k - 1) % 3);
       address = plain_address;
-      phone = padded 16 k;
+      phone = padded_number 16 k;
       since = 0;
       credit = if k % 10 == 0 then codes "BC" else codes "GC";
       credit_limit = pos 5000000;
@@ -83,7 +83,7 @@ plain_order s w d o =
     }
 
 abbrev pub plain_district_information : ℕ → List ℕ
-plain_district_information d = replicate 22 100 ++ padded 2 d
+plain_district_information d = replicate 22 100 ++ padded_number 2 d
 
 abbrev pub plain_order_line : Scale → ℕ → ℕ → ℕ → ℕ → OrderLineRow
 plain_order_line s w d o j =
@@ -108,7 +108,7 @@ plain_item n =
     record {
       id = n;
       image = 1 + (n - 1) % 10000;
-      name = codes "ITEMNAME" ++ padded 6 n;
+      name = codes "ITEMNAME" ++ padded_number 6 n;
       price = pos (100 + (n - 1) % 9901);
       information = if n % 10 == 0 then codes "ORIGINAL" ++ replicate 18 105 else replicate 26 105;
     }

@@ -6,8 +6,8 @@ use Rattle.tpcc_rows.specs.Printable.{is_printable}
 use Rattle.tpcc_rows.specs.declared.text.Text.TheInside.{Inside}
 
 -- the bytes that are used
-abbrev pub shown : {N : ℕ} → Inside N → List ℕ
-shown t = take t.len t.bytes
+abbrev pub used_bytes : {N : ℕ} → Inside N → List ℕ
+used_bytes t = take t.len t.bytes
 
 -- N bytes, of which the used ones are printable and the others 0
 pub record IsText (N : ℕ) (t : Inside N) : Type 0 where
@@ -21,7 +21,7 @@ abbrev pub fields_of : (N : ℕ) → List ℕ → Inside N
 fields_of N xs = record { bytes = xs ++ replicate (N - length xs) 0; len = length xs }
 
 -- they are those of the text itself
-pub gives_back : (N : ℕ) → (t : Inside N) → IsText N t → fields_of N (shown t) ≡ t
+pub gives_back : (N : ℕ) → (t : Inside N) → IsText N t → fields_of N (used_bytes t) ≡ t
 gives_back N t h =
     let long = length-take-le t.len t.bytes (omega (arith, h.fits, h.whole)) in
     let whole = ap (λ k. take t.len t.bytes ++ replicate (N - k) 0) long ∙ ap (λ rest. take t.len t.bytes ++ rest) (sym h.rest) ∙ take-append-drop t.len t.bytes in

@@ -26,11 +26,11 @@ pub struct Few<T: Blank, const N: usize> {
 
 impl<T: Blank, const N: usize> Model for Few<T, N> {
     ghost use Rattle.std.specs.Prelude.{List};
-    ghost use Rattle.tpcc_rows.specs.FewView.{IsFew, shown, fields_of, gives_back};
+    ghost use Rattle.tpcc_rows.specs.FewView.{IsFew, used_values, fields_of, gives_back};
 
     ghost Value = { List T };
 
-    ghost view = { shown };
+    ghost view = { used_values };
 
     ghost invariant = { IsFew T.blank N };
 

@@ -1,6 +1,6 @@
 //! Numbers within texts.
 ghost use Rattle.std.specs.Prelude.{◌≡◌, ◌+◌, ◌≤◌, ◌++◌, decimal, length};
-ghost use Rattle.tpcc_money.specs.Texts.{padded};
+ghost use Rattle.tpcc_money.specs.Texts.{padded_number};
 
 use crate::text::Text;
 use itoa::Buffer;
@@ -23,7 +23,7 @@ impl<const N: usize> Text<N> {
         requires few { places ≤ 16 }
         requires digits { length (decimal number) ≤ places }
         requires room { length self.old + places ≤ N }
-        ensures written { self.new ≡ self.old ++ padded places number }
+        ensures written { self.new ≡ self.old ++ padded_number places number }
         ensures long { length self.new ≡ length self.old + places }
     {
         let mut buffer = Buffer::new();

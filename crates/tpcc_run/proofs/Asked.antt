@@ -52,8 +52,8 @@ asked_end view role most count moment old mid (Some s) o f none ends same before
     (asked_more count role moment old mid (view s) before (some_holds (λ x. HasAskedNext role moment mid (view x)) o s (sym same) next))
 
 -- from its start on
-pub worked : {S F : Type 0} (view : S → Post) (role : Role) (scale : Scale) (seed moment count : ℕ) (begun : Post) (f : Option F) (o : Option S)
+pub has_worked : {S F : Type 0} (view : S → Post) (role : Role) (scale : Scale) (seed moment count : ℕ) (begun : Post) (f : Option F) (o : Option S)
     → IsStarted begun.purse.purse.terminal scale seed begun.station → (f ≡ None → IfSome o (λ s. HasAskedAll role count moment begun (view s)))
     → f ≡ None → IfSome o (λ s. HasWorked role scale seed moment count (view s))
-worked view role scale seed moment count begun f None started asked none = tt
-worked view role scale seed moment count begun f (Some s) started asked none = record { begun = begun; started = started; asked = asked none }
+has_worked view role scale seed moment count begun f None started asked none = tt
+has_worked view role scale seed moment count begun f (Some s) started asked none = record { begun = begun; started = started; asked = asked none }

@@ -6,7 +6,7 @@ use Rattle.tpcc_population.specs.declared.opening.Opening.{Opening}
 use Rattle.tpcc_book.specs.Past.{Past}
 use Rattle.tpcc_book.specs.Purses.{all_parts}
 use Rattle.tpcc_book.specs.Serve.{rooms_of}
-use Rattle.tpcc_book.specs.Seats.{Seated, purses_of}
+use Rattle.tpcc_book.specs.Seats.{SeatedView, purses_of}
 use Rattle.tpcc_terminal.specs.declared.receipts.Receipt.{Receipt}
 use Rattle.tpcc_terminal.specs.declared.report.Report.{Report}
 use Rattle.tpcc_audit.specs.Settlement.{IsSettled}
@@ -15,7 +15,7 @@ use Rattle.tpcc_show.specs.Shown.{book_report}
 use Rattle.tpcc_run.specs.Outcome.{HasCut, HasReported, HasShownPart, HasTotals}
 
 -- a settled book has its totals
-pub totals_of : (opening : Opening) (purses : List Seated) (receipts : List Receipt) (book : Past) (report : Report)
+pub totals_of : (opening : Opening) (purses : List SeatedView) (receipts : List Receipt) (book : Past) (report : Report)
     → rooms_of (purses_of purses) ≡ all_parts → IsSettled opening purses receipts book report → HasTotals opening book report
 totals_of opening purses receipts book report all settled =
     let g = settled.gathered in
@@ -32,9 +32,9 @@ totals_of opening purses receipts book report all settled =
     }
 
 -- the book's report is that of its totals
-pub reported : (opening : Opening) (book : Past) (report : Report) (before after : Option (List ℕ))
+pub report_of_totals : (opening : Opening) (book : Past) (report : Report) (before after : Option (List ℕ))
     → HasTotals opening book report → Appends before after (book_report book) → HasReported opening before after
-reported opening book report before after told written = record {
+report_of_totals opening book report before after told written = record {
   book = book;
   report = report;
   told = told;

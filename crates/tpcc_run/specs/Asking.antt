@@ -2,8 +2,8 @@
 use Rattle.std.specs.Prelude.{◌≡◌, ℕ, zero, suc, ◌++◌, ⊤, IfSome, IsSome, None}
 use Rattle.tpcc_rows.specs.declared.requests.Request.{Request}
 use Rattle.tpcc_rows.specs.declared.requests.Request.TheVariants as requests
-use Rattle.tpcc_book.specs.Seats.{Seated, IsTurned}
-use Rattle.tpcc_book.specs.Told.{Told}
+use Rattle.tpcc_book.specs.Seats.{SeatedView, IsTurned}
+use Rattle.tpcc_book.specs.AnswerView.{AnswerView}
 use Rattle.tpcc_terminal.specs.Receipts.{AllStand, receipts_of}
 use Rattle.tpcc_rows.specs.Layout.{Scale}
 use Rattle.tpcc_terminal.specs.Terminals.{Station, IsAsked, IsStarted}
@@ -14,12 +14,12 @@ use Rattle.tpcc_run.specs.declared.terminals.Role.TheVariants.{Cards, Deliveries
 
 -- a terminal between two requests: its purse, and what it is seen as
 pub record Post : Type 0 where
-  pub purse : Seated
+  pub purse : SeatedView
   pub station : Station
 
 -- a request was answered by one turn of the book for the purse, and the receipt, if there is one, was kept
 pub record HasAnswered (request : Request) (old new : Post) : Type 0 where
-  pub answer : Told Seated
+  pub answer : AnswerView SeatedView
   pub turned : IsTurned request old.purse answer
   pub purse_is : new.purse ≡ answer.purse
   pub noted : new.station ≡ record old.station { receipts = old.station.receipts ++ receipts_of (λ p. p.purse) answer }

@@ -27,7 +27,7 @@ use tpcc_terminal::{Receipt, Report};
 ///
 /// NoMemory where a growth or a thread was refused, Missing where a purse did not come back, Write where
 /// the writer fails.
-#[tactic(auto, using(crate::proofs::Reported::reported))]
+#[tactic(auto, using(crate::proofs::Reported::report_of_totals))]
 pub fn run<
     W: Write + Drop,
     C: OneTurn + Send,

@@ -28,7 +28,7 @@ use Rattle.tpcc_script.specs.declared.call.Call.TheVariants.{Ask, Check, Results
 use Rattle.tpcc_script.specs.declared.fault.ScriptFault.{ScriptFault}
 use Rattle.tpcc_script.specs.declared.fault.ScriptFault.TheVariants.{Bad, Cut, LongLine, TooManyLines, Read, Write, NoMemory}
 use Rattle.tpcc_script.specs.Script.{Script}
-use Rattle.tpcc_script.specs.Book.{Book, accepting, request_refusal, screen_of, screen_by, screens_of, book_after, book_by, books_after}
+use Rattle.tpcc_script.specs.Book.{Book, book_with_entry, request_refusal, screen_of, screen_by, screens_of, book_after, book_by, books_after}
 use Rattle.tpcc_script.specs.Run.{Shows, Prints, IsOutOfMemory, IsRun, Wrote}
 use Rattle.tpcc_script.specs.Sayable.{has_words, fits_line, is_sayable, is_amount}
 use Rattle.tpcc_script.specs.Session.{opened_book}
@@ -127,7 +127,7 @@ follows b before [] served few =
     record { screens = refl; opening = refl; state = refl; requests = sym (append-nil (map (λ (e : Entry). e.request) b.journal)); replies = sym (append-nil (map (λ (e : Entry). e.reply) b.journal)) }
 follows b before (e ∷ es) served few =
     let calls = map (λ (x : Entry). Ask x.request) es in
-    let next = accepting b e.request in
+    let next = book_with_entry b e.request in
     let made : Entry = record { terminal = 1; number = count_of 1 b.journal; request = e.request; reply = reply_to b.state e.request } in
     let none = accepts b e.request served.0.accepted (omega (arith, few)) in
     let shown : screen_of b (Ask e.request) ≡ reply_screen e.reply = ap (screen_by b e.request) none ∙ ap reply_screen (sym served.0.replied) in

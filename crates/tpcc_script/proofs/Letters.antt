@@ -21,7 +21,7 @@ use Rattle.tpcc_population.specs.Seeded.{Seeding, drawn_last, number_in_district
 use Rattle.tpcc_terminal.specs.declared.home.Home.{Home}
 use Rattle.tpcc_terminal.specs.declared.drafts.DrawnCustomer.{DrawnCustomer}
 use Rattle.tpcc_terminal.specs.declared.drafts.DrawnCustomer.TheVariants as customers
-use Rattle.tpcc_terminal.specs.Cards.{drawn, drawn_customer, drawn_payment, drawn_status, payer, request_of, who_of}
+use Rattle.tpcc_terminal.specs.Cards.{drawn_draft, drawn_customer, drawn_payment, drawn_status, payer, request_of, who_of}
 use Rattle.tpcc_script.specs.Script.{is_capital, is_last_name}
 use Rattle.tpcc_script.specs.Sayable.{has_letters, is_customer_by_letters}
 
@@ -43,8 +43,8 @@ record IsSyllable (word : List ℕ) : Type 0 where
   some : 0 < length word
   few : length word ≤ 5
 
-told : (word : List ℕ) → is_syllable word ≡ true → IsSyllable word
-told word h = record { all = grind (arith, nat_tests); some = grind (arith, nat_tests); few = grind (arith, nat_tests) }
+syllable_tells : (word : List ℕ) → is_syllable word ≡ true → IsSyllable word
+syllable_tells word h = record { all = grind (arith, nat_tests); some = grind (arith, nat_tests); few = grind (arith, nat_tests) }
 
 letters_are_name : (word : List ℕ) → list_all is_capital word ≡ true → 0 < length word → length word ≤ 16 → is_last_name word ≡ true
 letters_are_name word all some few = grind (arith, nat_tests)
@@ -62,9 +62,9 @@ three_syllables a b c first second third =
 last_name_is_letters : (n : ℕ) → n ≤ 999 → is_last_name (last_name n) ≡ true
 last_name_is_letters n small =
     three_syllables (syllable (n / 100)) (syllable (n / 10 % 10)) (syllable (n % 10))
-    (told (syllable (n / 100)) (syllable_is_short (n / 100) (omega arith)))
-    (told (syllable (n / 10 % 10)) (syllable_is_short (n / 10 % 10) (omega arith)))
-    (told (syllable (n % 10)) (syllable_is_short (n % 10) (omega arith)))
+    (syllable_tells (syllable (n / 100)) (syllable_is_short (n / 100) (omega arith)))
+    (syllable_tells (syllable (n / 10 % 10)) (syllable_is_short (n / 10 % 10) (omega arith)))
+    (syllable_tells (syllable (n % 10)) (syllable_is_short (n % 10) (omega arith)))
 
 passes_each : {X A : Type 0} (test : A → Bool) (rows : X → List A) → ((x : X) → list_all test (rows x) ≡ true) → (xs : List X) → list_all test (flat_map rows xs) ≡ true
 passes_each test rows each [] = refl
@@ -92,8 +92,8 @@ customer_by_letters home s =
     let k = nurand 1023 259 1 home.scale.customers percent.1 in
     one_of (nat_le percent.0 60) n.0 k.0 n.1 k.1 (nurand_is_below 255 187 (min home.scale.customers 1000 - 1) percent.1 (omega arith))
 
-pub drawn_by_letters : (home : Home) (moment : ℕ) (card : Card) (s : Stream) → has_letters (request_of home moment (drawn home card s).0) ≡ true
-unfolding drawn drawn_payment drawn_status
+pub drawn_by_letters : (home : Home) (moment : ℕ) (card : Card) (s : Stream) → has_letters (request_of home moment (drawn_draft home card s).0) ≡ true
+unfolding drawn_draft drawn_payment drawn_status
 drawn_by_letters home moment cards.NewOrder s = refl
 drawn_by_letters home moment cards.Payment s =
     let district = between 1 10 s in

@@ -11,7 +11,7 @@ use Rattle.tpcc_script.specs.declared.fault.ScriptFault.{ScriptFault}
 use Rattle.tpcc_script.specs.declared.fault.ScriptFault.TheVariants.{Bad, Cut, LongLine, TooManyLines, Read, Write, NoMemory}
 use Rattle.tpcc_script.specs.Book.{Book}
 use Rattle.tpcc_script.specs.Run.{Shows, HasServed}
-use Rattle.tpcc_script.specs.Script.{parts_of, onto, lines_say, rest_says, then_says, call_of, ends, fails}
+use Rattle.tpcc_script.specs.Script.{parts_of, with_byte, lines_say, rest_says, then_says, call_of, ends, fails}
 use Rattle.tpcc_script.specs.Steps.{says, IsLine, IsRead, IsFaultOf, IsLineServed, IsLineUnshown, IsLineHeld, IsAnswered, IsStopped, IsEnd, IsFault}
 use Rattle.tpcc_script.specs.Attempts.{HasGivenUp, IsNoWorse}
 use Rattle.tpcc_audit.specs.Part.{AppendsPart, Passes}
@@ -22,15 +22,15 @@ use Rattle.tpcc_audit.proofs.Parts.{part_of_more}
 -- bytes put before the first part
 abbrev pub onto_all : List ℕ → List (List ℕ) → List (List ℕ)
 onto_all [] parts = parts
-onto_all (byte ∷ bytes) parts = onto byte (onto_all bytes parts)
+onto_all (byte ∷ bytes) parts = with_byte byte (onto_all bytes parts)
 
-onto_all-more : (line : List ℕ) (byte : ℕ) (parts : List (List ℕ)) → onto_all line (onto byte parts) ≡ onto_all (line ++ byte ∷ []) parts
+onto_all-more : (line : List ℕ) (byte : ℕ) (parts : List (List ℕ)) → onto_all line (with_byte byte parts) ≡ onto_all (line ++ byte ∷ []) parts
 onto_all-more [] byte parts = refl
-onto_all-more (b ∷ line) byte parts = ap (onto b) (onto_all-more line byte parts)
+onto_all-more (b ∷ line) byte parts = ap (with_byte b) (onto_all-more line byte parts)
 
 onto_all-cons : (line part : List ℕ) (parts : List (List ℕ)) → onto_all line (part ∷ parts) ≡ (line ++ part) ∷ parts
 onto_all-cons [] part parts = refl
-onto_all-cons (b ∷ line) part parts = ap (onto b) (onto_all-cons line part parts)
+onto_all-cons (b ∷ line) part parts = ap (with_byte b) (onto_all-cons line part parts)
 
 -- there is a first part
 pub record HasParts (parts : List (List ℕ)) : Type 0 where
@@ -38,7 +38,7 @@ pub record HasParts (parts : List (List ℕ)) : Type 0 where
   pub others : List (List ℕ)
   pub is : parts ≡ first ∷ others
 
-onto-has : (byte : ℕ) (parts : List (List ℕ)) → HasParts (onto byte parts)
+onto-has : (byte : ℕ) (parts : List (List ℕ)) → HasParts (with_byte byte parts)
 onto-has byte [] = record { first = byte ∷ []; others = []; is = refl }
 onto-has byte (part ∷ parts) = record { first = byte ∷ part; others = parts; is = refl }
 
@@ -75,7 +75,7 @@ pub reading_goes : (bytes line : List ℕ) (left left_new : Option (List ℕ)) (
 reading_goes bytes line left left_new byte r e f other = record {
   rest = drop 1 r.rest;
   left_is = f;
-  parts = r.parts ∙ ap (λ z. onto_all line (parts_of 10 z)) (first-byte r.rest byte e) ∙ ap (λ b. onto_all line (if b then [] ∷ parts_of 10 (drop 1 r.rest) else onto byte (parts_of 10 (drop 1 r.rest)))) other ∙ onto_all-more line byte (parts_of 10 (drop 1 r.rest));
+  parts = r.parts ∙ ap (λ z. onto_all line (parts_of 10 z)) (first-byte r.rest byte e) ∙ ap (λ b. onto_all line (if b then [] ∷ parts_of 10 (drop 1 r.rest) else with_byte byte (parts_of 10 (drop 1 r.rest)))) other ∙ onto_all-more line byte (parts_of 10 (drop 1 r.rest));
 }
 
 -- lines_say of a whole line
@@ -112,21 +112,21 @@ long number [] [] e h f = absurd (omega arith)
 long number (b ∷ part) [] e h f = rw (e, f) refl
 long number part (next ∷ parts) e h f = rw (e, f) refl
 
-onto_all-onto : (line : List ℕ) (byte : ℕ) (parts : List (List ℕ)) → HasParts parts → (part : List ℕ) × (others : List (List ℕ)) × (onto_all line (onto byte parts) ≡ (line ++ byte ∷ part) ∷ others)
-onto_all-onto line byte parts h = (h.first, h.others, ap (λ z. onto_all line (onto byte z)) h.is ∙ onto_all-cons line (byte ∷ h.first) h.others)
+onto_all-onto : (line : List ℕ) (byte : ℕ) (parts : List (List ℕ)) → HasParts parts → (part : List ℕ) × (others : List (List ℕ)) × (onto_all line (with_byte byte parts) ≡ (line ++ byte ∷ part) ∷ others)
+onto_all-onto line byte parts h = (h.first, h.others, ap (λ z. onto_all line (with_byte byte z)) h.is ∙ onto_all-cons line (byte ∷ h.first) h.others)
 
 -- parts of bytes that begin with a byte
-begun : (line : List ℕ) (byte : ℕ) (parts : List (List ℕ)) → HasParts parts → (b : Bool)
-    → (part : List ℕ) × (others : List (List ℕ)) × (onto_all line (if b then [] ∷ parts else onto byte parts) ≡ (line ++ part) ∷ others) × (0 < length (line ++ part) ⊎ 0 < length others)
-begun line byte parts h true = ([], parts, onto_all-cons line [] parts, inr (rw h.is (omega arith)))
-begun line byte parts h false =
-    (byte ∷ h.first, h.others, ap (λ z. onto_all line (onto byte z)) h.is ∙ onto_all-cons line (byte ∷ h.first) h.others, inl (omega (arith, length-append line (byte ∷ h.first))))
+line_begins : (line : List ℕ) (byte : ℕ) (parts : List (List ℕ)) → HasParts parts → (b : Bool)
+    → (part : List ℕ) × (others : List (List ℕ)) × (onto_all line (if b then [] ∷ parts else with_byte byte parts) ≡ (line ++ part) ∷ others) × (0 < length (line ++ part) ⊎ 0 < length others)
+line_begins line byte parts h true = ([], parts, onto_all-cons line [] parts, inr (rw h.is (omega arith)))
+line_begins line byte parts h false =
+    (byte ∷ h.first, h.others, ap (λ z. onto_all line (with_byte byte z)) h.is ∙ onto_all-cons line (byte ∷ h.first) h.others, inl (omega (arith, length-append line (byte ∷ h.first))))
 
 pub too_many : (bytes line : List ℕ) (left : Option (List ℕ)) (byte number : ℕ) (r : Reading bytes line left)
     → Some byte ≡ slice_get r.rest 0 → 1000000 < number → says number bytes ≡ fails TooManyLines
 too_many bytes line left byte number r e many =
     let rest = drop 1 r.rest in
-    let b = begun line byte (parts_of 10 rest) (parts-has 10 rest) (byte == 10) in
+    let b = line_begins line byte (parts_of 10 rest) (parts-has 10 rest) (byte == 10) in
     ap (lines_say number) (r.parts ∙ ap (λ z. onto_all line (parts_of 10 z)) (first-byte r.rest byte e) ∙ b.2) ∙ far number (line ++ b.0) b.1 b.3 (lt-ltb 1000000 number many)
 
 pub too_long : (bytes line : List ℕ) (left : Option (List ℕ)) (byte number : ℕ) (r : Reading bytes line left)
@@ -135,7 +135,7 @@ too_long bytes line left byte number r e other fits full =
     let rest = drop 1 r.rest in
     let b = onto_all-onto line byte (parts_of 10 rest) (parts-has 10 rest) in
     let size : 4096 < length (line ++ byte ∷ b.0) = omega (arith, full, length-append line (byte ∷ b.0)) in
-    ap (lines_say number) (r.parts ∙ ap (λ z. onto_all line (parts_of 10 z)) (first-byte r.rest byte e) ∙ ap (λ c. onto_all line (if c then [] ∷ parts_of 10 rest else onto byte (parts_of 10 rest))) other ∙ b.2)
+    ap (lines_say number) (r.parts ∙ ap (λ z. onto_all line (parts_of 10 z)) (first-byte r.rest byte e) ∙ ap (λ c. onto_all line (if c then [] ∷ parts_of 10 rest else with_byte byte (parts_of 10 rest))) other ∙ b.2)
     ∙ long number (line ++ byte ∷ b.0) b.1 (le-ltb 1000000 number fits) size (lt-ltb 4096 (length (line ++ byte ∷ b.0)) size)
 
 -- at the end

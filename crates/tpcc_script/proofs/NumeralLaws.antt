@@ -8,7 +8,7 @@ use Rattle.std.proofs.lemmas.List.Folds.{list_all-append}
 use Rattle.std.proofs.lemmas.Fmt.{decimal_by_steps, decimal_digit, decimal_step}
 use Rattle.std.proofs.lemmas.Bool.Decides.{nat_tests}
 use Rattle.tpcc_money.specs.Numerals.{is_digit, value_from, value_of, is_decimal, at_most, number_up_to, is_cents, amount_of, amount_of_parts, amount_by, greatest_amount}
-use Rattle.tpcc_money.specs.Texts.{padded, amount_text}
+use Rattle.tpcc_money.specs.Texts.{padded_number, amount_text}
 use Rattle.tpcc_money.proofs.Values.{value_from-append, within}
 use Rattle.tpcc_rows.proofs.Booleans.{both_true}
 
@@ -47,20 +47,20 @@ more m ds l s =
       needed = or_true (length (s.rest ++ last ∷ []) == 0) (not (s.first == 48)) (s.nonzero (omega arith));
     }
 
-pub spelled : (n : ℕ) → n < 2 ^ 64 → Spells n (decimal n)
-spelled n h = decimal_by_steps Spells one more n h
+pub decimal_spells : (n : ℕ) → n < 2 ^ 64 → Spells n (decimal n)
+decimal_spells n h = decimal_by_steps Spells one more n h
 
 pub all_digits : (n : ℕ) → n < 2 ^ 64 → list_all is_digit (decimal n) ≡ true
-all_digits n h = let s = spelled n h in ap (list_all is_digit) s.whole ∙ both_true (is_digit s.first) (list_all is_digit s.rest) s.lead s.digits
+all_digits n h = let s = decimal_spells n h in ap (list_all is_digit) s.whole ∙ both_true (is_digit s.first) (list_all is_digit s.rest) s.lead s.digits
 
 pub is_number : (n : ℕ) → n < 2 ^ 64 → is_decimal (decimal n) ≡ true
 is_number n h =
-    let s = spelled n h in
+    let s = decimal_spells n h in
     ap is_decimal s.whole ∙ both_true (is_digit s.first) _ s.lead (both_true (list_all is_digit s.rest) _ s.digits s.needed)
 
 pub number_is_read : (most n : ℕ) → n ≤ most → n < 2 ^ 64 → number_up_to most (decimal n) ≡ Some n
 unfolding number_up_to
-number_is_read most n l h = rw (is_number n h) (ap (at_most most) (spelled n h).value ∙ sym (within most n l))
+number_is_read most n l h = rw (is_number n h) (ap (at_most most) (decimal_spells n h).value ∙ sym (within most n l))
 
 cents_value : (n : ℕ) → value_from (n / 100) ((48 + n % 100 / 10) ∷ (48 + n % 100 % 10) ∷ []) ≡ n
 cents_value n = omega arith
@@ -84,11 +84,11 @@ cents_read n h =
     let cents = (48 + n % 100 / 10) ∷ (48 + n % 100 % 10) ∷ [] in
     rw (is_number (n / 100) whole)
     (rw (two_digits (n % 100) (omega arith))
-    (ap (λ v. amount_by (at_most greatest_amount (value_from v cents))) (spelled (n / 100) whole).value
+    (ap (λ v. amount_by (at_most greatest_amount (value_from v cents))) (decimal_spells (n / 100) whole).value
     ∙ ap (λ v. amount_by (at_most greatest_amount v)) (cents_value n)
     ∙ ap amount_by (sym (within greatest_amount n h))))
 
-padded_two_by : (n : ℕ) (one : Bool) → nat_lt n 10 ≡ one → n < 100 → padded 2 n ≡ (48 + n / 10) ∷ (48 + n % 10) ∷ []
+padded_two_by : (n : ℕ) (one : Bool) → nat_lt n 10 ≡ one → n < 100 → padded_number 2 n ≡ (48 + n / 10) ∷ (48 + n % 10) ∷ []
 padded_two_by n true small within =
     let h : n < 10 = grind (arith, nat_tests) in
     let none : n / 10 ≡ 0 = omega arith in
@@ -101,7 +101,7 @@ padded_two_by n false large within =
     rw e refl
 
 -- two places hold both digits
-pub padded_two : (n : ℕ) → n < 100 → padded 2 n ≡ (48 + n / 10) ∷ (48 + n % 10) ∷ []
+pub padded_two : (n : ℕ) → n < 100 → padded_number 2 n ≡ (48 + n / 10) ∷ (48 + n % 10) ∷ []
 padded_two n h = padded_two_by n (nat_lt n 10) refl h
 
 pub amount_is_read : (n : ℕ) → n ≤ 999999999999 → amount_of (amount_text (pos n)) ≡ Ok (pos n)

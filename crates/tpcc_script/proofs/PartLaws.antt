@@ -6,7 +6,7 @@ use Rattle.std.proofs.lemmas.List.Folds.{list_all-append}
 use Rattle.std.proofs.lemmas.Bool.Decides.{nat_tests}
 use Rattle.tpcc_rows.proofs.Booleans.{split, both_true}
 use Rattle.tpcc_terminal.specs.Screens.{line}
-use Rattle.tpcc_script.specs.Script.{parts_of, onto}
+use Rattle.tpcc_script.specs.Script.{parts_of, with_byte}
 
 -- no byte is the divider
 abbrev pub is_free_of : ℕ → List ℕ → Bool
@@ -33,13 +33,13 @@ pub part_before : (divider : ℕ) (part rest : List ℕ) → is_free_of divider 
 part_before divider [] rest free = rw (self_equal divider) refl
 part_before divider (byte ∷ part) rest free =
     let s = split (not (byte == divider)) (is_free_of divider part) free in
-    rw (differs (byte == divider) s.0) (ap (onto byte) (part_before divider part rest s.1))
+    rw (differs (byte == divider) s.0) (ap (with_byte byte) (part_before divider part rest s.1))
 
 pub last_part : (divider : ℕ) (part : List ℕ) → is_free_of divider part ≡ true → parts_of divider part ≡ part ∷ []
 last_part divider [] free = refl
 last_part divider (byte ∷ part) free =
     let s = split (not (byte == divider)) (is_free_of divider part) free in
-    rw (differs (byte == divider) s.0) (ap (onto byte) (last_part divider part s.1))
+    rw (differs (byte == divider) s.0) (ap (with_byte byte) (last_part divider part s.1))
 
 -- a line without its line feed
 abbrev pub words : List ℕ → List (List ℕ) → List ℕ

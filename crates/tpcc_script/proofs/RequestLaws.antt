@@ -18,7 +18,7 @@ use Rattle.tpcc_rows.proofs.Booleans.{split, both_true}
 use Rattle.tpcc_terminal.specs.Screens.{line}
 use Rattle.tpcc_terminal.specs.RequestLines.{customer_word, order_line_word, order_line, payment_line, status_line, stock_line, delivery_line, deliver_line, request_line, journal_lines}
 use Rattle.tpcc_script.specs.declared.call.Call.TheVariants.{Ask}
-use Rattle.tpcc_script.specs.Script.{call_of, call_of_words, call_named, later_named, order_of, order_lines_of, payment_of, status_of, stock_of, delivery_of, deliver_of, parts_of, script_of, lines_say, then_says, with_call, onto}
+use Rattle.tpcc_script.specs.Script.{call_of, call_of_words, call_named, later_named, order_of, order_lines_of, payment_of, status_of, stock_of, delivery_of, deliver_of, parts_of, script_of, lines_say, then_says, with_call, with_byte}
 use Rattle.tpcc_script.specs.Sayable.{is_amount, is_order_line, has_words, fits_line, is_sayable}
 use Rattle.tpcc_script.proofs.PartLaws.{is_word, is_brief, words, words_length, line_is, words_apart, words_free, word_free, line_free, part_before}
 use Rattle.tpcc_script.proofs.WordLaws.{bound, number_word, number_read, number_brief, moment_word, moment_read, moment_brief, who_word, who_read, who_brief, amount_word, amount_read, amount_brief, line_word, line_read, line_brief}
@@ -169,9 +169,9 @@ record HasFirst (parts : List (List ℕ)) : Type 0 where
   rest : List (List ℕ)
   whole : parts ≡ first ∷ rest
 
-first_onto : (byte : ℕ) (parts : List (List ℕ)) (t : Bool) → HasFirst parts → HasFirst (if t then [] ∷ parts else onto byte parts)
+first_onto : (byte : ℕ) (parts : List (List ℕ)) (t : Bool) → HasFirst parts → HasFirst (if t then [] ∷ parts else with_byte byte parts)
 first_onto byte parts true h = record { first = []; rest = parts; whole = refl }
-first_onto byte parts false h = record { first = byte ∷ h.first; rest = h.rest; whole = ap (onto byte) h.whole }
+first_onto byte parts false h = record { first = byte ∷ h.first; rest = h.rest; whole = ap (with_byte byte) h.whole }
 
 some_part : (divider : ℕ) (bytes : List ℕ) → HasFirst (parts_of divider bytes)
 some_part divider [] = record { first = []; rest = []; whole = refl }

@@ -51,9 +51,9 @@ begins start bytes left held waits none e =
     rw none (record { done = []; text = []; rest = bytes; prints = (refl, refl); passed = all_wait held []; left_is = e; says_is = refl })
 
 -- a line's call behind those before it
-called : (bytes : List ℕ) (done : List Call) (call : Call) (last next : Script)
+with_one_call_more : (bytes : List ℕ) (done : List Call) (call : Call) (last next : Script)
     → script_of bytes ≡ with_calls done last → last ≡ with_call call next → script_of bytes ≡ with_calls (done ++ call ∷ []) next
-called bytes done call last next e f = e ∙ ap (with_calls done) f ∙ sym (with_calls-more done call next)
+with_one_call_more bytes done call last next e f = e ∙ ap (with_calls done) f ∙ sym (with_calls-more done call next)
 
 pub goes_on : (start now new : Book) (bytes : List ℕ) (left left_new held sink sink_new : Option (List ℕ)) (waits more : List ℕ) (number : ℕ)
     → (so : SoFar start now bytes left held sink waits number) → IsStep number so.rest now new left_new sink sink_new waits more (Ok true)
@@ -67,12 +67,12 @@ goes_on start now new bytes left left_new held sink sink_new waits more number s
       prints = prints-more start now new so.done line.call so.text step.screen so.prints line.shows;
       passed = passes-on held sink sink_new so.text waits step.screen more so.passed step.passed;
       left_is = line.left_is;
-      says_is = called bytes so.done line.call (says number so.rest) (says (number + 1) line.rest) so.says_is line.says_is;
+      says_is = with_one_call_more bytes so.done line.call (says number so.rest) (says (number + 1) line.rest) so.says_is line.says_is;
     }
 
 -- the calls of a script that says no more, and its fault
-ended : (script : Script) (done : List Call) (last : Script) → script ≡ with_calls done last → last.calls ≡ [] → script.calls ≡ done
-ended script done last e none = ap (λ (s : Script). s.calls) e ∙ with_calls-calls done last ∙ ap (λ xs. done ++ xs) none ∙ append-nil done
+calls_at_end : (script : Script) (done : List Call) (last : Script) → script ≡ with_calls done last → last.calls ≡ [] → script.calls ≡ done
+calls_at_end script done last e none = ap (λ (s : Script). s.calls) e ∙ with_calls-calls done last ∙ ap (λ xs. done ++ xs) none ∙ append-nil done
 
 faulty : (script : Script) (done : List Call) (last : Script) → script ≡ with_calls done last → script.fault ≡ last.fault
 faulty script done last e = ap (λ (s : Script). s.fault) e ∙ with_calls-fault done last
@@ -88,7 +88,7 @@ ended_with : (start now new : Book) (bytes : List ℕ) (left held sink sink_new 
     → ((script_of bytes).fault ≡ last.fault) × Wrote start (script_of bytes).calls held sink_new new
 ended_with start now new bytes left held sink sink_new waits number last so step added none =
     let e = so.says_is ∙ ap (with_calls so.done) step.says_is in
-    (faulty (script_of bytes) so.done last e, wrote_done start now new bytes left held sink sink_new waits number (script_of bytes).calls so step.book added (ended (script_of bytes) so.done last e none))
+    (faulty (script_of bytes) so.done last e, wrote_done start now new bytes left held sink sink_new waits number (script_of bytes).calls so step.book added (calls_at_end (script_of bytes) so.done last e none))
 
 -- the calls that were served and those that follow
 calls-split : (start now : Book) (bytes : List ℕ) (left held sink : Option (List ℕ)) (waits : List ℕ) (number : ℕ)
@@ -96,9 +96,9 @@ calls-split : (start now : Book) (bytes : List ℕ) (left held sink : Option (Li
 calls-split start now bytes left held sink waits number so = ap (λ (s : Script). s.calls) so.says_is ∙ with_calls-calls so.done (says number so.rest)
 
 -- at a fault of reading or memory
-stopped : (start now new : Book) (bytes : List ℕ) (left held sink sink_new : Option (List ℕ)) (waits : List ℕ) (number : ℕ)
+run_stops : (start now new : Book) (bytes : List ℕ) (left held sink sink_new : Option (List ℕ)) (waits : List ℕ) (number : ℕ)
     → (so : SoFar start now bytes left held sink waits number) → new ≡ now → Appends sink sink_new waits → WroteFirst start (script_of bytes).calls held sink_new new
-stopped start now new bytes left held sink sink_new waits number so same added = record {
+run_stops start now new bytes left held sink sink_new waits number so same added = record {
   done = so.done;
   rest = (says number so.rest).calls;
   calls_are = calls-split start now bytes left held sink waits number so;
@@ -106,10 +106,10 @@ stopped start now new bytes left held sink sink_new waits number so same added =
 }
 
 -- where the last screen was refused memory
-unshown : (start now new : Book) (bytes screen : List ℕ) (left left_new held sink sink_new : Option (List ℕ)) (waits : List ℕ) (number : ℕ)
+run_ends_unshown : (start now new : Book) (bytes screen : List ℕ) (left left_new held sink sink_new : Option (List ℕ)) (waits : List ℕ) (number : ℕ)
     → (so : SoFar start now bytes left held sink waits number) → IsLineServed number so.rest now screen new left_new → Appends sink sink_new waits
     → WroteButLast start (script_of bytes).calls held sink_new new
-unshown start now new bytes screen left left_new held sink sink_new waits number so served added = record {
+run_ends_unshown start now new bytes screen left left_new held sink sink_new waits number so served added = record {
   done = so.done;
   last = served.call;
   rest = (says (number + 1) served.rest).calls;
@@ -124,9 +124,9 @@ refused-memory : (start now new : Book) (bytes : List ℕ) (left left_new held s
     → (so : SoFar start now bytes left held sink waits number) → (new ≡ now) ⊎ IsLineUnshown number so.rest now new left_new → Appends sink sink_new waits
     → IsRun start (script_of bytes) held sink_new new (Err NoMemory)
 refused-memory start now new bytes left left_new held sink sink_new waits number so (inl same) added =
-    inl (stopped start now new bytes left held sink sink_new waits number so same added)
+    inl (run_stops start now new bytes left held sink sink_new waits number so same added)
 refused-memory start now new bytes left left_new held sink sink_new waits number so (inr line) added =
-    inr (unshown start now new bytes line.screen left left_new held sink sink_new waits number so line.served added)
+    inr (run_ends_unshown start now new bytes line.screen left left_new held sink sink_new waits number so line.served added)
 
 -- where the sink was given up: at what waited, or at the last screen too
 broken-still : (start now new : Book) (bytes : List ℕ) (left held sink sink_new : Option (List ℕ)) (waits : List ℕ) (number : ℕ)
@@ -148,7 +148,7 @@ broken-line start now new bytes left left_new held sink sink_new waits number so
     let line = step.served in
     let calls = so.done ++ line.call ∷ [] in
     let rest = says (number + 1) line.rest in
-    let e = called bytes so.done line.call (says number so.rest) rest so.says_is line.says_is in
+    let e = with_one_call_more bytes so.done line.call (says number so.rest) rest so.says_is line.says_is in
     let p = passes-part held sink sink_new so.text waits step.screen so.passed step.part in
     record {
       done = calls;
@@ -163,11 +163,11 @@ broken-line start now new bytes left left_new held sink sink_new waits number so
       };
     }
 
-broken : (start now new : Book) (bytes : List ℕ) (left left_new held sink sink_new : Option (List ℕ)) (waits : List ℕ) (number : ℕ)
+run_breaks : (start now new : Book) (bytes : List ℕ) (left left_new held sink sink_new : Option (List ℕ)) (waits : List ℕ) (number : ℕ)
     → (so : SoFar start now bytes left held sink waits number) → IsStillBroken now new sink sink_new waits ⊎ IsLineBroken number so.rest now new left_new sink sink_new waits
     → IsRun start (script_of bytes) held sink_new new (Err Write)
-broken start now new bytes left left_new held sink sink_new waits number so (inl step) = broken-still start now new bytes left held sink sink_new waits number so step
-broken start now new bytes left left_new held sink sink_new waits number so (inr step) = broken-line start now new bytes left left_new held sink sink_new waits number so step
+run_breaks start now new bytes left left_new held sink sink_new waits number so (inl step) = broken-still start now new bytes left held sink sink_new waits number so step
+run_breaks start now new bytes left left_new held sink sink_new waits number so (inr step) = broken-line start now new bytes left left_new held sink sink_new waits number so step
 
 pub ends_so : (start now new : Book) (bytes : List ℕ) (left left_new held sink sink_new : Option (List ℕ)) (waits more : List ℕ) (number : ℕ)
     → (so : SoFar start now bytes left held sink waits number) → IsStep number so.rest now new left_new sink sink_new waits more (Ok false)
@@ -182,11 +182,11 @@ fails_so start now new bytes left left_new held sink sink_new waits more number 
 fails_so start now new bytes left left_new held sink sink_new waits more number (Cut n) so step = ended_with start now new bytes left held sink sink_new waits number (fails (Cut n)) so step.stopped step.added refl
 fails_so start now new bytes left left_new held sink sink_new waits more number (LongLine n) so step = ended_with start now new bytes left held sink sink_new waits number (fails (LongLine n)) so step.stopped step.added refl
 fails_so start now new bytes left left_new held sink sink_new waits more number TooManyLines so step = ended_with start now new bytes left held sink sink_new waits number (fails TooManyLines) so step.stopped step.added refl
-fails_so start now new bytes left left_new held sink sink_new waits more number Read so step = stopped start now new bytes left held sink sink_new waits number so step.stopped step.added
+fails_so start now new bytes left left_new held sink sink_new waits more number Read so step = run_stops start now new bytes left held sink sink_new waits number so step.stopped step.added
 fails_so start now new bytes left left_new held sink sink_new waits more number NoMemory so step =
     refused-memory start now new bytes left left_new held sink sink_new waits number so step.stopped step.added
 fails_so start now new bytes left left_new held sink sink_new waits more number Write so step =
-    broken start now new bytes left left_new held sink sink_new waits number so step
+    run_breaks start now new bytes left left_new held sink sink_new waits number so step
 
 pub ends_at : (start now new : Book) (bytes : List ℕ) (left left_new held sink sink_new : Option (List ℕ)) (waits waits_new : List ℕ) (number : ℕ) (more : Bool) → more ≡ false
     → (so : SoFar start now bytes left held sink waits number) → IsStep number so.rest now new left_new sink sink_new waits waits_new (Ok more)

@@ -10,9 +10,9 @@ use Rattle.tpcc_rows.specs.declared.replies.Reply.{Reply}
 use Rattle.tpcc_rows.specs.Replay.{count_of}
 use Rattle.tpcc_rows.specs.Turn.{reply_to}
 use Rattle.tpcc_population.specs.declared.opening.Opening.{Opening}
-use Rattle.tpcc_book.specs.Past.{Past, opened}
+use Rattle.tpcc_book.specs.Past.{Past, opening_past}
 use Rattle.tpcc_book.specs.Purses.{PurseView}
-use Rattle.tpcc_book.specs.Told.{Told}
+use Rattle.tpcc_book.specs.AnswerView.{AnswerView}
 use Rattle.tpcc_book.specs.Serve.{IsServed}
 use Rattle.tpcc_script.specs.Book.{terminal}
 use Rattle.tpcc_script.specs.declared.fault.ScriptFault.{ScriptFault}
@@ -50,7 +50,7 @@ at_hand-by old new purse request asked (Err r) place after own all served =
     }
 
 -- the purse comes back with every entry of its terminal
-pub at_hand : (old new : Past) (purse : PurseView) (request : Request) (answer : Told PurseView)
+pub at_hand : (old new : Past) (purse : PurseView) (request : Request) (answer : AnswerView PurseView)
     → purse.terminal ≡ terminal → purse.entries ≡ count_of terminal old.entries
     → IsServed old request purse answer new → IsAtHand new (Some answer.purse)
 at_hand old new purse request answer own all served =
@@ -60,7 +60,7 @@ same-held : (a b : PurseView) → Some a ≡ Some b → a ≡ b
 same-held a b h = cc
 
 -- the purse that was taken out made each entry of its terminal, and so did the one that is put back
-pub back_at_hand : (old new : Past) (held taken : Option PurseView) (purse back : PurseView) (request : Request) (answer : Told PurseView)
+pub back_at_hand : (old new : Past) (held taken : Option PurseView) (purse back : PurseView) (request : Request) (answer : AnswerView PurseView)
     → (at : IsAtHand old held) → taken ≡ held → taken ≡ Some purse → back ≡ answer.purse
     → IsServed old request purse answer new → IsAtHand new (Some back)
 back_at_hand old new held taken purse back request answer at out is put served =
@@ -69,5 +69,5 @@ back_at_hand old new held taken purse back request answer at out is put served =
 
 -- a run from the session of an opening
 pub has_run : (opening : Opening) (start left : Past) (script : Script) (old new : Option (List ℕ)) (result : Result ℕ ScriptFault)
-    → start ≡ opened opening → IsCounted (book_of start) script old new (book_of left) result → HasRun (opened_book opening) script old new result
+    → start ≡ opening_past opening → IsCounted (book_of start) script old new (book_of left) result → HasRun (opened_book opening) script old new result
 has_run opening start left script old new result is run = (book_of left, subst (λ (p : Past). IsCounted (book_of p) script old new (book_of left) result) is run)

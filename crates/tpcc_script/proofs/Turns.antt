@@ -12,16 +12,16 @@ use Rattle.tpcc_rows.specs.Turn.{reply_to}
 use Rattle.tpcc_book.specs.Past.{Past}
 use Rattle.tpcc_book.specs.Purses.{PurseView}
 use Rattle.tpcc_book.specs.Serve.{IsServed}
-use Rattle.tpcc_book.specs.Told.{Told}
+use Rattle.tpcc_book.specs.AnswerView.{AnswerView}
 use Rattle.tpcc_book.specs.Turn.{after, turn_refusal}
 use Rattle.tpcc_terminal.specs.Screens.{answer_screen, reply_screen, refused_screen, check_screen, results_screen}
 use Rattle.tpcc_script.specs.declared.call.Call.TheVariants.{Ask, Check, Results}
-use Rattle.tpcc_script.specs.Book.{Book, terminal, screen_of, book_after, screen_by, book_by, accepting, request_refusal}
+use Rattle.tpcc_script.specs.Book.{Book, terminal, screen_of, book_after, screen_by, book_by, book_with_entry, request_refusal}
 use Rattle.tpcc_script.specs.Run.{HasServed, Shows}
 use Rattle.tpcc_script.specs.Session.{IsAtHand, book_of}
 
 shows-reply : (old new : Book) (request : Request) (reply : Reply) (screen : List ℕ)
-    → request_refusal old request ≡ None → reply ≡ reply_to old.state request → new ≡ accepting old request → screen ≡ reply_screen reply
+    → request_refusal old request ≡ None → reply ≡ reply_to old.state request → new ≡ book_with_entry old request → screen ≡ reply_screen reply
     → Shows old (Ask request) screen new
 unfolding screen_of book_after
 shows-reply old new request reply screen free is left e = inl (record {
@@ -64,7 +64,7 @@ same-held : (a b : PurseView) → Some a ≡ Some b → a ≡ b
 same-held a b h = cc
 
 -- the screen of what a session's book answered the purse that was taken out
-pub shows_answer : (old new : Past) (held taken : Option PurseView) (purse : PurseView) (request : Request) (answer : Told PurseView) (screen : List ℕ)
+pub shows_answer : (old new : Past) (held taken : Option PurseView) (purse : PurseView) (request : Request) (answer : AnswerView PurseView) (screen : List ℕ)
     → (at : IsAtHand old held) → taken ≡ held → taken ≡ Some purse
     → IsServed old request purse answer new → screen ≡ answer_screen answer.outcome → Shows (book_of old) (Ask request) screen (book_of new)
 shows_answer old new held taken purse request answer screen at out is served e =
@@ -72,7 +72,7 @@ shows_answer old new held taken purse request answer screen at out is served e =
     shows-answer old new purse request answer.request answer.outcome answer.place answer.purse screen
     (ap (λ (p : PurseView). p.terminal) same ∙ at.terminal_is) (ap (λ (p : PurseView). p.entries) same ∙ at.entries) served e
 
-pub served_answer : (old new : Past) (held taken : Option PurseView) (purse : PurseView) (request : Request) (answer : Told PurseView)
+pub served_answer : (old new : Past) (held taken : Option PurseView) (purse : PurseView) (request : Request) (answer : AnswerView PurseView)
     → (at : IsAtHand old held) → taken ≡ held → taken ≡ Some purse
     → IsServed old request purse answer new → HasServed (book_of old) (Ask request) (book_of new)
 served_answer old new held taken purse request answer at out is served = record {

@@ -16,7 +16,7 @@ use Rattle.tpcc_laws.proofs.ListLemmas.{list_all-mono}
 use Rattle.tpcc_terminal.specs.RequestLines.{customer_word, order_line_word}
 use Rattle.tpcc_script.specs.Script.{is_capital, is_last_name, number_of, moment_of, cents_of, customer_of, order_line_of, order_line_of_parts, parts_of}
 use Rattle.tpcc_script.specs.Sayable.{is_number, is_moment, is_amount, is_customer_word, is_order_line}
-use Rattle.tpcc_script.proofs.NumeralLaws.{Spells, spelled, all_digits, number_is_read, padded_two, amount_is_read}
+use Rattle.tpcc_script.proofs.NumeralLaws.{Spells, decimal_spells, all_digits, number_is_read, padded_two, amount_is_read}
 use Rattle.tpcc_script.proofs.PartLaws.{is_free_of, is_word, is_brief, part_before, last_part}
 
 pub bound : (most n : ℕ) → nat_le n most ≡ true → n ≤ most
@@ -69,7 +69,7 @@ who_word (Number n) h = number_word n h
 who_word (Name last) h = let s = split _ _ h in list_all-mono is_capital (λ b. nat_lt 32 b) capital_high last (split _ _ s.1).1
 
 pub who_read : (who : Who) → is_customer_word who ≡ true → customer_of (customer_word who) ≡ Some who
-who_read (Number n) h = rw (no_name (decimal n) n (spelled n (number_small n h))) (ap (option_map Number) (number_read n h))
+who_read (Number n) h = rw (no_name (decimal n) n (decimal_spells n (number_small n h))) (ap (option_map Number) (number_read n h))
 who_read (Name last) h = rw h refl
 
 high : (k : ℕ) → nat_lt 32 (48 + k) ≡ true

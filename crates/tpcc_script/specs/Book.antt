@@ -28,8 +28,8 @@ abbrev pub request_refusal : Book → Request → Option Refusal
 request_refusal b request = turn_refusal b.state b.journal terminal (count_of terminal b.journal) request
 
 -- the book after a request that is not refused: one transaction and one entry
-abbrev pub accepting : Book → Request → Book
-accepting b request = record {
+abbrev pub book_with_entry : Book → Request → Book
+book_with_entry b request = record {
   opening = b.opening;
   state = state_after b.state request;
   journal = b.journal ++ record { terminal = terminal; number = count_of terminal b.journal; request = request; reply = reply_to b.state request } ∷ [];
@@ -47,7 +47,7 @@ screen_by b request None = reply_screen (reply_to b.state request)
 screen_by b request (Some r) = refused_screen r
 
 abbrev pub book_by : Book → Request → Option Refusal → Book
-book_by b request None = accepting b request
+book_by b request None = book_with_entry b request
 book_by b request (Some r) = b
 
 -- a call's screen at a book

@@ -20,14 +20,14 @@ None >>= f = None
 (Some x) >>= f = f x
 
 -- a byte put before the first of several parts
-abbrev pub onto : ℕ → List (List ℕ) → List (List ℕ)
-onto byte [] = (byte ∷ []) ∷ []
-onto byte (part ∷ parts) = (byte ∷ part) ∷ parts
+abbrev pub with_byte : ℕ → List (List ℕ) → List (List ℕ)
+with_byte byte [] = (byte ∷ []) ∷ []
+with_byte byte (part ∷ parts) = (byte ∷ part) ∷ parts
 
 -- the parts between the bytes that divide them, one more than there are such bytes
 abbrev pub parts_of : ℕ → List ℕ → List (List ℕ)
 parts_of divider [] = [] ∷ []
-parts_of divider (byte ∷ bytes) = if byte == divider then [] ∷ parts_of divider bytes else onto byte (parts_of divider bytes)
+parts_of divider (byte ∷ bytes) = if byte == divider then [] ∷ parts_of divider bytes else with_byte byte (parts_of divider bytes)
 
 -- words
 abbrev pub number_of : List ℕ → Option ℕ

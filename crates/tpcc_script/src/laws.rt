@@ -9,7 +9,7 @@ ghost use Rattle.tpcc_book.specs.Past.{Past};
 ghost use Rattle.tpcc_population.specs.declared.opening.Opening.{Opening};
 ghost use Rattle.tpcc_population.specs.Opening.{opening_rows};
 ghost use Rattle.tpcc_terminal.specs.declared.home.Home.{Home};
-ghost use Rattle.tpcc_terminal.specs.Cards.{drawn, request_of};
+ghost use Rattle.tpcc_terminal.specs.Cards.{drawn_draft, request_of};
 ghost use Rattle.tpcc_terminal.specs.RequestLines.{journal_lines, request_line};
 ghost use Rattle.tpcc_script.specs.declared.call.Call.TheVariants.{Ask};
 ghost use Rattle.tpcc_script.specs.declared.fault.ScriptFault.{ScriptFault};
@@ -59,5 +59,5 @@ pub fn names_are_letters()
     ensures openings { (opening : Opening)
         → list_all (λ c. is_last_name c.last) (opening_rows opening).customers ≡ true }
     ensures terminals { (home : Home) (moment : ℕ) (card : Card) (s : Stream)
-        → has_letters (request_of home moment (drawn home card s).0) ≡ true }
+        → has_letters (request_of home moment (drawn_draft home card s).0) ≡ true }
 {}

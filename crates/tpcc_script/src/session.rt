@@ -1,6 +1,6 @@
 //! A book that serves the requests of one script.
 ghost use Rattle.std.specs.Prelude.{◌≡◌, IfOk, length};
-ghost use Rattle.tpcc_book.specs.Past.{opened};
+ghost use Rattle.tpcc_book.specs.Past.{opening_past};
 
 use crate::engine::Engine;
 use std::alloc::Global;
@@ -41,7 +41,7 @@ impl<N: Naming> Session<N> {
     ) -> Result<Session<N>, NoMemory>
         requires entries { blanks.entries.name ≡ N.entries }
         requires cents { blanks.cents.name ≡ N.cents }
-        ensures started { IfOk result (λ s. s ≡ opened opening.now) }
+        ensures started { IfOk result (λ s. s ≡ opening_past opening.now) }
     {
         let (book, first) = Book::start(alloc, opening, blanks)?;
         let mut first = first;

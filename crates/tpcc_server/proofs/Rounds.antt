@@ -25,5 +25,5 @@ one_round xs ys from zs n m k before is round =
     (before.0 ++ round.0, round.1 ∙ (ap (λ w. w ++ round.0) (is ∙ before.1) ∙ append_assoc xs before.0 round.0), (let e = length-append before.0 round.0 in let f = before.2 in let g = round.2 in omega arith))
 
 -- the same answers, under other names
-pub renamed : (xs ys zs : List ℕ) (n m : ℕ) → HasAnswered xs ys n → zs ≡ ys → m ≡ n → HasAnswered xs zs m
-renamed xs ys zs n m before is same = (before.0, is ∙ before.1, (let f = before.2 in omega arith))
+pub same_answers : (xs ys zs : List ℕ) (n m : ℕ) → HasAnswered xs ys n → zs ≡ ys → m ≡ n → HasAnswered xs zs m
+same_answers xs ys zs n m before is same = (before.0, is ∙ before.1, (let f = before.2 in omega arith))

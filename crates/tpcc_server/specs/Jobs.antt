@@ -1,9 +1,9 @@
 -- What a job is seen as.
 use Rattle.tpcc_rows.specs.declared.requests.Request.{Request}
-use Rattle.tpcc_book.specs.Seats.{Seated}
+use Rattle.tpcc_book.specs.Seats.{SeatedView}
 
 -- what is asked, the purse that it is served for, and the call that is to serve it
-pub record Posted (C : Type 0) : Type 0 where
+pub record JobView (C : Type 0) : Type 0 where
   pub request : Request
-  pub purse : Seated
+  pub purse : SeatedView
   pub call : C

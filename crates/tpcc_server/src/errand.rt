@@ -1,6 +1,6 @@
 //! Work that is served once.
 ghost use Rattle.tpcc_rows.specs.declared.requests.Request.{Request};
-ghost use Rattle.tpcc_book.specs.Seats.{Seated, IsTurned};
+ghost use Rattle.tpcc_book.specs.Seats.{SeatedView, IsTurned};
 
 use std::sync::Wait;
 use tpcc_book::{Answer, Naming, SeatedPurse, Seating, Turns};
@@ -11,7 +11,7 @@ pub trait Errand<N: Naming, T: Seating> {
     ghost request: { Self → Request };
 
     /// By which purse.
-    ghost purse: { Self → Seated };
+    ghost purse: { Self → SeatedView };
 
     /// Waits for the purse's turn, and serves the request for it.
     fn run<R: Wait>(self, turns: &Turns<N, T>, rt: &R) -> Answer<SeatedPurse<N, T>>

@@ -24,9 +24,9 @@ pub struct Job<N: Naming, T: Seating, C> {
 }
 
 impl<N: Naming, T: Seating, C> Model for Job<N, T, C> {
-    ghost use Rattle.tpcc_server.specs.Jobs.{Posted};
+    ghost use Rattle.tpcc_server.specs.Jobs.{JobView};
 
-    ghost Value = { Posted C };
+    ghost Value = { JobView C };
 
     ghost view = { λ job. record { request = job.request; purse = job.purse; call = job.call } };
 }

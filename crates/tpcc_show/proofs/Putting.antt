@@ -51,10 +51,10 @@ under name text =
     append_assoc (codes "== ") (name ++ (10 ∷ [])) text ∙ ap (λ z. codes "== " ++ z) (append_assoc name (10 ∷ []) text)
 
 -- a part behind its heading
-pub headed : (a b c : Option (List ℕ)) (waited name text waits left : List ℕ)
+pub part_with_heading : (a b c : Option (List ℕ)) (waited name text waits left : List ℕ)
     → Passes a b (waited ++ (codes "== " ++ (name ++ (10 ∷ [])))) waits → Passes b c (waits ++ text) left
     → Passes a c (waited ++ (codes "== " ++ (name ++ (10 ∷ text)))) left
-headed a b c waited name text waits left before more =
+part_with_heading a b c waited name text waits left before more =
     subst (λ z. Passes a c (waited ++ z) left) (under name text)
     (in_turn a b c waited (codes "== " ++ (name ++ (10 ∷ []))) text waits left before more)
 

@@ -103,7 +103,7 @@ fn show_all<N: Naming, W: Write>(
     Ok(())
 }
 
-#[tactic(auto, using(crate::proofs::Putting::headed, crate::proofs::Putting::headed_cut, crate::proofs::Putting::heading_cut), unfolding(crate::specs::Shown::headed_text))]
+#[tactic(auto, using(crate::proofs::Putting::part_with_heading, crate::proofs::Putting::headed_cut, crate::proofs::Putting::heading_cut), unfolding(crate::specs::Shown::headed_text))]
 fn show_headed<N: Naming, W: Write>(
     alloc: Global,
     book: &Book<N>,

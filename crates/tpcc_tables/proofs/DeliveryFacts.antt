@@ -14,7 +14,7 @@ use Rattle.tpcc_rows.specs.Ranges.{is_balance, is_total, is_count, is_text, is_e
 use Rattle.tpcc_rows.specs.Tables.{Rows, is_customer, is_order, is_new_order, is_line_of, lines_of, find_customer, customer_at, order_at, no_customer}
 use Rattle.tpcc_rows.specs.WellKeyed.{IsInRange, IsWellKeyed}
 use Rattle.tpcc_rows.specs.Delivery.{order_amount, district_refusal, delivery_tests, after_delivery, delivered_customer}
-use Rattle.tpcc_laws.proofs.DeliveryKeeps.{carried, stamped}
+use Rattle.tpcc_laws.proofs.DeliveryKeeps.{with_carrier, with_delivery_date}
 use Rattle.tpcc_laws.proofs.DeliveryKeys.{delivery_is_keyed, delivery_has_parents}
 use Rattle.tpcc_laws.proofs.DeliveryRanges.{delivery_in_range}
 use Rattle.tpcc_laws.proofs.ListLemmas.{list_all-mono}
@@ -111,11 +111,11 @@ deliverable rows w d o h none =
 
 -- ---- what is written is the delivery
 
-pub delivered_rows : (rows : Rows) (w d o carrier at customer : ℕ) (amount : ℤ) (news : List NewOrderRow) (orders : List OrderRow) (lines : List OrderLineRow) (customers : List CustomerRow) → customer ≡ (order_at rows w d o).customer → amount ≡ order_amount rows w d o → news ≡ filter (λ n. not (is_new_order w d o n)) rows.new_orders → orders ≡ updated (is_order w d o) (carried carrier) rows.orders → lines ≡ updated (is_line_of w d o) (stamped at) rows.order_lines → customers ≡ updated (is_customer w d customer) (delivered_customer amount) rows.customers → record rows { new_orders = news; orders = orders; order_lines = lines; customers = customers } ≡ after_delivery rows w d o carrier at
+pub delivered_rows : (rows : Rows) (w d o carrier at customer : ℕ) (amount : ℤ) (news : List NewOrderRow) (orders : List OrderRow) (lines : List OrderLineRow) (customers : List CustomerRow) → customer ≡ (order_at rows w d o).customer → amount ≡ order_amount rows w d o → news ≡ filter (λ n. not (is_new_order w d o n)) rows.new_orders → orders ≡ updated (is_order w d o) (with_carrier carrier) rows.orders → lines ≡ updated (is_line_of w d o) (with_delivery_date at) rows.order_lines → customers ≡ updated (is_customer w d customer) (delivered_customer amount) rows.customers → record rows { new_orders = news; orders = orders; order_lines = lines; customers = customers } ≡ after_delivery rows w d o carrier at
 unfolding after_delivery
 delivered_rows rows w d o carrier at customer amount news orders lines customers k a n e l c =
     (λ i. record rows { new_orders = n i; orders = e i; order_lines = l i; customers = c i })
-    ∙ (λ i. record rows { new_orders = filter (λ n. not (is_new_order w d o n)) rows.new_orders; orders = updated (is_order w d o) (carried carrier) rows.orders; order_lines = updated (is_line_of w d o) (stamped at) rows.order_lines; customers = updated (is_customer w d (k i)) (delivered_customer (a i)) rows.customers })
+    ∙ (λ i. record rows { new_orders = filter (λ n. not (is_new_order w d o n)) rows.new_orders; orders = updated (is_order w d o) (with_carrier carrier) rows.orders; order_lines = updated (is_line_of w d o) (with_delivery_date at) rows.order_lines; customers = updated (is_customer w d (k i)) (delivered_customer (a i)) rows.customers })
 
 pub delivered_is_well_keyed : (rows : Rows) (w d o carrier at : ℕ) → is_carrier carrier ≡ true → is_moment at ≡ true → district_refusal rows w d (Some o) ≡ None → IsWellKeyed rows → IsWellKeyed (after_delivery rows w d o carrier at)
 delivered_is_well_keyed rows w d o carrier at hc hm none well =

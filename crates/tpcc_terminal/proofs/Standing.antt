@@ -12,10 +12,10 @@ use Rattle.tpcc_rows.specs.declared.refusals.Refusal.{Refusal}
 use Rattle.tpcc_rows.specs.Replay.{paid_by_request}
 use Rattle.tpcc_book.specs.Past.{Past}
 use Rattle.tpcc_book.specs.Purses.{PurseView}
-use Rattle.tpcc_book.specs.Told.{Told}
+use Rattle.tpcc_book.specs.AnswerView.{AnswerView}
 use Rattle.tpcc_book.specs.Turn.{Accepts, Refuses, entry_of}
-use Rattle.tpcc_book.specs.Serve.{IsServed, credited}
-use Rattle.tpcc_book.specs.Seats.{Seated, IsTurned, by_purse}
+use Rattle.tpcc_book.specs.Serve.{IsServed, purse_after}
+use Rattle.tpcc_book.specs.Seats.{SeatedView, IsTurned, by_purse}
 use Rattle.tpcc_terminal.specs.declared.receipts.Receipt.{Receipt}
 use Rattle.tpcc_terminal.specs.Receipts.{receipts_at, receipts_of, entry_of_receipt, Stands, AllStand}
 
@@ -35,11 +35,11 @@ stay entries longer receipts begins stood =
     record { at = subst (λ (xs : List Entry). slice_get xs r.place ≡ Some (entry_of_receipt r)) begins.1 (read_before entries begins.0 r.place (entry_of_receipt r) (stood k d h).at) }
 
 -- the journal after a turn begins with the one before it
-grown : (old new : Past) (terminal number : ℕ) (request : Request) (place : Option ℕ) (outcome : Result Reply Refusal)
+entries_grow : (old new : Past) (terminal number : ℕ) (request : Request) (place : Option ℕ) (outcome : Result Reply Refusal)
     → ForOk outcome (Accepts old terminal number request place new) → ForErr outcome (Refuses old terminal number request place new) → IsPrefix old.entries new.entries
-grown old new terminal number request place (Ok reply) ok err =
+entries_grow old new terminal number request place (Ok reply) ok err =
     subst (λ (p : Past). IsPrefix old.entries p.entries) (sym (ok reply refl).new_is) (entry_of old terminal number request ∷ [], refl)
-grown old new terminal number request place (Err refusal) ok err =
+entries_grow old new terminal number request place (Err refusal) ok err =
     subst (λ (p : Past). IsPrefix old.entries p.entries) (sym (err refusal refl).same) ([], append-nil old.entries)
 
 none_stand : (entries : List Entry) → AllStand entries []
@@ -52,7 +52,7 @@ one_stands entries r h (suc k) d below = absurd (omega (arith, below))
 -- the entry of an accepted request stands at the place that was told
 own_stands : (old new : Past) (request asked : Request) (purse after : PurseView) (outcome : Result Reply Refusal) (place : Option ℕ)
     → asked ≡ request → ForOk outcome (Accepts old purse.terminal purse.entries request place new)
-    → MatchResult outcome (λ reply. after ≡ credited purse (paid_by_request request)) (λ refusal. after ≡ purse)
+    → MatchResult outcome (λ reply. after ≡ purse_after purse (paid_by_request request)) (λ refusal. after ≡ purse)
     → AllStand new.entries (receipts_at after asked outcome place)
 own_stands old new request asked purse after (Err refusal) place same ok fits = none_stand new.entries
 own_stands old new request asked purse after (Ok reply) None same ok fits = none_stand new.entries
@@ -67,16 +67,16 @@ own_stands old new request asked purse after (Ok reply) (Some k) same ok fits =
     (λ i. slice_get (a.new_is i).entries (at i)) ∙ read_last old.entries e in
     one_stands new.entries r (record { at = read ∙ ap Some is })
 
-pub served_stand : (old new : Past) (request : Request) (purse : PurseView) (answer : Told PurseView) (receipts : List Receipt)
+pub served_stand : (old new : Past) (request : Request) (purse : PurseView) (answer : AnswerView PurseView) (receipts : List Receipt)
     → IsServed old request purse answer new → AllStand old.entries receipts → AllStand new.entries (receipts ++ receipts_of (λ p. p) answer)
 served_stand old new request purse answer receipts served stood =
     All-append (Stands new.entries) receipts (receipts_of (λ (p : PurseView). p) answer)
-    (stay old.entries new.entries receipts (grown old new purse.terminal purse.entries request answer.place answer.outcome served.turn.accepts served.turn.refuses) stood)
+    (stay old.entries new.entries receipts (entries_grow old new purse.terminal purse.entries request answer.place answer.outcome served.turn.accepts served.turn.refuses) stood)
     (own_stands old new request answer.request purse answer.purse answer.outcome answer.place served.fits.request_is served.turn.accepts served.fits.purse_is)
 
-pub turned_stand : (request : Request) (purse : Seated) (answer : Told Seated) (receipts : List Receipt)
+pub turned_stand : (request : Request) (purse : SeatedView) (answer : AnswerView SeatedView) (receipts : List Receipt)
     → IsTurned request purse answer → AllStand purse.front receipts → AllStand answer.purse.front (receipts ++ receipts_of (λ p. p.purse) answer)
 turned_stand request purse answer receipts turned stood =
     let before = stay purse.front turned.old.entries receipts turned.begins stood in
     let after = served_stand turned.old turned.new request purse.purse (by_purse answer) receipts turned.served before in
-    subst (λ (xs : List Entry). AllStand xs (receipts ++ receipts_of (λ (p : Seated). p.purse) answer)) (sym turned.seen) after
+    subst (λ (xs : List Entry). AllStand xs (receipts ++ receipts_of (λ (p : SeatedView). p.purse) answer)) (sym turned.seen) after

@@ -110,12 +110,12 @@ drawn_status home s =
     (record { district = district.0; customer = customer.0 }, customer.1)
 
 -- the draws of a card; 2.7.1.2: the carrier; 2.8.1.2: the threshold
-unfoldable pub drawn : Home → Card → Stream → Draft × Stream
-drawn home cards.NewOrder s = (let order = drawn_order home s in (drafts.NewOrder order.0, order.1))
-drawn home cards.Payment s = (let payment = drawn_payment home s in (drafts.Payment payment.0, payment.1))
-drawn home cards.OrderStatus s = (let status = drawn_status home s in (drafts.OrderStatus status.0, status.1))
-drawn home cards.Delivery s = (let carrier = between 1 10 s in (drafts.Delivery carrier.0, carrier.1))
-drawn home cards.StockLevel s = (let threshold = between 10 20 s in (drafts.StockLevel threshold.0, threshold.1))
+unfoldable pub drawn_draft : Home → Card → Stream → Draft × Stream
+drawn_draft home cards.NewOrder s = (let order = drawn_order home s in (drafts.NewOrder order.0, order.1))
+drawn_draft home cards.Payment s = (let payment = drawn_payment home s in (drafts.Payment payment.0, payment.1))
+drawn_draft home cards.OrderStatus s = (let status = drawn_status home s in (drafts.OrderStatus status.0, status.1))
+drawn_draft home cards.Delivery s = (let carrier = between 1 10 s in (drafts.Delivery carrier.0, carrier.1))
+drawn_draft home cards.StockLevel s = (let threshold = between 10 20 s in (drafts.StockLevel threshold.0, threshold.1))
 
 abbrev pub who_of : DrawnCustomer → Who
 who_of (customers.Name n) = who.Name (last_name n)

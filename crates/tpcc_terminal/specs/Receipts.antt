@@ -5,7 +5,7 @@ use Rattle.tpcc_rows.specs.declared.requests.Request.{Request}
 use Rattle.tpcc_rows.specs.declared.replies.Reply.{Reply}
 use Rattle.tpcc_rows.specs.declared.refusals.Refusal.{Refusal}
 use Rattle.tpcc_book.specs.Purses.{PurseView}
-use Rattle.tpcc_book.specs.Told.{Told}
+use Rattle.tpcc_book.specs.AnswerView.{AnswerView}
 use Rattle.tpcc_terminal.specs.declared.receipts.Receipt.{Receipt}
 
 -- one receipt where there is a reply and its place; its number is that of the purse's last entry
@@ -16,7 +16,7 @@ receipts_at purse request (Ok reply) None = []
 receipts_at purse request (Err refusal) place = []
 
 -- the receipts of an answer: one of an accepted request, none of a refused one
-abbrev pub receipts_of : {P : Type 0} → (P → PurseView) → Told P → List Receipt
+abbrev pub receipts_of : {P : Type 0} → (P → PurseView) → AnswerView P → List Receipt
 receipts_of held answer = receipts_at (held answer.purse) answer.request answer.outcome answer.place
 
 -- the journal's entry that a receipt is of

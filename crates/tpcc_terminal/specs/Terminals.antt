@@ -11,7 +11,7 @@ use Rattle.tpcc_rows.specs.declared.requests.Request.{Request}
 use Rattle.tpcc_terminal.specs.declared.home.Home.{Home}
 use Rattle.tpcc_terminal.specs.declared.drafts.Draft.{Draft}
 use Rattle.tpcc_terminal.specs.declared.receipts.Receipt.{Receipt}
-use Rattle.tpcc_terminal.specs.Cards.{home_of, drawn, request_of}
+use Rattle.tpcc_terminal.specs.Cards.{home_of, drawn_draft, request_of}
 
 -- the number and the scale, the draws of the next card, the cards behind it in the deck, the generator of the
 -- stream, and the receipts
@@ -49,7 +49,7 @@ next_card held s =
 abbrev pub drawn_ahead : Home → List Card → Stream → Ahead
 drawn_ahead home held s =
     let deal = next_card held s in
-    let draft = drawn home deal.0 deal.2 in
+    let draft = drawn_draft home deal.0 deal.2 in
     record { draft = draft.0; cards = deal.1; answers = draft.1 }
 
 abbrev pub ahead_of : Station → Ahead

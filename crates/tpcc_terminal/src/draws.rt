@@ -1,7 +1,7 @@
 //! The draws of each card, in their order.
 ghost use Rattle.std.specs.Prelude.{◌≡◌, ◌+◌, ◌==◌, ◌&&◌, ◌<◌, ◌≤◌};
 ghost use Rattle.tpcc_draws.specs.Draws.{answers};
-ghost use Rattle.tpcc_terminal.specs.Cards.{other_warehouse, supplier, drawn_line, drawn_lines, drawn_customer, payer, drawn_order, drawn_payment, drawn_status, drawn};
+ghost use Rattle.tpcc_terminal.specs.Cards.{other_warehouse, supplier, drawn_line, drawn_lines, drawn_customer, payer, drawn_order, drawn_payment, drawn_status, drawn_draft};
 
 use crate::drafts::{Draft, DrawnCustomer, NameNumber, OrderDraft, PaymentDraft, StatusDraft};
 use crate::home::Home;
@@ -144,9 +144,9 @@ fn status(stream: &mut Stream, home: &Home) -> StatusDraft
 }
 
 /// The draws of a card.
-#[tactic(auto, unfolding(crate::specs::Cards::drawn))]
+#[tactic(auto, unfolding(crate::specs::Cards::drawn_draft))]
 pub fn draw(stream: &mut Stream, home: &Home, card: Card) -> Draft
-    ensures drawn { (result, answers stream.new) ≡ drawn home.now card (answers stream.old) }
+    ensures drawn { (result, answers stream.new) ≡ drawn_draft home.now card (answers stream.old) }
 {
     match card {
         Card::NewOrder => Draft::NewOrder(order(stream, home)),

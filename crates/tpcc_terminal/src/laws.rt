@@ -6,8 +6,8 @@ ghost use Rattle.tpcc_rows.specs.declared.requests.Request.{Request};
 ghost use Rattle.tpcc_book.specs.Past.{Past};
 ghost use Rattle.tpcc_book.specs.Purses.{PurseView};
 ghost use Rattle.tpcc_book.specs.Serve.{IsServed};
-ghost use Rattle.tpcc_book.specs.Seats.{Seated, IsTurned};
-ghost use Rattle.tpcc_book.specs.Told.{Told};
+ghost use Rattle.tpcc_book.specs.Seats.{SeatedView, IsTurned};
+ghost use Rattle.tpcc_book.specs.AnswerView.{AnswerView};
 ghost use Rattle.tpcc_terminal.specs.declared.receipts.Receipt.{Receipt};
 ghost use Rattle.tpcc_terminal.specs.Receipts.{receipts_of, AllStand};
 
@@ -15,11 +15,11 @@ ghost use Rattle.tpcc_terminal.specs.Receipts.{receipts_of, AllStand};
 /// journal after it: each is the journal's entry at its place. Of a purse at turns the same holds of
 /// the front, the entries that it has seen.
 pub fn receipts_stand()
-    ensures served { (old new : Past) (request : Request) (purse : PurseView) (answer : Told PurseView)
+    ensures served { (old new : Past) (request : Request) (purse : PurseView) (answer : AnswerView PurseView)
         (receipts : List Receipt)
         → IsServed old request purse answer new → AllStand old.entries receipts
         → AllStand new.entries (receipts ++ receipts_of (λ p. p) answer) }
-    ensures turned { (request : Request) (purse : Seated) (answer : Told Seated)
+    ensures turned { (request : Request) (purse : SeatedView) (answer : AnswerView SeatedView)
         (receipts : List Receipt)
         → IsTurned request purse answer → AllStand purse.front receipts
         → AllStand answer.purse.front (receipts ++ receipts_of (λ p. p.purse) answer) }

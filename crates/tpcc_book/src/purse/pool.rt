@@ -1,6 +1,6 @@
 //! The shares of purses, put together.
 ghost use Rattle.std.specs.Prelude.{◌≡◌, ◌<◌, pos};
-ghost use Rattle.tpcc_book.specs.Purses.{all_parts, pool_of, pooled};
+ghost use Rattle.tpcc_book.specs.Purses.{all_parts, pool_of, pool_with};
 
 use crate::naming::{Entries, Naming, PaidCents};
 use crate::purse::Purse;
@@ -26,9 +26,9 @@ pub(crate) struct Pool<N: Naming> {
 
 impl<N: Naming> Model for Pool<N> {
     ghost use Rattle.std.specs.Prelude.{◌≡◌, ◌*◌, ◌≤◌, ◌^◌, pos};
-    ghost use Rattle.tpcc_book.specs.Purses.{Pooled, all_parts};
+    ghost use Rattle.tpcc_book.specs.Purses.{PoolView, all_parts};
 
-    ghost Value = { Pooled };
+    ghost Value = { PoolView };
 
     ghost view = { λ p. record { parts = p.parts; entries = p.entries; paid = pos p.cents } };
 
@@ -68,7 +68,7 @@ impl<N: Naming> Pool<N> {
 
     // One more purse.
     pub(crate) fn take_in(&mut self, purse: Purse<N>)
-        ensures pool { self.new ≡ pooled self.old purse }
+        ensures pool { self.new ≡ pool_with self.old purse }
     {
         let Purse {
             terminal: _,

@@ -4,7 +4,7 @@ ghost use Rattle.std.specs.Slots.{slots_items, slots_len, IsFull};
 ghost use Rattle.tpcc_book.specs.declared.turns.knows.Stage.TheVariants.{Idle};
 ghost use Rattle.tpcc_book.specs.Closing.{TellsBook, IsLeft, IsGathered, IsAudited};
 ghost use Rattle.tpcc_book.specs.Gathering.{HasJoined};
-ghost use Rattle.tpcc_book.specs.Purses.{all_parts, pooled};
+ghost use Rattle.tpcc_book.specs.Purses.{all_parts, pool_with};
 ghost use Rattle.tpcc_book.specs.Seats.{purses_of, view_of};
 ghost use Rattle.tpcc_book.specs.Serve.{rooms_of};
 ghost use Rattle.tpcc_book.specs.Shares.{both_of};
@@ -92,7 +92,7 @@ fn join<N: Naming, T: Seating>(
     requires idle { (seat.old.me.0.stage ≡ Idle) × (0 < seat.old.me.0.parts) }
     ensures same { seat.new.table_id ≡ seat.old.table_id }
     ensures seat { seat.new.me.0 ≡ both_of seat.old.me.0 (view_of purse) }
-    ensures pool { pool.new ≡ pooled pool.old purse.purse }
+    ensures pool { pool.new ≡ pool_with pool.old purse.purse }
 {
     let SeatedPurse {
         purse,

@@ -26,34 +26,34 @@ impl<N: Naming> TableRule<Option<Book<N>>, Knows, Opening> for TurnRule<N> {
 pub struct Draw;
 
 impl<N: Naming> Play<Option<Book<N>>, Knows> for Draw {
-    ghost use Rattle.tpcc_book.specs.TurnRule.{Drew};
+    ghost use Rattle.tpcc_book.specs.TurnRule.{DrawStep};
 
-    ghost then = { Drew };
+    ghost then = { DrawStep };
 }
 
 /// Looking whether it is served, and taking the book.
 pub struct Look;
 
 impl<N: Naming> Play<Option<Book<N>>, Knows> for Look {
-    ghost use Rattle.tpcc_book.specs.TurnRule.{Looked};
+    ghost use Rattle.tpcc_book.specs.TurnRule.{LookStep};
 
-    ghost then = { Looked };
+    ghost then = { LookStep };
 }
 
 /// Telling that the journal is that of the book in hand.
 pub struct Grow;
 
 impl<N: Naming> Play<Option<Book<N>>, Knows> for Grow {
-    ghost use Rattle.tpcc_book.specs.TurnRule.{Grown};
+    ghost use Rattle.tpcc_book.specs.TurnRule.{GrowStep};
 
-    ghost then = { Grown };
+    ghost then = { GrowStep };
 }
 
 /// Giving the book back, and serving the next ticket.
 pub struct End;
 
 impl<N: Naming> Play<Option<Book<N>>, Knows> for End {
-    ghost use Rattle.tpcc_book.specs.TurnRule.{Ended};
+    ghost use Rattle.tpcc_book.specs.TurnRule.{EndStep};
 
-    ghost then = { Ended };
+    ghost then = { EndStep };
 }

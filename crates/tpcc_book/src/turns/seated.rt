@@ -42,9 +42,9 @@ impl<N: Naming, T: Seating> Model for SeatedPurse<N, T> {
     ghost use Rattle.std.specs.Prelude.{◌≡◌, ◌+◌, [], ◌∷◌};
     ghost use Rattle.tpcc_book.specs.declared.turns.knows.Stage.TheVariants.{Idle};
     ghost use Rattle.tpcc_book.specs.TurnRule.{knows};
-    ghost use Rattle.tpcc_book.specs.Seats.{Seated, start_of, front_of};
+    ghost use Rattle.tpcc_book.specs.Seats.{SeatedView, start_of, front_of};
 
-    ghost Value = { Seated };
+    ghost Value = { SeatedView };
 
     ghost view = { λ p. record {
       purse = p.purse;

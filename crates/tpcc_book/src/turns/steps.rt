@@ -2,8 +2,8 @@
 ghost use Rattle.std.specs.Prelude.{◌≡◌, ◌<◌, ℕ, List, [], ◌∷◌, Option, Some};
 ghost use Rattle.atomic_table.specs.Table.{rest};
 ghost use Rattle.tpcc_book.specs.declared.turns.knows.Stage.TheVariants.{Idle, Out, Holds};
-ghost use Rattle.tpcc_book.specs.TurnRule.{knows, Took, Grew};
-ghost use Rattle.tpcc_book.specs.TurnSteps.{Drawn, Awaits, Taken, Giving, Ending, Growing, CanGrow, Shown};
+ghost use Rattle.tpcc_book.specs.TurnRule.{knows, HasBook, HasGrown};
+ghost use Rattle.tpcc_book.specs.TurnSteps.{HasDrawn, Awaits, HasTaken, CanGive, CanEnd, CanShow, CanGrow, HasShown};
 ghost use Rattle.tpcc_book.specs.Shares.{both_of, last_parts, freed_of, back_of};
 ghost use Rattle.tpcc_rows.specs.declared.entry.Entry.{Entry};
 ghost use Rattle.tpcc_book.specs.Past.{Past};
@@ -30,7 +30,7 @@ fn draw<N: Naming>(board: &Board<N>, seat: &mut Place<N>) -> u64
     requires fits { (seat.old.table_id ≡ board.now.table_id) × (board.now.table_id.words ≡ 2) }
     requires idle { (seat.old.me.0.stage ≡ Idle) × (0 < seat.old.me.0.parts) }
     ensures same { (seat.new.table_id ≡ seat.old.table_id) × (seat.new.id ≡ seat.old.id) }
-    ensures drawn { Drawn seat.old.me result seat.new.me }
+    ensures drawn { HasDrawn seat.old.me result seat.new.me }
 {
     board.fetch_add::<Draw>(seat, 0, 1)
 }
@@ -41,7 +41,7 @@ fn wait<N: Naming, R: Wait>(rt: &R, board: &Board<N>, seat: &mut Place<N>, ticke
     requires out { Awaits seat.old.me ticket }
     ensures same { (seat.new.table_id ≡ seat.old.table_id) × (seat.new.id ≡ seat.old.id) }
     ensures called { (number : ℕ) → seat.old.me.0.stage ≡ Out number
-        → Took seat.old.me number seat.new.me }
+        → HasBook seat.old.me number seat.new.me }
 {
     for _ in rt.forever() {
         if board.load::<Look>(seat, 1) == ticket {
@@ -56,7 +56,7 @@ fn wait<N: Naming, R: Wait>(rt: &R, board: &Board<N>, seat: &mut Place<N>, ticke
 // Ends the turn.
 fn end<N: Naming>(board: &Board<N>, seat: &mut Place<N>, next: u64)
     requires fits { (seat.old.table_id ≡ board.now.table_id) × (board.now.table_id.words ≡ 2) }
-    requires holds { Ending seat.old.me next }
+    requires holds { CanEnd seat.old.me next }
     ensures same { (seat.new.table_id ≡ seat.old.table_id) × (seat.new.id ≡ seat.old.id) }
     ensures ended { (book : Past) → seat.old.me.1 ≡ (0, Some book) ∷ []
         → seat.new.me
@@ -75,7 +75,7 @@ pub(crate) fn take<N: Naming, R: Wait>(
     requires idle { (seat.old.me.0.stage ≡ Idle) × (0 < seat.old.me.0.parts)
         × (seat.old.me.1 ≡ []) }
     ensures same { (seat.new.table_id ≡ seat.old.table_id) × (seat.new.id ≡ seat.old.id) }
-    ensures taken { Taken seat.old.me result.0 result.1 seat.new.me }
+    ensures taken { HasTaken seat.old.me result.0 result.1 seat.new.me }
 {
     let ticket = draw(board, seat);
     wait(rt, board, seat, ticket);
@@ -114,10 +114,10 @@ pub(crate) fn adopt<N: Naming>(board: &Board<N>, seat: &mut Place<N>, other: Pla
 /// Tells the turn's seat that the journal is that of the book, which comes back.
 pub(crate) fn show<N: Naming>(board: &Board<N>, seat: &mut Place<N>, book: Book<N>) -> Book<N>
     requires fits { (seat.old.table_id ≡ board.now.table_id) × (board.now.table_id.words ≡ 2) }
-    requires growing { Growing seat.old.me book }
+    requires growing { CanShow seat.old.me book }
     ensures same { (seat.new.table_id ≡ seat.old.table_id) × (seat.new.id ≡ seat.old.id) }
     ensures book { result ≡ book }
-    ensures shown { Shown seat.old.me book seat.new.me }
+    ensures shown { HasShown seat.old.me book seat.new.me }
 {
     put(board, seat, book);
     grow(board, seat);
@@ -134,7 +134,7 @@ fn grow<N: Naming>(board: &Board<N>, seat: &mut Place<N>)
     ensures same { (seat.new.table_id ≡ seat.old.table_id) × (seat.new.id ≡ seat.old.id) }
     ensures grown { (number : ℕ) (base : List Entry) (book : Past)
         → seat.old.me.0.stage ≡ Holds number base
-        → seat.old.me.1 ≡ (0, Some book) ∷ [] → Grew seat.old.me number base book seat.new.me }
+        → seat.old.me.1 ≡ (0, Some book) ∷ [] → HasGrown seat.old.me number base book seat.new.me }
 {
     board.load::<Grow>(seat, 0);
 }
@@ -155,7 +155,7 @@ pub(crate) fn free<N: Naming>(board: &Board<N>, seat: &mut Place<N>) -> Place<N>
 /// Gives the book back, and ends the turn.
 pub(crate) fn give<N: Naming>(board: &Board<N>, seat: &mut Place<N>, ticket: u64, book: Book<N>)
     requires fits { (seat.old.table_id ≡ board.now.table_id) × (board.now.table_id.words ≡ 2) }
-    requires giving { Giving seat.old.me ticket book }
+    requires giving { CanGive seat.old.me ticket book }
     ensures same { (seat.new.table_id ≡ seat.old.table_id) × (seat.new.id ≡ seat.old.id) }
     ensures ended { seat.new.me
         ≡ (knows seat.old.me.0.start book.entries seat.old.me.0.parts Idle seat.old.me.0.told, []) }

@@ -31,10 +31,10 @@ pub struct UnnamedTurns<N: Naming> {
 impl<N: Naming> Model for UnnamedTurns<N> {
     ghost use Rattle.std.specs.Prelude.{◌≡◌, []};
     ghost use Rattle.tpcc_book.specs.Purses.{first_purse};
-    ghost use Rattle.tpcc_book.specs.Seats.{Unnamed};
+    ghost use Rattle.tpcc_book.specs.Seats.{UnnamedView};
     ghost use Rattle.tpcc_book.specs.TurnRule.{first};
 
-    ghost Value = { Unnamed };
+    ghost Value = { UnnamedView };
 
     ghost view = { λ t. record { opening = t.table.shared.key; table = t.table.shared.table_id } };
 

@@ -1,5 +1,5 @@
-use Rattle.tpcc_core.proofs.Ends.{started_after, events_more}
+use Rattle.tpcc_core.proofs.Ends.{opening_desk_after, events_more}
 use Rattle.tpcc_core.proofs.laws.events_follow.Goals as goal
 
 pub returns : goal.returns
-returns c = record { start = started_after; more = events_more }
+returns c = record { start = opening_desk_after; more = events_more }

@@ -1,6 +1,6 @@
 use Rattle.std.proofs.Common.{◌≡◌, ◌≤◌, ◌-◌, pos, vec_len, vec_capacity}
 use Rattle.tpcc_book.specs.Purses.{most_purses}
-use Rattle.tpcc_core.specs.Started.{seats_of}
+use Rattle.tpcc_core.specs.OpeningDesk.{seats_of}
 use Rattle.tpcc_core.proofs.opening.seats.Given as goal
 
 abbrev pub invariant-loop-k : goal.invariant-loop-k

@@ -1,5 +1,5 @@
 use Rattle.std.proofs.Common.{◌≡◌, ◌≤◌, vec_len, vec_capacity}
-use Rattle.tpcc_core.specs.Started.{hands_of}
+use Rattle.tpcc_core.specs.OpeningDesk.{hands_of}
 use Rattle.tpcc_core.proofs.opening.servers.Given as goal
 
 abbrev pub invariant-loop-k : goal.invariant-loop-k

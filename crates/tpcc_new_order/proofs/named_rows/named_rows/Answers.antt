@@ -1,6 +1,6 @@
 use Rattle.tpcc_rows.specs.NewOrder.{order_refusal_by_input}
 use Rattle.tpcc_laws.proofs.TurnKeeps.{first_none}
-use Rattle.tpcc_new_order.proofs.RefusalLemmas.{copied, there, rows_there}
+use Rattle.tpcc_new_order.proofs.RefusalLemmas.{copy_is_some, there, rows_there}
 use Rattle.tpcc_new_order.proofs.named_rows.named_rows.Goals as goal
 
 pub unwrap-requires : goal.unwrap-requires
@@ -16,7 +16,7 @@ pub returns : goal.returns
 returns c =
     record {
       accepted = first_none (order_refusal_by_input c.args.tables.now.rows c.args.order.now) _ c.requires.accepted;
-      warehouse = copied _ _ c.unwrap.result c.warehouse.ensures c.unwrap.ensures;
-      district = copied _ _ c.unwrap-2.result c.district.ensures c.unwrap-2.ensures;
-      customer = copied _ _ c.unwrap-3.result c.customer.ensures c.unwrap-3.ensures;
+      warehouse = copy_is_some _ _ c.unwrap.result c.warehouse.ensures c.unwrap.ensures;
+      district = copy_is_some _ _ c.unwrap-2.result c.district.ensures c.unwrap-2.ensures;
+      customer = copy_is_some _ _ c.unwrap-3.result c.customer.ensures c.unwrap-3.ensures;
     }

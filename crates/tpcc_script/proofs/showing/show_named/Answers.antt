@@ -1,6 +1,6 @@
 use Rattle.std.proofs.Common.{subst, refl, inl, List, ℕ}
 use Rattle.std.specs.Prelude.{[], Some, Err, IfOk, OnErr}
-use Rattle.tpcc_book.specs.Past.{Past, opened}
+use Rattle.tpcc_book.specs.Past.{Past, opening_past}
 use Rattle.tpcc_audit.proofs.Parts.{none_part}
 use Rattle.tpcc_show.specs.Shown.{served_text}
 use Rattle.tpcc_script.specs.declared.fault.ScriptFault.TheVariants.{NoMemory}
@@ -21,9 +21,9 @@ returns-in-Ok g c = record {
 
 pub returns-in-Err-clause-part : goal.returns-in-Err-clause-part
 returns-in-Err-clause-part g c = λ bytes known. record {
-  book = opened c.args.opening.now;
+  book = opening_past c.args.opening.now;
   screens = [];
   ended = Err NoMemory;
   ran = inl (record { done = []; rest = (script_of bytes).calls; calls_are = refl; wrote = record { text = []; prints = (refl, refl); added = refl } });
-  part = none_part (g.W.Write.contents c.args.out.now) (served_text [] (opened c.args.opening.now) c.args.parts.now);
+  part = none_part (g.W.Write.contents c.args.out.now) (served_text [] (opening_past c.args.opening.now) c.args.parts.now);
 }

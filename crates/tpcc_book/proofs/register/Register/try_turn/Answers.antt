@@ -1,7 +1,7 @@
 use Rattle.std.proofs.Common.{subst, sym}
 use Rattle.tpcc_book.specs.Past.{IsKept}
 use Rattle.tpcc_book.specs.Ready.{state_of}
-use Rattle.tpcc_book.proofs.Keeps.{after-kept, committed, same-state, KeepLaws, PayLaws}
+use Rattle.tpcc_book.proofs.Keeps.{after-kept, turn_is_made, same-state, KeepLaws, PayLaws}
 use Rattle.tpcc_book.proofs.register.Register.try_turn.Goals as goal
 
 pub invariant_of-self-2 : goal.invariant_of-self-2
@@ -12,7 +12,7 @@ invariant_of-self-2 c =
     let entries = c.self.inside.journal.entries in
     let same = same-state c.make_ready.new.tables.rows c.self.inside.tables.rows c.make_ready.new.queue.tickets c.self.inside.queue.tickets c.make_ready.ensures.rows c.make_ready.ensures.tickets in
     let together =
-    committed c.self.inside.opening state (state_of c.make_ready.new.tables c.make_ready.new.queue) (state_of c.commit.new.tables c.commit.new.queue)
+    turn_is_made c.self.inside.opening state (state_of c.make_ready.new.tables c.make_ready.new.queue) (state_of c.commit.new.tables c.commit.new.queue)
     entries c.make_ready.new.journal.entries c.commit.new.journal.entries c.args.terminal c.args.number c.args.request.now c.in_ok-ready.ready.copy
     same c.make_ready.ensures.entries c.in_ok-ready.ensures.copy c.commit.ensures.state c.commit.ensures.entries in
     let kept =

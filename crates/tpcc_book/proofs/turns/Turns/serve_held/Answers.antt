@@ -1,7 +1,7 @@
 use Rattle.std.proofs.Common.{◌+◌, refl, sym, subst, arith}
 use Rattle.tpcc_book.specs.Past.{IsKept}
-use Rattle.tpcc_book.specs.Seats.{Seated, IsTurned}
-use Rattle.tpcc_book.specs.Told.{Told, answer_of}
+use Rattle.tpcc_book.specs.Seats.{SeatedView, IsTurned}
+use Rattle.tpcc_book.specs.AnswerView.{AnswerView, answer_of}
 use Rattle.tpcc_book.proofs.Keepers.{growing_of, longer_of, turned_within}
 use Rattle.tpcc_book.proofs.turns.Turns.serve_held.Goals as goal
 
@@ -19,4 +19,4 @@ returns-clause-turned g c =
     let turned = served.result in
     let kept = subst IsKept c.show-book.ensures.book c.journal-journal.ensures.kept in
     let told = turned_within c.purse.inside.purse served.new.purse c.purse.inside.badge.views c.into_badge.result.views c.args.purse h.seat.me c.adopt.new.seat.me c.show-book.new.seat.me c.free-back.result.me c.into_seat.result.me.0 (h.purse.room + 1) h.book served.new.self (answer_of turned served.new.purse) c.args.request turned.request turned.outcome turned.place c.purse.view_is c.into_seat.ensures.2 c.held.invariant.1 c.held.invariant.3 c.adopt.ensures.adopted served.ensures.served c.show-book.ensures.shown c.free-back.ensures.back.1 c.into_badge.ensures.2 refl refl refl refl kept in
-    subst (λ (t : Told Seated). IsTurned c.args.request c.args.purse t) (sym c.new.ensures) told
+    subst (λ (t : AnswerView SeatedView). IsTurned c.args.request c.args.purse t) (sym c.new.ensures) told

@@ -1,12 +1,12 @@
 use Rattle.std.proofs.Common.{Some, ◌∙◌, ap}
-use Rattle.tpcc_book.proofs.Serves.{held, not_none, taken_of}
+use Rattle.tpcc_book.proofs.Serves.{book_in_hand, not_none, taken_of}
 use Rattle.tpcc_book.proofs.turns.steps.take.Goals as goal
 
 pub exchange-requires : goal.exchange-requires
 exchange-requires g c =
     let d = c.draw-ticket.ensures.drawn in
     let t = c.wait.ensures.called d.ticket (ap (λ m. m.0.stage) d.now_is) in
-    (c.wait.ensures.same.0 ∙ (c.draw-ticket.ensures.same.0 ∙ c.requires.fits.0), (Some t.book, held c.draw-ticket.new.seat.me c.wait.new.seat.me d.ticket t))
+    (c.wait.ensures.same.0 ∙ (c.draw-ticket.ensures.same.0 ∙ c.requires.fits.0), (Some t.book, book_in_hand c.draw-ticket.new.seat.me c.wait.new.seat.me d.ticket t))
 
 pub unreachable-requires : goal.unreachable-requires
 unreachable-requires g c =

@@ -1,6 +1,6 @@
 use Rattle.std.proofs.Common.{rules, ap, sym, subst, ◌≤◌}
 use Rattle.tpcc_mailbox.specs.Rule.{hand_bound, hand_in}
-use Rattle.tpcc_mailbox.proofs.Keeps.{reseated}
+use Rattle.tpcc_mailbox.proofs.Keeps.{flag_keeps_seat}
 use Rattle.tpcc_mailbox.proofs.Flags.{shuts}
 use Rattle.tpcc_mailbox.proofs.table.Mailboxes.close.Goals as goal
 
@@ -11,5 +11,5 @@ pub invariant_of-serving : goal.invariant_of-serving
 invariant_of-serving g c = let did = c.store.ensures.2 in record {
   sized = search rules;
   inside = subst (λ l. hand_bound (hand_in l) ≤ c.store.new.seat.table_id.slots) (sym (ap (λ m. m.0.roles) did)) (search rules);
-  serves = reseated _ _ _ c.args.serving.now.serves did;
+  serves = flag_keeps_seat _ _ _ c.args.serving.now.serves did;
 }

@@ -1,7 +1,7 @@
 use Rattle.std.proofs.Common.{rules, sym, ap, ◌∙◌, ◌∷◌, Some}
 use Rattle.atomic_table.specs.Table.{rest}
 use Rattle.tpcc_mailbox.specs.declared.rule.Mail.TheVariants.{Reply}
-use Rattle.tpcc_mailbox.proofs.Keeps.{collects, filled, is_seat_with}
+use Rattle.tpcc_mailbox.proofs.Keeps.{collects, slot_is_exchanged, is_seat_with}
 use Rattle.tpcc_mailbox.proofs.table.Mailboxes.collect.Goals as goal
 
 pub compare_exchange-requires : goal.compare_exchange-requires
@@ -19,7 +19,7 @@ exchange-found-requires g c = let got = (c.compare_exchange.ensures.2 _ _ (ap (�
 
 pub invariant_of-result-2 : goal.invariant_of-result-2
 invariant_of-result-2 g c = let got = (c.compare_exchange.ensures.2 _ _ (ap (λ s. s.me.0.roles) c.args.waiting.sent)).0 (search rules) in
-    let took = filled _ _ _ _ (Some (Reply got.0)) _ (ap (λ m. m.0.roles) got.2) (ap (λ m. m.1) got.2 ∙ ap (λ s. (c.args.waiting.mailbox, Some (Reply got.0)) ∷ s.me.1) c.args.waiting.sent) c.exchange-found.ensures.3 in record {
+    let took = slot_is_exchanged _ _ _ _ (Some (Reply got.0)) _ (ap (λ m. m.0.roles) got.2) (ap (λ m. m.1) got.2 ∙ ap (λ s. (c.args.waiting.mailbox, Some (Reply got.0)) ∷ s.me.1) c.args.waiting.sent) c.exchange-found.ensures.3 in record {
       sized = search rules;
       free = is_seat_with _ _ _ took.0 took.1;
     }

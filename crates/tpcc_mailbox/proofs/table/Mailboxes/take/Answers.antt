@@ -2,7 +2,7 @@ use Rattle.std.proofs.Common.{rules, sym, ap, ◌∙◌, ◌∷◌, ◌≤◌, s
 use Rattle.tpcc_mailbox.specs.Rule.{hand_bound, hand_in}
 use Rattle.atomic_table.specs.Table.{rest}
 use Rattle.tpcc_mailbox.specs.declared.rule.Mail.TheVariants.{Letter}
-use Rattle.tpcc_mailbox.proofs.Keeps.{takes_letter, filled, free_server, seated_server, seated_holder}
+use Rattle.tpcc_mailbox.proofs.Keeps.{takes_letter, slot_is_exchanged, free_server, seated_server, seated_holder}
 use Rattle.tpcc_mailbox.proofs.table.Mailboxes.take.Goals as goal
 
 pub compare_exchange-requires : goal.compare_exchange-requires
@@ -21,7 +21,7 @@ exchange-found-requires g c = let was = free_server _ c.args.serving.now.serves 
 
 pub invariant_of-serving-2 : goal.invariant_of-serving-2
 invariant_of-serving-2 g c = let was = free_server _ c.args.serving.now.serves c.requires.free in let got = (c.compare_exchange.ensures.2 _ was.0).0 (search rules) c.args.k c.word_index-word.ensures in
-    let took = filled _ _ _ _ (Some (Letter got.0)) _ (ap (λ m. m.0.roles) got.1) (ap (λ m. m.1) got.1 ∙ ap (λ l. (c.args.k, Some (Letter got.0)) ∷ l) was.1) c.exchange-found.ensures.3 in record {
+    let took = slot_is_exchanged _ _ _ _ (Some (Letter got.0)) _ (ap (λ m. m.0.roles) got.1) (ap (λ m. m.1) got.1 ∙ ap (λ l. (c.args.k, Some (Letter got.0)) ∷ l) was.1) c.exchange-found.ensures.3 in record {
       sized = search rules;
       inside = subst (λ l. hand_bound (hand_in l) ≤ c.exchange-found.new.seat.table_id.slots) (sym took.0) (search rules);
       serves = seated_holder _ _ _ _ took.0 took.1;

@@ -2,7 +2,7 @@ use Rattle.std.proofs.Common.{◌≡◌, sym, arith}
 use Rattle.std.specs.Prelude.{unsigned_abs}
 use Rattle.std.proofs.lemmas.Int.{ints}
 use Rattle.tpcc_money.proofs.DigitLemmas.{padded_integral-zeros}
-use Rattle.tpcc_money.proofs.MomentLemmas.{written, text_is}
+use Rattle.tpcc_money.proofs.MomentLemmas.{civil_text, text_is}
 use Rattle.tpcc_money.specs.Texts.{moment_text}
 use Rattle.tpcc_money.proofs.moment.MomentDisplay.fmt.Goals as goal
 
@@ -10,7 +10,7 @@ pub returns-clause-writes : goal.returns-clause-writes
 returns-clause-writes g c =
     let civil = c.civil.result in
     let year : c.unsigned_abs-year.result ≡ unsigned_abs civil.date.year = omega (arith, ints) in
-    let is : written civil ≡ moment_text c.args.self.now = text_is civil c.args.self.now c.civil.ensures.range c.civil.ensures.instant in
+    let is : civil_text civil ≡ moment_text c.args.self.now = text_is civil c.args.self.now c.civil.ensures.range c.civil.ensures.instant in
     rw (
       sym is,
       sym year,

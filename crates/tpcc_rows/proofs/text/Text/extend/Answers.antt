@@ -1,6 +1,6 @@
 use Rattle.std.proofs.Common.{arith, ap, ◌≤◌, ◌∙◌, sym, subst, ◌++◌, ◌+◌, length, take, drop, length-take-le}
 use Rattle.tpcc_rows.specs.TextView.{IsText}
-use Rattle.tpcc_rows.proofs.InPlace.{added, shows_added}
+use Rattle.tpcc_rows.proofs.InPlace.{extended_is_text, shows_added}
 use Rattle.tpcc_rows.proofs.text.Text.extend.Goals as goal
 
 pub invariant_of-self : goal.invariant_of-self
@@ -12,7 +12,7 @@ invariant_of-self g c =
     let room = subst (λ k. k + length c.args.bytes.now ≤ g.row.N) (ap length (sym c.self.view_is) ∙ long) c.requires.room in
     subst (λ cells. IsText g.row.N (record { bytes = cells; len = text.len + length bytes }))
     (sym (c.write_at.ensures ∙ ap (λ s. (take s text.bytes ++ bytes) ++ drop (s + length bytes) text.bytes) c.from.ensures))
-    (added g.row.N text bytes room is c.requires.printable)
+    (extended_is_text g.row.N text bytes room is c.requires.printable)
 
 pub returns : goal.returns
 returns g c =

@@ -1,7 +1,7 @@
 use Rattle.std.proofs.Common.{rules, arith, ap, ◌∙◌, ◌≡◌, ◌-◌, ◌++◌, decimal, length, take, length-append, append_assoc}
 use Rattle.std.specs.Prelude.{ℕ, replicate}
 use Rattle.std.specs.List.{list_all}
-use Rattle.tpcc_money.specs.Texts.{padded}
+use Rattle.tpcc_money.specs.Texts.{padded_number}
 use Rattle.tpcc_rows.specs.Printable.{is_printable}
 use Rattle.tpcc_rows.proofs.InPlace.{zeros_taken, length_zeros}
 use Rattle.tpcc_rows.proofs.PrintableTexts.{decimal_printable, zeros_printable}
@@ -50,5 +50,5 @@ returns g c =
     let left = c.args.places - length (decimal c.args.number) in
     record {
       written = written;
-      long = ap length written ∙ length-append c.args.self.now (padded c.args.places c.args.number) ∙ omega (arith, length-append (replicate {A = ℕ} left 48) (decimal c.args.number), length_zeros left, c.requires.digits);
+      long = ap length written ∙ length-append c.args.self.now (padded_number c.args.places c.args.number) ∙ omega (arith, length-append (replicate {A = ℕ} left 48) (decimal c.args.number), length_zeros left, c.requires.digits);
     }

@@ -2,7 +2,7 @@ use Rattle.std.proofs.Common.{◌≡◌, ◌+◌, ◌<◌, [], ◌∙◌, ap, sy
 use Rattle.tpcc_book.specs.declared.turns.knows.Knows.{Knows}
 use Rattle.tpcc_book.specs.declared.turns.knows.Stage.TheVariants.{Idle}
 use Rattle.tpcc_book.specs.TurnRule.{knows}
-use Rattle.tpcc_book.specs.Seats.{Seated, start_of, front_of}
+use Rattle.tpcc_book.specs.Seats.{SeatedView, start_of, front_of}
 use Rattle.tpcc_book.proofs.Shares.{splits, alone}
 use Rattle.tpcc_book.proofs.turns.seated.SeatedPurse.split.Goals as goal
 
@@ -11,7 +11,7 @@ split_seat-given-requires g c =
     let me = c.into_seat-seat.result.me in
     let views = c.self.inside.badge.views in
     let is : me.0 ≡ knows (start_of views) (front_of views) (c.self.inside.purse.room + 1) Idle [] = alone me.0 _ (sym c.into_seat-seat.ensures.2 ∙ (ap (λ b. b.views) c.replace-badge.ensures.value ∙ c.self.invariant.1)) in
-    let room = ap (λ (p : Seated). p.purse.room) c.self.view_is in
+    let room = ap (λ (p : SeatedView). p.purse.room) c.self.view_is in
     let some : 1 < me.0.parts = omega (arith, ap (λ (v : Knows). v.parts) is, room, c.requires) in (
       c.into_seat-seat.ensures.0 ∙ (ap (λ b. b.table_id) c.replace-badge.ensures.value ∙ (c.self.invariant.0 ∙ sym c.turns.invariant.0)),
       omega (arith, c.turns.invariant.1),

@@ -6,13 +6,13 @@ use Rattle.tpcc_rows.specs.declared.refusals.Refusal.{Refusal}
 use Rattle.tpcc_book.specs.declared.turned.Turned.{Turned}
 
 -- the request, its reply or refusal, the place of its entry, and the purse that was handed in
-pub record Told (P : Type 0) : Type 0 where
+pub record AnswerView (P : Type 0) : Type 0 where
   pub request : Request
   pub outcome : Result Reply Refusal
   pub place : Option ℕ
   pub purse : P
 
 -- what a turn gave back, with the purse
-abbrev pub answer_of : {P : Type 0} → Turned → P → Told P
+abbrev pub answer_of : {P : Type 0} → Turned → P → AnswerView P
 answer_of turned purse =
     record { request = turned.request; outcome = turned.outcome; place = turned.place; purse = purse }

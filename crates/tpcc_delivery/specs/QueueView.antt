@@ -3,6 +3,6 @@ use Rattle.std.specs.Prelude.{ℕ, List}
 use Rattle.tpcc_rows.specs.declared.requests.QueuedTicket.{QueuedTicket}
 
 -- the tickets, first come first, and for how many more there is room
-pub record Waiting : Type 0 where
+pub record QueueView : Type 0 where
   pub tickets : List QueuedTicket
   pub room : ℕ

@@ -1,7 +1,7 @@
 -- The desk of an opening.
 use Rattle.std.specs.Prelude.{ℕ, zero, suc, ◌-◌, pos, false, List, [], ◌∷◌, ◌++◌}
 use Rattle.tpcc_population.specs.declared.opening.Opening.{Opening}
-use Rattle.tpcc_book.specs.Past.{opened}
+use Rattle.tpcc_book.specs.Past.{opening_past}
 use Rattle.tpcc_book.specs.Purses.{PurseView, most_purses}
 use Rattle.tpcc_core.specs.declared.mailbox.Hand.{Hand}
 use Rattle.tpcc_core.specs.declared.mailbox.Hand.TheVariants as hand
@@ -23,10 +23,10 @@ hands_of zero = []
 hands_of (suc k) = hands_of k ++ hand.Empty ∷ []
 
 -- the book of the opening, and every terminal with an empty purse; the first purse keeps the rest of the room
-abbrev pub started : Opening → ℕ → ℕ → DeskNow
-started opening terminals servers =
+abbrev pub opening_desk : Opening → ℕ → ℕ → DeskNow
+opening_desk opening terminals servers =
     record {
-      book = opened opening;
+      book = opening_past opening;
       first = record { terminal = 0; entries = 0; paid = pos 0; room = most_purses - terminals };
       seats = seats_of terminals;
       hands = hands_of servers;
