@@ -21,7 +21,7 @@ use Rattle.tpcc_rows.specs.Replay.{replay, IsFaithful, IsServedAt, count_of, pai
 use Rattle.tpcc_population.specs.Opening.{opening_state}
 use Rattle.tpcc_book.specs.Past.{Past, IsKept, Rises, most_entries}
 use Rattle.tpcc_book.specs.Turn.{early, stranger, full, journal_refusal, turn_refusal, entry_of, after, Accepts, IsTurn}
-use Rattle.tpcc_book.specs.declared.turned.Turned.{Turned}
+use Rattle.tpcc_book.specs.declared.outcome.Turned.{Turned}
 
 -- the laws of the model on one turn, as its public functions state them
 pub record PayLaws : Type 0 where

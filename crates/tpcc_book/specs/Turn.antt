@@ -13,7 +13,7 @@ use Rattle.tpcc_rows.specs.Replay.{count_of}
 use Rattle.tpcc_rows.specs.Tables.{State}
 use Rattle.tpcc_rows.specs.Turn.{refusal, state_after, reply_to}
 use Rattle.tpcc_book.specs.Past.{Past, most_entries}
-use Rattle.tpcc_book.specs.declared.turned.Turned.{Turned}
+use Rattle.tpcc_book.specs.declared.outcome.Turned.{Turned}
 
 -- the refusals 1 to 9, which are tested before purse and journal
 abbrev pub early : Option Refusal → Option Refusal

@@ -2,7 +2,7 @@
 ghost use Rattle.std.specs.Prelude.{◌≡◌};
 ghost use Rattle.tpcc_book.specs.AnswerView.{answer_of};
 
-use crate::turned::Turned;
+use crate::outcome::Turned;
 use std::marker::Model;
 use tpcc_rows::{Refusal, Reply, Request};
 

@@ -10,7 +10,7 @@ use crate::answer::Answer;
 use crate::naming::{Blanks, Entries, Naming, PaidCents};
 use crate::purse::{Pool, Purse};
 use crate::register::Register;
-use crate::turned::Turned;
+use crate::outcome::Turned;
 use std::alloc::Global;
 use std::marker::Model;
 use std::sync::ledger::Book as LedgerBook;

@@ -20,7 +20,7 @@ use crate::answer::Answer;
 use crate::book::Book;
 use crate::naming::Naming;
 use crate::register::Register;
-use crate::turned::Turned;
+use crate::outcome::Turned;
 use crate::turns::knows::Knows;
 use crate::turns::rule::TurnRule;
 use crate::turns::steps::{give, take};

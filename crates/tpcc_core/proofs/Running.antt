@@ -12,12 +12,12 @@ passes_more d [] m e n same moves = (n, subst (λ x. Moves x e n) same moves, re
 passes_more d (x ∷ es) m e n passes moves = (passes.0, passes.1, passes_more passes.0 es m e n passes.2 moves)
 
 -- a ready event that happened
-pub ready_moves : (old : DeskNow) (e : Event) (new : DeskNow) → is_ready old e ≡ true → Steps old e new → Moves old e new
-ready_moves old e new ready steps = rw ready steps
+pub ready_step : (old : DeskNow) (e : Event) (new : DeskNow) → is_ready old e ≡ true → Steps old e new → Moves old e new
+ready_step old e new ready steps = rw ready steps
 
 -- an event that was not ready
-pub unready_stays : (old : DeskNow) (e : Event) (new : DeskNow) → is_ready old e ≡ false → new ≡ old → Moves old e new
-unready_stays old e new ready same = rw ready same
+pub no_step : (old : DeskNow) (e : Event) (new : DeskNow) → is_ready old e ≡ false → new ≡ old → Moves old e new
+no_step old e new ready same = rw ready same
 
 -- one list of events after another
 pub passes_both : (d : DeskNow) (es later : List Event) (m n : DeskNow) → Passes d es m → Passes m later n → Passes d (es ++ later) n

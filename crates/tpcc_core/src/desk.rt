@@ -255,7 +255,7 @@ impl<N: Naming> Desk<N> {
         Ok(())
     }
 
-    #[tactic(auto, using(crate::proofs::Running::ready_moves, crate::proofs::Running::unready_stays))]
+    #[tactic(auto, using(crate::proofs::Running::ready_step, crate::proofs::Running::no_step))]
     // One event, or nothing where it is not ready; false where memory is wanted, and nothing happened.
     fn go(&mut self, event: Event) -> bool
         ensures went { result ≡ true → Moves self.old event self.new }

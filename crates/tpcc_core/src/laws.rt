@@ -66,7 +66,8 @@ pub fn answers_are_collected_in_order()
         → IsAllOrAllButLast (collected_of desk terminal) (served_answers after terminal) }
     ensures last { (opening : Opening) (terminals servers : ℕ) (events : List Event)
         (desk : DeskNow) (after : After opening terminals servers events desk) (terminal : ℕ)
-        → served_answers after terminal ≡ collected_of desk terminal ++ waiting_answer (under_way desk terminal) }
+        → served_answers after terminal
+        ≡ collected_of desk terminal ++ waiting_answer (under_way desk terminal) }
 {}
 
 /// A terminal's entries in the journal are its accepted requests with their replies, in the order of serving and numbered
@@ -74,7 +75,8 @@ pub fn answers_are_collected_in_order()
 pub fn entries_are_accepted_requests()
     ensures entries { (opening : Opening) (terminals servers : ℕ) (events : List Event)
         (desk : DeskNow) (after : After opening terminals servers events desk) (terminal : ℕ)
-        → entries_by terminal desk.book.entries ≡ entries_from terminal 0 (served_answers after terminal) }
+        → entries_by terminal desk.book.entries
+        ≡ entries_from terminal 0 (served_answers after terminal) }
     ensures served { (opening : Opening) (terminals servers : ℕ) (events : List Event)
         (desk : DeskNow) (after : After opening terminals servers events desk) (terminal : ℕ)
         → All (IsRecorded desk.book.entries terminal) (served_answers after terminal) }

@@ -131,7 +131,7 @@ impl Stream {
         ensures order { IfOk result (λ v. IsPermutation (range_with_len 1 n) v.items) }
         ensures err { OnErr result (self.new ≡ self.old) }
     {
-        let mut numbers = upward(alloc, n)?;
+        let mut numbers = numbers_up_to(alloc, n)?;
         numbers.as_mut_slice().shuffle(&mut self.generator);
         Ok(numbers)
     }
@@ -149,7 +149,7 @@ impl Stream {
     }
 }
 
-fn upward<A: Allocator>(alloc: A, n: u32) -> Result<Vec<u32, A>, AllocError>
+fn numbers_up_to<A: Allocator>(alloc: A, n: u32) -> Result<Vec<u32, A>, AllocError>
     requires small { n ≤ 1000000 }
     ensures { IfOk result (λ v. v.items ≡ range_with_len 1 n) }
 {

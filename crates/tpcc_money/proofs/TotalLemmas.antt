@@ -8,8 +8,8 @@ use Rattle.tpcc_money.specs.Amounts.{order_total}
 pub scaled_fits : (amount kept taxed : ℕ) → amount ≤ 15000000 → kept ≤ 10000 → taxed ≤ 29998 → amount * (kept * taxed) ≤ 4499700000000000
 scaled_fits amount kept taxed h k l = mul-le amount (kept * taxed) 15000000 299980000 h (mul-le kept taxed 10000 29998 k l)
 
-pub total_is_rounded : (sum : ℤ) (discount w_tax d_tax : ℕ) → pos 0 ≤ℤ sum
+pub rounds : (sum : ℤ) (discount w_tax d_tax : ℕ) → pos 0 ≤ℤ sum
     → order_total sum discount w_tax d_tax ≡ pos ((unsigned_abs sum * ((10000 - discount) * (10000 + w_tax + d_tax)) + 50000000) / 100000000)
 unfolding order_total
-total_is_rounded (pos n) discount w_tax d_tax h = refl
-total_is_rounded (negsuc n) discount w_tax d_tax h = absurd (omega (arith, ints))
+rounds (pos n) discount w_tax d_tax h = refl
+rounds (negsuc n) discount w_tax d_tax h = absurd (omega (arith, ints))

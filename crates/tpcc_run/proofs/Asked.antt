@@ -1,8 +1,8 @@
 -- Requests that were asked one after another.
 use Rattle.std.proofs.Common.{◌≡◌, ℕ, suc, ◌+◌, sym, arith, Some, None}
 use Rattle.std.specs.Prelude.{Option, IfSome, IsSome}
-use Rattle.tpcc_run.specs.declared.terminals.Role.{Role}
-use Rattle.tpcc_run.specs.declared.terminals.Role.TheVariants.{Cards, Deliveries, Rest}
+use Rattle.tpcc_run.specs.declared.role.Role.{Role}
+use Rattle.tpcc_run.specs.declared.role.Role.TheVariants.{Cards, Deliveries, Rest}
 use Rattle.tpcc_rows.specs.declared.requests.Request.{Request}
 use Rattle.tpcc_rows.specs.Layout.{Scale}
 use Rattle.tpcc_terminal.specs.Terminals.{Station, IsStarted}

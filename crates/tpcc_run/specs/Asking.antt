@@ -9,8 +9,8 @@ use Rattle.tpcc_rows.specs.Layout.{Scale}
 use Rattle.tpcc_terminal.specs.Terminals.{Station, IsAsked, IsStarted}
 use Rattle.tpcc_run.specs.declared.promises.Back.{Back}
 use Rattle.tpcc_run.specs.declared.promises.ComesBack.{ComesBack}
-use Rattle.tpcc_run.specs.declared.terminals.Role.{Role}
-use Rattle.tpcc_run.specs.declared.terminals.Role.TheVariants.{Cards, Deliveries, Rest}
+use Rattle.tpcc_run.specs.declared.role.Role.{Role}
+use Rattle.tpcc_run.specs.declared.role.Role.TheVariants.{Cards, Deliveries, Rest}
 
 -- a terminal between two requests: its purse, and what it is seen as
 pub record Post : Type 0 where

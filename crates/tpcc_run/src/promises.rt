@@ -3,7 +3,7 @@ ghost use Rattle.tpcc_run.specs.Asking.{HasComeBack};
 
 use crate::fault::RunFault;
 use crate::operator::Operator;
-use crate::terminals::Role;
+use crate::role::Role;
 use std::thread::{Promise, PromisedHandle};
 use tpcc_book::{Naming, Seating};
 use tpcc_money::Moment;

@@ -1,20 +1,24 @@
-//! The threads of terminals, and what they leave.
-ghost use Rattle.std.specs.Prelude.{◌≡◌, ◌<◌, ◌+◌, IfSome};
-ghost use Rattle.tpcc_terminal.specs.Receipts.{AllStand};
+//! All threads of a run: of its terminals, of its delivery runner, and of its servers, if any.
+ghost use Rattle.std.specs.Prelude.{◌≡◌, ◌+◌, ◌≤◌, ◌<◌, All, IfSome};
+ghost use Rattle.tpcc_book.specs.Purses.{most_purses};
+ghost use Rattle.tpcc_mailbox.specs.Tokens.{identity, idle_origin, serving_origin};
 ghost use Rattle.tpcc_audit.specs.Settlement.{AllSeen};
+ghost use Rattle.tpcc_run.specs.Outcome.{IsService};
 
 use crate::context::RunContext;
 use crate::fault::RunFault;
-use crate::gathered::Gathered;
-use crate::joining::{join_terminal, join_terminals};
-use crate::promises::{Back, TerminalHandle};
-use crate::route::Route;
-use crate::terminals::Role;
+use crate::plan::Service;
+use crate::results::ThreadResults;
+use crate::route::{Route, by_mailboxes, by_turns};
+use crate::server_threads::{Servers, join_servers};
+use crate::terminal_threads::join_terminals;
 use std::alloc::{AllocError, Global};
 use std::sync::Wait;
+use std::thread;
 use std::thread::{Scope, Threads};
 use tpcc_book::{Naming, SeatedPurse, Seating};
-use tpcc_server::OneTurn;
+use tpcc_mailbox::Mailboxes;
+use tpcc_server::{Job, JobAnswer, JobIdle, JobMailboxes, JobServing, OneTurn};
 
 impl<
     's,
@@ -24,66 +28,122 @@ impl<
     F: Fn(Global) -> Result<C, AllocError> + Sync,
     R: Threads + Wait + Sync,
 > RunContext<'s, N, T, F, R> {
-    // Starts the delivery runner, whose number is the one behind the terminals'.
-    fn start_runner<E>(
-        &'s self,
-        scope: &Scope<'s, E>,
-        route: Option<Route<'s, N, T, C>>,
-        first: &mut SeatedPurse<N, T>,
-    ) -> Option<TerminalHandle<'s, N, T, C>>
-        requires room { 0 < first.old.purse.room }
+    /// Runs all threads to their end: the purses and receipts that come back.
+    pub(crate) fn run_threads(&self, first: SeatedPurse<N, T>) -> ThreadResults<N, T>
         requires make { F.IsAlwaysCallable self.now.make.now }
-        ensures room { first.old.purse.room ≡ first.new.purse.room + 1 }
+        requires room { first.purse.room ≡ most_purses }
+        ensures seen { AllSeen result.purses.items result.receipts.items }
     {
-        let number = self.plan.terminals + 1;
-        let purse = first.split(self.turns, number);
-        let Some(route) = route else {
-            return None;
+        let Some(servers) = servers_of(self.plan.service) else {
+            return self.serve_directly(first);
         };
-        self.start_terminal(scope, route, purse, Role::Deliveries)
-    }
-
-    // Joins the delivery runner, which then asks for what is still queued.
-    fn end_runner(&self, runner: TerminalHandle<'s, N, T, C>, all: &mut Gathered<N, T>)
-        requires make { F.IsAlwaysCallable self.now.make.now }
-        requires seen { AllSeen all.old.purses.items all.old.receipts.items }
-        ensures seen { AllSeen all.new.purses.items all.new.receipts.items }
-    {
-        let back = join_terminal(self.rt, runner);
-        all.take_in(self.drain_back(back));
-    }
-
-    // What a runner that nothing stopped still asks.
-    fn drain_back(&self, back: Back<'s, N, T, C>) -> Back<'s, N, T, C>
-        requires receipts { IfSome back.operator (λ s. AllStand s.purse.front s.terminal.receipts) }
-        requires make { F.IsAlwaysCallable self.now.make.now }
-        ensures receipts { IfSome result.operator (λ s. AllStand s.purse.front s.terminal.receipts) }
-    {
-        let Back { operator, fault } = back;
-        match operator {
-            Some(operator) if fault.is_none() => self.ask_all(operator, Role::Rest, u32::MAX),
-            other => Back {
-                operator: other,
-                fault,
-            },
+        let boxes = self.plan.terminals as usize + 1;
+        match Mailboxes::<Job<N, T, C>, JobAnswer<N, T>>::new(self.alloc, boxes) {
+            Ok((mailboxes, idles, serving)) => {
+                self.serve_by_servers(&mailboxes, idles, serving, first, servers)
+            }
+            Err(_) => ThreadResults::without_memory(self.alloc),
         }
     }
 
-    /// Starts the threads of all terminals and of the delivery runner, and joins them. What the runner finds queued at
-    /// the end it asks for on this thread.
-    pub(crate) fn ask_everything<E>(
+    // Runs all terminals, the delivery runner and the servers to their end.
+    fn serve_by_servers(
+        &self,
+        mailboxes: &JobMailboxes<N, T, C>,
+        idles: Vec<JobIdle<N, T, C>>,
+        serving: JobServing<N, T, C>,
+        first: SeatedPurse<N, T>,
+        servers: Servers,
+    ) -> ThreadResults<N, T>
+        requires idles { All (λ idle. idle_origin idle ≡ identity mailboxes.now) idles.items }
+        requires serving { serving_origin serving ≡ identity mailboxes.now }
+        requires room { self.now.plan.terminals + servers.count < first.purse.room }
+        requires make { F.IsAlwaysCallable self.now.make.now }
+        ensures seen { AllSeen result.purses.items result.receipts.items }
+    {
+        let Ok(routes) = by_mailboxes(self.alloc, mailboxes, idles) else {
+            return ThreadResults::without_memory(self.alloc);
+        };
+        thread::scope(
+            thread::scope_env(),
+            self.rt,
+            |scope| -> ThreadResults<N, T>
+                requires serving { serving_origin serving ≡ identity mailboxes.now }
+                requires room { self.now.plan.terminals + servers.count < first.purse.room }
+                requires make { F.IsAlwaysCallable self.now.make.now }
+                ensures seen { AllSeen result.purses.items result.receipts.items }
+            { self.drive(scope, mailboxes, routes, serving, first, servers) },
+        )
+    }
+
+    // Starts the servers, lets the terminals ask them, and joins them once the mailboxes are closed.
+    fn drive<E>(
+        &'s self,
+        scope: &Scope<'s, E>,
+        mailboxes: &'s JobMailboxes<N, T, C>,
+        routes: Vec<Route<'s, N, T, C>>,
+        serving: JobServing<N, T, C>,
+        first: SeatedPurse<N, T>,
+        servers: Servers,
+    ) -> ThreadResults<N, T>
+        requires serving { serving_origin serving ≡ identity mailboxes.now }
+        requires room { self.now.plan.terminals + servers.count < first.purse.room }
+        requires make { F.IsAlwaysCallable self.now.make.now }
+        ensures seen { AllSeen result.purses.items result.receipts.items }
+    {
+        let mut serving = serving;
+        let mut first = first;
+        let wanted = servers.count as usize;
+        let handles = self.start_servers(scope, mailboxes, &mut serving, &mut first, servers);
+        let missing = handles.len() < wanted;
+        if handles.is_empty() {
+            mailboxes.close(&mut serving);
+        }
+        let mut all = self.ask_everything(scope, routes, first);
+        if missing {
+            all.note(RunFault::NoMemory);
+        }
+        mailboxes.close(&mut serving);
+        join_servers(self.rt, self.alloc, handles, &mut all);
+        all
+    }
+
+    // Runs all terminals and the delivery runner to their end, each making its own turns.
+    fn serve_directly(&self, first: SeatedPurse<N, T>) -> ThreadResults<N, T>
+        requires room { self.now.plan.terminals < first.purse.room }
+        requires make { F.IsAlwaysCallable self.now.make.now }
+        ensures seen { AllSeen result.purses.items result.receipts.items }
+    {
+        let count = self.plan.terminals as usize + 1;
+        let Ok(routes) = by_turns::<N, T, C>(self.alloc, self.turns, count) else {
+            return ThreadResults::without_memory(self.alloc);
+        };
+        thread::scope(
+            thread::scope_env(),
+            self.rt,
+            |scope| -> ThreadResults<N, T>
+                requires room { self.now.plan.terminals < first.purse.room }
+                requires make { F.IsAlwaysCallable self.now.make.now }
+                ensures seen { AllSeen result.purses.items result.receipts.items }
+            { self.ask_everything(scope, routes, first) },
+        )
+    }
+
+    // Starts the threads of all terminals and of the delivery runner, and joins them. What the runner finds queued at
+    // the end it asks for on this thread.
+    fn ask_everything<E>(
         &'s self,
         scope: &Scope<'s, E>,
         routes: Vec<Route<'s, N, T, C>>,
         first: SeatedPurse<N, T>,
-    ) -> Gathered<N, T>
+    ) -> ThreadResults<N, T>
         requires room { self.now.plan.terminals < first.purse.room }
         requires make { F.IsAlwaysCallable self.now.make.now }
         ensures seen { AllSeen result.purses.items result.receipts.items }
     {
         let mut routes = routes;
         let mut first = first;
-        let mut all = Gathered::new(self.alloc);
+        let mut all = ThreadResults::new(self.alloc);
         let wanted = self.plan.terminals as usize;
         let route = routes.pop();
         let runner = self.start_runner(scope, route, &mut first);
@@ -93,10 +153,21 @@ impl<
         }
         join_terminals(self.rt, terminals, &mut all);
         match runner {
-            Some(runner) => self.end_runner(runner, &mut all),
+            Some(runner) => self.join_runner(runner, &mut all),
             None => all.note(RunFault::NoMemory),
         }
         all.keep(first, Vec::new(self.alloc));
         all
+    }
+}
+
+// How many serve; None where terminals make their own turns.
+fn servers_of(service: Service) -> Option<Servers>
+    requires service { IsService service }
+    ensures most { IfSome result (λ servers. servers.count ≤ 16) }
+{
+    match service {
+        Service::Servers { count, retire } => Some(Servers { count, retire }),
+        Service::Direct => None,
     }
 }

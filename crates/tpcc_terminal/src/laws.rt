@@ -15,8 +15,8 @@ ghost use Rattle.tpcc_terminal.specs.Receipts.{receipts_of, AllStand};
 /// journal after it: each is the journal's entry at its place. Of a purse at turns the same holds of
 /// the front, the entries that it has seen.
 pub fn receipts_stand()
-    ensures served { (old new : Past) (request : Request) (purse : PurseView) (answer : AnswerView PurseView)
-        (receipts : List Receipt)
+    ensures served { (old new : Past) (request : Request) (purse : PurseView)
+        (answer : AnswerView PurseView) (receipts : List Receipt)
         → IsServed old request purse answer new → AllStand old.entries receipts
         → AllStand new.entries (receipts ++ receipts_of (λ p. p) answer) }
     ensures turned { (request : Request) (purse : SeatedView) (answer : AnswerView SeatedView)

@@ -48,7 +48,7 @@ impl<N: Naming, T: Seating> Turns<N, T> {
         let Some((seat, pool)) = join_all(&table.shared, purses) else {
             return Err(book_of(table.close()));
         };
-        audited(book_of(table.close_with(seat)), pool)
+        audit_book(book_of(table.close_with(seat)), pool)
     }
 }
 
@@ -119,7 +119,7 @@ fn book_of<B: Drop>(closed: Closed<Option<B>, Global>) -> Option<B>
 }
 
 // The book with the two totals, where all purses are pooled.
-fn audited<N: Naming>(
+fn audit_book<N: Naming>(
     book: Option<Book<N>>,
     pool: Pool<N>,
 ) -> Result<(Book<N>, u64, Cents), Option<Book<N>>>

@@ -8,7 +8,7 @@ use crate::book::Book;
 use crate::naming::Naming;
 use crate::purse::Purse;
 use crate::register::Register;
-use crate::turned::Turned;
+use crate::outcome::Turned;
 use crate::turns::Turns;
 use crate::turns::seated::{SeatedPurse, Seating};
 use crate::turns::steps::{Place, adopt, free, give, show, take};

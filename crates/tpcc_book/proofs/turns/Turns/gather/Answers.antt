@@ -20,8 +20,8 @@ returns-clause-exactly g c =
     let told = c.book_of-2.result in
     let left = closes_joined key c.in-Some.seat.id c.in-Some.seat.me.0 words slots told c.args.purses.items c.in-Some.pool c.close_with.ensures.values.2 c.book_of-2.ensures.told j in
     let there = is_there key c.in-Some.seat.id c.in-Some.seat.me.0 words slots told c.close_with.ensures.values.2 c.book_of-2.ensures.told j.idle in (
-      all_where_ok key c.args.purses.items c.in-Some.pool told j.shares left c.audited.result c.audited.ensures.all,
-      ok_where_all key c.args.purses.items c.in-Some.pool told j.shares left c.audited.result c.audited.ensures.few (λ all. there (j.parts ∙ all)),
+      all_where_ok key c.args.purses.items c.in-Some.pool told j.shares left c.audit_book.result c.audit_book.ensures.all,
+      ok_where_all key c.args.purses.items c.in-Some.pool told j.shares left c.audit_book.result c.audit_book.ensures.few (λ all. there (j.parts ∙ all)),
     )
 
 pub returns-clause-gathered : goal.returns-clause-gathered
@@ -30,7 +30,7 @@ returns-clause-gathered g c =
     let told = c.book_of-2.result in
     let left = closes_joined c.self.inside.table.shared.key c.in-Some.seat.id c.in-Some.seat.me.0 (slots_items c.close_with.result.words) (slots_items c.close_with.result.slots) told c.args.purses.items c.in-Some.pool c.close_with.ensures.values.2 c.book_of-2.ensures.told j in
     let left' = subst (λ (start : Opening). IfSome told (IsLeft start c.args.purses.items)) c.self.view_is left in
-    gathers c.args.self c.args.purses.items c.in-Some.pool told j.shares left' c.audited.result c.audited.ensures.all c.audited.ensures.audited
+    gathers c.args.self c.args.purses.items c.in-Some.pool told j.shares left' c.audit_book.result c.audit_book.ensures.all c.audit_book.ensures.audited
 
 pub returns-clause-left : goal.returns-clause-left
 returns-clause-left g c =
@@ -38,4 +38,4 @@ returns-clause-left g c =
     let told = c.book_of-2.result in
     let left = closes_joined c.self.inside.table.shared.key c.in-Some.seat.id c.in-Some.seat.me.0 (slots_items c.close_with.result.words) (slots_items c.close_with.result.slots) told c.args.purses.items c.in-Some.pool c.close_with.ensures.values.2 c.book_of-2.ensures.told j in
     let left' = subst (λ (start : Opening). IfSome told (IsLeft start c.args.purses.items)) c.self.view_is left in
-    leaves c.args.self c.args.purses.items c.in-Some.pool told j.shares left' c.audited.result c.audited.ensures.missing
+    leaves c.args.self c.args.purses.items c.in-Some.pool told j.shares left' c.audit_book.result c.audit_book.ensures.missing

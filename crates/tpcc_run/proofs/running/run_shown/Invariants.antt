@@ -1,4 +1,0 @@
-use Rattle.tpcc_run.proofs.running.run_shown.Given as goal
-
-abbrev pub ghosts-run_named : goal.ghosts-run_named
-ghosts-run_named g a = record { entries = a.blanks.entries.name; cents = a.blanks.cents.name }

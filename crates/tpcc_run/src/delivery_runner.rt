@@ -1,0 +1,70 @@
+//! The delivery runner, a terminal that asks for deliveries alone (2.7.2).
+ghost use Rattle.std.specs.Prelude.{◌≡◌, ◌<◌, ◌+◌, IfSome};
+ghost use Rattle.tpcc_terminal.specs.Receipts.{AllStand};
+ghost use Rattle.tpcc_audit.specs.Settlement.{AllSeen};
+
+use crate::context::RunContext;
+use crate::promises::{Back, TerminalHandle};
+use crate::results::ThreadResults;
+use crate::role::Role;
+use crate::route::Route;
+use crate::terminal_threads::join_terminal;
+use std::alloc::{AllocError, Global};
+use std::sync::Wait;
+use std::thread::{Scope, Threads};
+use tpcc_book::{Naming, SeatedPurse, Seating};
+use tpcc_server::OneTurn;
+
+impl<
+    's,
+    N: Naming + Send + Sync,
+    T: Seating + Send + Sync,
+    C: OneTurn + Send,
+    F: Fn(Global) -> Result<C, AllocError> + Sync,
+    R: Threads + Wait + Sync,
+> RunContext<'s, N, T, F, R> {
+    /// Starts the delivery runner, whose number is the one behind the terminals'.
+    pub(crate) fn start_runner<E>(
+        &'s self,
+        scope: &Scope<'s, E>,
+        route: Option<Route<'s, N, T, C>>,
+        first: &mut SeatedPurse<N, T>,
+    ) -> Option<TerminalHandle<'s, N, T, C>>
+        requires room { 0 < first.old.purse.room }
+        requires make { F.IsAlwaysCallable self.now.make.now }
+        ensures room { first.old.purse.room ≡ first.new.purse.room + 1 }
+    {
+        let number = self.plan.terminals + 1;
+        let purse = first.split(self.turns, number);
+        let Some(route) = route else {
+            return None;
+        };
+        self.start_terminal(scope, route, purse, Role::Deliveries)
+    }
+
+    /// Joins the delivery runner, which then asks for what is still queued.
+    pub(crate) fn join_runner(&self, runner: TerminalHandle<'s, N, T, C>, all: &mut ThreadResults<N, T>)
+        requires make { F.IsAlwaysCallable self.now.make.now }
+        requires seen { AllSeen all.old.purses.items all.old.receipts.items }
+        ensures seen { AllSeen all.new.purses.items all.new.receipts.items }
+    {
+        let back = join_terminal(self.rt, runner);
+        all.take_in(self.drain_back(back));
+    }
+
+    // What a runner that nothing stopped still asks.
+    fn drain_back(&self, back: Back<'s, N, T, C>) -> Back<'s, N, T, C>
+        requires receipts { IfSome back.operator (λ s. AllStand s.purse.front s.terminal.receipts) }
+        requires make { F.IsAlwaysCallable self.now.make.now }
+        ensures receipts { IfSome result.operator (λ s. AllStand s.purse.front s.terminal.receipts) }
+    {
+        let Back { operator, fault } = back;
+        match operator {
+            Some(operator) if fault.is_none() => self.ask_all(operator, Role::Rest, u32::MAX),
+            other => Back {
+                operator: other,
+                fault,
+            },
+        }
+    }
+}

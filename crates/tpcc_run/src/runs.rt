@@ -1,0 +1,156 @@
+//! Runs, from an opening to what is written of the settled book.
+ghost use Rattle.std.specs.Prelude.{◌≡◌, IfOk, OnErr};
+ghost use Rattle.tpcc_population.specs.declared.opening.Opening.{Opening};
+ghost use Rattle.tpcc_run.specs.Outcome.{HasReported, HasShown, HasShownPart, HasTotals, IsPlan};
+
+use crate::context::{Lent, RunContext};
+use crate::fault::RunFault;
+use crate::plan::Plan;
+use crate::settled_book::{SettledBook, end_run, show_settled};
+use std::alloc::{AllocError, Global};
+use std::io::Write;
+use std::marker::Brand;
+use std::sync::Wait;
+use std::thread::Threads;
+use tpcc_book::{Blanks, Naming, Seating, UnnamedTurns};
+use tpcc_population::{Opening, Scale};
+use tpcc_server::OneTurn;
+use tpcc_show::Part;
+use tpcc_terminal::Report;
+
+/// Runs terminals, a delivery runner and the plan's servers on the book of an opening, each in a thread of its own;
+/// `make` gives the call of each request. Where the plan has no servers each thread makes its own turns. Once all
+/// are joined it settles the book with the purses and writes the report: the entries, and what was paid and the
+/// rise of W_YTD, which are equal. It waits.
+///
+/// NoMemory where a growth or a thread was refused, Missing where a purse did not come back, Write where
+/// the writer fails.
+#[tactic(auto, using(crate::proofs::Reported::report_of_totals))]
+pub fn run<
+    W: Write + Drop,
+    C: OneTurn + Send,
+    F: Fn(Global) -> Result<C, AllocError> + Sync,
+    R: Threads + Wait + Sync,
+>(rt: &R, alloc: Global, opening: &Opening, plan: &Plan, out: W, make: F) -> Result<W, RunFault>
+    requires plan { IsPlan plan.now }
+    requires make { F.IsAlwaysCallable make }
+    ensures reported { IfOk result (λ w. HasReported opening.now (W.contents out) (W.contents w)) }
+{
+    let mut out = out;
+    run_shown(rt, alloc, opening, plan, &[Part::Report], &mut out, make)?;
+    Ok(out)
+}
+
+/// Runs the same threads, and writes parts of the settled book in place of the
+/// report: one part alone as it is, several each under a line `== PART`. Answers the totals that the report would
+/// have told.
+///
+/// Faults as of [`run`]; NoMemory also where a growth was refused while a part was written.
+pub fn run_shown<
+    W: Write,
+    C: OneTurn + Send,
+    F: Fn(Global) -> Result<C, AllocError> + Sync,
+    R: Threads + Wait + Sync,
+>(
+    rt: &R,
+    alloc: Global,
+    opening: &Opening,
+    plan: &Plan,
+    parts: &[Part],
+    out: &mut W,
+    make: F,
+) -> Result<Report, RunFault>
+    requires plan { IsPlan plan.now }
+    requires make { F.IsAlwaysCallable make }
+    ensures shown { IfOk result (λ report.
+        HasShown opening.now parts.now report (W.contents out.old) (W.contents out.new)) }
+    ensures part { OnErr result
+        (HasShownPart opening.now parts.now (W.contents out.old) (W.contents out.new)) }
+{
+    let lent = Lent {
+        rt,
+        alloc,
+        make: &make,
+        plan: *plan,
+    };
+    run_named::<Brand, W, C, F, R>(&lent, opening, parts, out, Blanks::new())
+}
+
+// The same with a name for the book.
+#[tactic(auto, using(crate::proofs::Reported::nothing_shown, crate::proofs::Reported::cut_shown))]
+fn run_named<
+    N: Naming + Send + Sync,
+    W: Write,
+    C: OneTurn + Send,
+    F: Fn(Global) -> Result<C, AllocError> + Sync,
+    R: Threads + Wait + Sync,
+>(
+    lent: &Lent<'_, F, R>,
+    opening: &Opening,
+    parts: &[Part],
+    out: &mut W,
+    blanks: Blanks,
+) -> Result<Report, RunFault>
+    requires make { F.IsAlwaysCallable lent.now.make.now }
+    requires entries { blanks.entries.name ≡ N.entries }
+    requires cents { blanks.cents.name ≡ N.cents }
+    ensures shown { IfOk result (λ report.
+        HasShown opening.now parts.now report (W.contents out.old) (W.contents out.new)) }
+    ensures part { OnErr result
+        (HasShownPart opening.now parts.now (W.contents out.old) (W.contents out.new)) }
+{
+    let settled = settle_book::<N, C, F, R>(lent, opening, blanks)?;
+    let shown = show_settled(lent.alloc, &settled, parts, out, opening);
+    // Let go by a call, which keeps the book's parts out of this function's proof.
+    drop(settled);
+    shown
+}
+
+// The book at the end of a run of all threads.
+fn settle_book<
+    N: Naming + Send + Sync,
+    C: OneTurn + Send,
+    F: Fn(Global) -> Result<C, AllocError> + Sync,
+    R: Threads + Wait + Sync,
+>(lent: &Lent<'_, F, R>, opening: &Opening, blanks: Blanks) -> Result<SettledBook<N>, RunFault>
+    requires make { F.IsAlwaysCallable lent.now.make.now }
+    requires entries { blanks.entries.name ≡ N.entries }
+    requires cents { blanks.cents.name ≡ N.cents }
+    ensures settled { IfOk result (λ s. HasTotals opening.now s.book s.report) }
+{
+    let Ok(turns) = UnnamedTurns::<N>::start(lent.alloc, opening, blanks) else {
+        return Err(RunFault::NoMemory);
+    };
+    run_seated::<N, Brand, C, F, R>(lent, scale_of(opening), turns)
+}
+
+// What the run comes to, with a name for the seats.
+fn run_seated<
+    N: Naming + Send + Sync,
+    T: Seating + Send + Sync,
+    C: OneTurn + Send,
+    F: Fn(Global) -> Result<C, AllocError> + Sync,
+    R: Threads + Wait + Sync,
+>(lent: &Lent<'_, F, R>, scale: Scale, turns: UnnamedTurns<N>) -> Result<SettledBook<N>, RunFault>
+    requires make { F.IsAlwaysCallable lent.now.make.now }
+    requires name { turns.table ≡ T.table }
+    ensures settled { IfOk result (λ s. HasTotals turns.opening s.book s.report) }
+{
+    let (turns, first) = turns.named::<T>();
+    let context = RunContext {
+        rt: lent.rt,
+        alloc: lent.alloc,
+        turns: &turns,
+        make: lent.make,
+        scale,
+        plan: lent.plan,
+    };
+    let all = context.run_threads(first);
+    end_run(turns, all)
+}
+
+fn scale_of(opening: &Opening) -> Scale {
+    match *opening {
+        Opening::Plain { scale } | Opening::Seeded { scale, .. } => scale,
+    }
+}

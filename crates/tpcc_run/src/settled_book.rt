@@ -1,0 +1,79 @@
+//! The book of a run at its end.
+ghost use Rattle.std.specs.Prelude.{◌≡◌, IfOk, OnErr};
+ghost use Rattle.tpcc_audit.specs.Settlement.{AllSeen};
+ghost use Rattle.tpcc_run.specs.Outcome.{HasCut, HasShown, HasTotals};
+
+use crate::fault::RunFault;
+use crate::results::ThreadResults;
+use std::alloc::Global;
+use std::io::Write;
+use tpcc_audit::{DumpFault, settle};
+use tpcc_book::{Book, Naming, SeatedPurse, Seating, Turns};
+use tpcc_population::Opening;
+use tpcc_show::{Part, show};
+use tpcc_terminal::{Receipt, Report};
+
+/// The book of a run at its end, and what it comes to.
+#[derive(Drop)]
+pub(crate) struct SettledBook<N: Naming> {
+    /// The book, all purses of it handed in.
+    pub book: Book<N>,
+    /// Its entries, what was paid, and the rise.
+    pub report: Report,
+}
+
+/// The totals of a run that nothing stopped.
+pub(crate) fn end_run<N: Naming, T: Seating>(
+    turns: Turns<N, T>,
+    all: ThreadResults<N, T>,
+) -> Result<SettledBook<N>, RunFault>
+    requires seen { AllSeen all.purses.items all.receipts.items }
+    ensures settled { IfOk result (λ s. HasTotals turns s.book s.report) }
+{
+    let ThreadResults {
+        purses,
+        receipts,
+        fault,
+    } = all;
+    match fault {
+        Some(fault) => Err(fault),
+        None => totals_of(turns, purses, receipts.as_slice()),
+    }
+}
+
+fn totals_of<N: Naming, T: Seating>(
+    turns: Turns<N, T>,
+    purses: Vec<SeatedPurse<N, T>>,
+    receipts: &[Receipt],
+) -> Result<SettledBook<N>, RunFault>
+    requires seen { AllSeen purses.items receipts.now }
+    ensures settled { IfOk result (λ s. HasTotals turns s.book s.report) }
+{
+    match settle(turns, purses, receipts) {
+        Ok((book, report)) => Ok(SettledBook { book, report }),
+        Err(_left) => Err(RunFault::Missing),
+    }
+}
+
+/// Writes parts of a settled book.
+pub(crate) fn show_settled<N: Naming, W: Write>(
+    alloc: Global,
+    settled: &SettledBook<N>,
+    parts: &[Part],
+    out: &mut W,
+    opening: &Opening,
+) -> Result<Report, RunFault>
+    requires totals { HasTotals opening.now settled.now.book settled.now.report }
+    ensures shown { IfOk result (λ report.
+        HasShown opening.now parts.now report (W.contents out.old) (W.contents out.new)) }
+    ensures part { OnErr result
+        (HasCut opening.now parts.now (W.contents out.old) (W.contents out.new)) }
+{
+    let _ = opening;
+    let report = settled.report;
+    match show(alloc, &settled.book, parts, out) {
+        Ok(()) => Ok(report),
+        Err(DumpFault::Write) => Err(RunFault::Write),
+        Err(DumpFault::NoMemory) => Err(RunFault::NoMemory),
+    }
+}

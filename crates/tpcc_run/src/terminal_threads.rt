@@ -1,0 +1,152 @@
+//! The threads of terminals: how they are started and joined.
+ghost use Rattle.std.specs.Prelude.{◌≡◌, ◌≤◌, IfSome};
+ghost use Rattle.tpcc_terminal.specs.Receipts.{AllStand};
+ghost use Rattle.tpcc_terminal.specs.Terminals.{IsStarted};
+ghost use Rattle.tpcc_audit.specs.Settlement.{AllSeen};
+ghost use Rattle.tpcc_run.specs.Asking.{HasComeBack};
+
+use crate::context::RunContext;
+use crate::operator::Operator;
+use crate::promises::{Back, ComesBack, TerminalHandle};
+use crate::results::ThreadResults;
+use crate::role::Role;
+use crate::route::Route;
+use std::alloc::{AllocError, Global};
+use std::sync::Wait;
+use std::thread::{Scope, Threads};
+use tpcc_book::{Naming, SeatedPurse, Seating};
+use tpcc_server::OneTurn;
+use tpcc_terminal::Terminal;
+
+impl<
+    's,
+    N: Naming + Send + Sync,
+    T: Seating + Send + Sync,
+    C: OneTurn + Send,
+    F: Fn(Global) -> Result<C, AllocError> + Sync,
+    R: Threads + Wait + Sync,
+> RunContext<'s, N, T, F, R> {
+    // What a terminal's thread does.
+    fn work<'o>(&self, operator: Operator<'o, N, T, C>, role: Role) -> Back<'o, N, T, C>
+        requires receipts { AllStand operator.purse.front operator.terminal.receipts }
+        requires started { IsStarted operator.purse.purse.terminal
+            self.now.scale self.now.plan.seed operator.terminal }
+        requires make { F.IsAlwaysCallable self.now.make.now }
+        ensures kept { HasComeBack (record {
+          role = role;
+          scale = self.now.scale;
+          seed = self.now.plan.seed;
+          moment = self.now.plan.moment;
+          cards = self.now.plan.cards;
+        }) result }
+    {
+        self.ask_all(operator, role, self.plan.cards)
+    }
+
+    // Starts the thread of one terminal; None where it can't be made.
+    fn start_thread<E>(
+        &'s self,
+        scope: &Scope<'s, E>,
+        operator: Operator<'s, N, T, C>,
+        role: Role,
+    ) -> Option<TerminalHandle<'s, N, T, C>>
+        requires receipts { AllStand operator.purse.front operator.terminal.receipts }
+        requires started { IsStarted operator.purse.purse.terminal
+            self.now.scale self.now.plan.seed operator.terminal }
+        requires make { F.IsAlwaysCallable self.now.make.now }
+    {
+        let promise = ComesBack {
+            role,
+            scale: self.scale,
+            seed: self.plan.seed,
+            moment: self.plan.moment,
+            cards: self.plan.cards,
+        };
+        scope
+            .spawn_with(
+                promise,
+                move || -> Back<'_, N, T, C>
+                    requires receipts { AllStand operator.purse.front operator.terminal.receipts }
+                    requires started { IsStarted operator.purse.purse.terminal
+                        self.now.scale self.now.plan.seed operator.terminal }
+                    requires make { F.IsAlwaysCallable self.now.make.now }
+                { self.work(operator, role) },
+            )
+            .ok()
+    }
+
+    /// Starts the thread of one terminal with its purse; None where the terminal or its thread can't be made.
+    pub(crate) fn start_terminal<E>(
+        &'s self,
+        scope: &Scope<'s, E>,
+        route: Route<'s, N, T, C>,
+        purse: SeatedPurse<N, T>,
+        role: Role,
+    ) -> Option<TerminalHandle<'s, N, T, C>>
+        requires number { 1 ≤ purse.purse.terminal }
+        requires make { F.IsAlwaysCallable self.now.make.now }
+    {
+        let seed = self.plan.seed;
+        let Ok(terminal) = Terminal::new(self.alloc, purse.terminal(), self.scale, seed) else {
+            return None;
+        };
+        let operator = Operator {
+            route,
+            purse,
+            terminal,
+        };
+        self.start_thread(scope, operator, role)
+    }
+
+    /// Starts the plan's terminals, as many as can be made.
+    pub(crate) fn start_terminals<E>(
+        &'s self,
+        scope: &Scope<'s, E>,
+        routes: Vec<Route<'s, N, T, C>>,
+        first: &mut SeatedPurse<N, T>,
+    ) -> Vec<TerminalHandle<'s, N, T, C>>
+        requires room { self.now.plan.terminals ≤ first.old.purse.room }
+        requires make { F.IsAlwaysCallable self.now.make.now }
+    {
+        let count = self.plan.terminals;
+        let mut routes = routes;
+        let mut handles = Vec::new(self.alloc);
+        for number in 0..count {
+            let Some(route) = routes.pop() else {
+                break;
+            };
+            let purse = first.split(self.turns, number + 1);
+            let Some(handle) = self.start_terminal(scope, route, purse, Role::Cards) else {
+                break;
+            };
+            // A handle that finds no room is let go: the scope joins its thread, and the caller sees that one is missing.
+            let _ = handles.push(handle);
+        }
+        handles
+    }
+}
+
+/// Joins the threads of all terminals, and keeps their purses and receipts.
+pub(crate) fn join_terminals<N: Naming, T: Seating, C, R: Threads>(
+    rt: &R,
+    handles: Vec<TerminalHandle<'_, N, T, C>>,
+    all: &mut ThreadResults<N, T>,
+)
+    requires seen { AllSeen all.old.purses.items all.old.receipts.items }
+    ensures seen { AllSeen all.new.purses.items all.new.receipts.items }
+{
+    let mut handles = handles;
+    while let Some(handle) = handles.pop() {
+        all.take_in(join_terminal(rt, handle));
+    }
+}
+
+/// Joins the thread of one terminal.
+pub(crate) fn join_terminal<'s, N: Naming, T: Seating, C, R: Threads>(
+    rt: &R,
+    handle: TerminalHandle<'s, N, T, C>,
+) -> Back<'s, N, T, C>
+    ensures receipts { IfSome result.operator (λ s. AllStand s.purse.front s.terminal.receipts) }
+{
+    handle.join(rt)
+}
