@@ -13,6 +13,7 @@ use tpcc_rows::{QueuedTicket, Ticket};
 /// The tickets that wait to be delivered, first come first, each with the district of its next run.
 #[derive(Drop)]
 pub struct Queue {
+    /// The first is run next.
     tickets: Vec<QueuedTicket>,
 }
 

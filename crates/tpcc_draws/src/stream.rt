@@ -18,6 +18,7 @@ use tpcc_rows::text::Text;
 /// nothing; a permutation alone takes any.
 #[derive(Drop)]
 pub struct Stream {
+    /// As the last draw left it.
     generator: Lcg128Xsl64,
 }
 

@@ -17,8 +17,11 @@ use tpcc_tables::tables::Tables;
 /// Which columns would leave their ranges in some STOCK row of an order.
 #[derive(Clone, Copy)]
 pub struct Overruns {
+    /// S_ORDER_CNT.
     orders: bool,
+    /// S_REMOTE_CNT.
     remotes: bool,
+    /// S_YTD.
     ytd: bool,
 }
 

@@ -12,24 +12,33 @@ use tpcc_tables::Lists;
 /// The tables of warehouses, their districts and the customers there.
 #[derive(Drop)]
 pub(crate) struct HomeLists {
+    /// By W_ID.
     pub warehouses: Vec<WarehouseRow>,
+    /// By D_W_ID and D_ID: 10 of each warehouse.
     pub districts: Vec<DistrictRow>,
+    /// By C_W_ID, C_D_ID and C_ID.
     pub customers: Vec<CustomerRow>,
+    /// One of each customer, in the customers' order.
     pub histories: Vec<HistoryRow>,
 }
 
 /// The tables of orders, in parts of their districts.
 #[derive(Drop)]
 pub(crate) struct OrderLists {
+    /// One of each customer.
     pub orders: Parts<OrderRow>,
+    /// As many of each order as its O_OL_CNT.
     pub order_lines: Parts<OrderLineRow>,
+    /// One of each order that is not delivered.
     pub new_orders: Parts<NewOrderRow>,
 }
 
 /// The tables of items and of their stock.
 #[derive(Drop)]
 pub(crate) struct GoodsLists {
+    /// By I_ID.
     pub items: Vec<ItemRow>,
+    /// By S_W_ID and S_I_ID: one of each item in each warehouse.
     pub stocks: Vec<StockRow>,
 }
 

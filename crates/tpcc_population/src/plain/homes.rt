@@ -41,6 +41,7 @@ fn plain_district(scale: &Scale, warehouse: u32, number: u32) -> DistrictRow
 /// WAREHOUSE.
 #[derive(Drop)]
 pub(super) struct PlainWarehouses {
+    /// The scale of the opening.
     pub(super) scale: Scale,
 }
 
@@ -65,6 +66,7 @@ impl TableRows for PlainWarehouses {
 /// DISTRICT.
 #[derive(Drop)]
 pub(super) struct PlainDistricts {
+    /// The scale of the opening.
     pub(super) scale: Scale,
 }
 

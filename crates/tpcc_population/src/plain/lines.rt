@@ -71,6 +71,7 @@ fn append_lines(
 /// ORDER-LINE: the five lines of each order.
 #[derive(Drop)]
 pub(super) struct PlainOrderLines {
+    /// The scale of the opening.
     pub(super) scale: Scale,
 }
 

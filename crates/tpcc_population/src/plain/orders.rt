@@ -30,6 +30,7 @@ fn plain_order(scale: &Scale, warehouse: u32, district: u32, number: u32) -> Ord
 /// ORDER.
 #[derive(Drop)]
 pub(super) struct PlainOrders {
+    /// The scale of the opening.
     pub(super) scale: Scale,
 }
 

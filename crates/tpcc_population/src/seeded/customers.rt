@@ -92,6 +92,7 @@ fn seeded_history(seed: &Seed, warehouse: u32, district: u32, customer: u32) -> 
 /// CUSTOMER.
 #[derive(Drop)]
 pub(super) struct SeededCustomers {
+    /// What the rows are drawn from.
     pub(super) seed: Seed,
 }
 
@@ -117,6 +118,7 @@ impl TableRows for SeededCustomers {
 /// HISTORY.
 #[derive(Drop)]
 pub(super) struct SeededHistories {
+    /// What the rows are drawn from.
     pub(super) seed: Seed,
 }
 

@@ -96,6 +96,7 @@ fn seeded_stock(seed: &Seed, warehouse: u32, item: u32) -> StockRow
 /// ITEM.
 #[derive(Drop)]
 pub(super) struct SeededItems {
+    /// What the rows are drawn from.
     pub(super) seed: Seed,
 }
 
@@ -121,6 +122,7 @@ impl TableRows for SeededItems {
 /// STOCK.
 #[derive(Drop)]
 pub(super) struct SeededStocks {
+    /// What the rows are drawn from.
     pub(super) seed: Seed,
 }
 

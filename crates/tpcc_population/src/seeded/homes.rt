@@ -51,6 +51,7 @@ fn seeded_district(seed: &Seed, warehouse: u32, number: u32) -> DistrictRow
 /// WAREHOUSE.
 #[derive(Drop)]
 pub(super) struct SeededWarehouses {
+    /// What the rows are drawn from.
     pub(super) seed: Seed,
 }
 
@@ -76,6 +77,7 @@ impl TableRows for SeededWarehouses {
 /// DISTRICT.
 #[derive(Drop)]
 pub(super) struct SeededDistricts {
+    /// What the rows are drawn from.
     pub(super) seed: Seed,
 }
 

@@ -93,6 +93,7 @@ fn append_lines(
 /// ORDER-LINE: the drawn number of lines of each order.
 #[derive(Drop)]
 pub(super) struct SeededOrderLines {
+    /// What the rows are drawn from.
     pub(super) seed: Seed,
 }
 

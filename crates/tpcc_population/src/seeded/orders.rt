@@ -122,7 +122,9 @@ fn append_orders(
 /// ORDER, a district at a time: the numbers of its rows are those of the districts.
 #[derive(Drop)]
 pub(super) struct SeededOrders {
+    /// What the rows are drawn from.
     pub(super) seed: Seed,
+    /// Where the drawn order of a district's customers lies.
     pub(super) alloc: Global,
 }
 
