@@ -25,17 +25,6 @@ pub appends-none : (a : Option (List ℕ)) → Appends a a []
 appends-none None = tt
 appends-none (Some xs) = sym (append-nil xs)
 
--- a sink that was let be behind some bytes
-pub appends-kept : (a b c : Option (List ℕ)) (xs : List ℕ) → Appends a b xs → Keeps b c → Appends a c xs
-appends-kept None b c xs h k = tt
-appends-kept (Some a) None c xs h k = absurd h
-appends-kept (Some a) (Some b) None xs h k = absurd k
-appends-kept (Some a) (Some b) (Some c) xs h k = k ∙ h
-
--- all bytes are a part
-pub all_part : (a b : Option (List ℕ)) (xs : List ℕ) → Appends a b xs → AppendsPart a b xs
-all_part a b xs h = record { count = length xs; within = omega arith; added = subst (Appends a b) (sym (take_all (length xs) xs (omega arith))) h }
-
 -- a part of some bytes is one of more
 pub part_of_more : (a b : Option (List ℕ)) (xs ys : List ℕ) → AppendsPart a b xs → AppendsPart a b (xs ++ ys)
 part_of_more a b xs ys p =

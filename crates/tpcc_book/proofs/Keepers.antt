@@ -96,15 +96,6 @@ last_is : (me one two : Mine) (w : Knows) (new : Past) → one ≡ (both_of me.0
 last_is me one two w new is shown =
     ap (λ (m : Mine). last_parts m.0.told) shown.now_is ∙ ap (λ (m : Mine). last_parts m.0.told) is
 
-parts_are : (me one two : Mine) (w : Knows) (parts : ℕ) (old new : Past) → me ≡ turn_holder me parts old → one ≡ (both_of me.0 w, me.1) → HasShown one new two → two.0.parts ≡ parts + w.parts
-parts_are me one two w parts old new keeps is shown =
-    omega (arith, ap (λ (m : Mine). m.0.parts) shown.now_is, ap (λ (m : Mine). m.0.parts) is, ap (λ (m : Mine). m.0.parts) keeps)
-
-pub can_free : (me one two : Mine) (w : Knows) (parts : ℕ) (old new : Past) → me ≡ turn_holder me parts old → 0 < parts → 0 < w.parts → one ≡ (both_of me.0 w, me.1) → HasShown one new two
-    → (0 < last_parts two.0.told) × (last_parts two.0.told < two.0.parts)
-can_free me one two w parts old new keeps part part' is shown =
-    (omega (arith, part', last_is me one two w new is shown), omega (arith, part, last_is me one two w new is shown, parts_are me one two w parts old new keeps is shown))
-
 -- what the other seat knows when it is split off
 pub back : (me one two four : Mine) (w : Knows) (old new : Past) (views : List Knows) (room : ℕ) → one ≡ (both_of me.0 w, me.1) → HasShown one new two → four ≡ (back_of two.0, []) → views ≡ four.0 ∷ [] → w.parts ≡ room + 1
     → views ≡ knows (start_of views) (front_of views) (room + 1) Idle [] ∷ []
@@ -113,18 +104,9 @@ back me one two four w old new views room is shown gone v count =
     let here : views ≡ knows two.0.start two.0.front (room + 1) Idle [] ∷ [] = v ∙ (ap (λ (m : Mine). m.0 ∷ []) gone ∙ (λ i. knows two.0.start two.0.front (last i) Idle [] ∷ [])) in
     here ∙ (λ i. knows (sym (ap start_of here) i) (sym (ap front_of here) i) (room + 1) Idle [] ∷ [])
 
--- the rooms of a purse stay
-pub room_stays : (request : Request) (held after : PurseView) (outcome : Result Reply Refusal) → MatchResult outcome (λ reply. after ≡ purse_after held (paid_by_request request)) (λ refusal. after ≡ held) → after.room ≡ held.room
-room_stays request held after (Ok reply) is = ap (λ (h : PurseView). h.room) is
-room_stays request held after (Err refusal) is = ap (λ (h : PurseView). h.room) is
-
 pub longer_of : (old new : Past) (request : Request) (held : PurseView) (answer : AnswerView PurseView) → IsServed old request held answer new → IsPrefix old.entries new.entries
 longer_of old new request held answer served =
     entries_grow old new held.terminal held.entries request answer.place answer.outcome served.turn.accepts served.turn.refuses
-
-pub opening_stays : (old new : Past) (request : Request) (held : PurseView) (answer : AnswerView PurseView) → IsServed old request held answer new → new.opening ≡ old.opening
-opening_stays old new request held answer served =
-    same_opening old new held.terminal held.entries request answer.place answer.outcome served.turn.accepts served.turn.refuses
 
 -- one turn of the book for the purse that asked
 pub turned_within : (held after : PurseView) (views views' : List Knows) (purse : SeatedView) (me one two four : Mine) (w : Knows) (parts : ℕ) (old new : Past) (answer : AnswerView PurseView) (request asked : Request) (outcome : Result Reply Refusal) (place : Option ℕ)
@@ -155,17 +137,6 @@ turned_within held after views views' purse me one two four w parts old new answ
     }
 
 -- ---- beginning and ending
-
-pub begins_held : (me two : Mine) (ticket : ℕ) (book : Past) (room : ℕ) → me.0 ≡ knows me.0.start me.0.front (room + 1) Idle [] → (t : HasTaken me ticket book two) → (two ≡ turn_holder two (room + 1) book) × (ticket ≡ number_of two.0.stage % 2 ^ 64) × (book.opening ≡ two.0.start) × (two.0.start ≡ me.0.start)
-begins_held me two ticket book room is t =
-    let here : two ≡ (knows me.0.start book.entries (room + 1) (Holds t.number book.entries) [], (0, None) ∷ []) = t.now_is ∙ (λ i. (knows me.0.start book.entries (is i).parts (Holds t.number book.entries) (is i).told, (0, None) ∷ [])) in
-    let start : two.0.start ≡ me.0.start = ap (λ (m : Mine). m.0.start) here in
-    let number : number_of two.0.stage ≡ t.number = ap (λ (m : Mine). number_of m.0.stage) here in (
-      here ∙ (λ i. (knows (sym start i) book.entries (room + 1) (Holds (sym number i) book.entries) [], (0, None) ∷ [])),
-      t.ticket_is ∙ ap (λ (n : ℕ). n % 2 ^ 64) (sym number),
-      t.opening ∙ sym start,
-      start,
-    )
 
 pub gives_held : (me : Mine) (ticket parts : ℕ) (book : Past) → me ≡ turn_holder me parts book → ticket ≡ number_of me.0.stage % 2 ^ 64 → book.opening ≡ me.0.start → CanGive me ticket book
 gives_held me ticket parts book keeps ticket_is opening =

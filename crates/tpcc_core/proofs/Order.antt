@@ -127,14 +127,6 @@ step_ordered d (event.Answer s) m ordered step = answer_ordered d m s ordered st
 step_ordered d (event.Collect t) m ordered step = collect_ordered d m t ordered step
 step_ordered d event.Close m ordered step = subst IsOrdered (sym step) ordered
 
-pub move_ordered : (b : Bool) (d : DeskNow) (e : Event) (m : DeskNow) → IsOrdered d → MovesBy b d e m → IsOrdered m
-move_ordered true d e m ordered step = step_ordered d e m ordered step
-move_ordered false d e m ordered same = subst IsOrdered (sym same) ordered
-
-pub passes_ordered : (d : DeskNow) (es : List Event) (n : DeskNow) → IsOrdered d → Passes d es n → IsOrdered n
-passes_ordered d [] n ordered same = subst IsOrdered (sym same) ordered
-passes_ordered d (e ∷ es) n ordered p = passes_ordered p.0 es n (move_ordered (is_ready d e) d e p.0 ordered p.1) p.2
-
 -- ---- the start
 
 -- what is so of all of a list is so of the one with a number

@@ -11,11 +11,6 @@ pub test_at_place : {X : Type 0} (test : X → Bool) (xs : List X) (number place
 test_at_place test xs number place was numbered found =
     ap (tests_in test xs) numbered ∙ ap (λ o. unwrap_or (option_map test o) false) found
 
--- what is not there is not so
-pub no_place_fails : {X : Type 0} (test : X → Bool) (xs : List X) (number : ℕ)
-    → place_of number (length xs) ≡ None → tests_at test xs number ≡ false
-no_place_fails test xs number none = ap (tests_in test xs) none
-
 -- another in its place
 pub change_at_place : {X : Type 0} (xs : List X) (number place : ℕ) (was is new : X)
     → place_of number (length xs) ≡ Some place → slice_get xs place ≡ Some was → new ≡ is → IsChangedAt xs number was is (slice_set xs place new)

@@ -35,10 +35,6 @@ use Rattle.tpcc_core.proofs.Journals.{Records, nothing_new, later_records, serve
 abbrev AreInRange : List Request → Type 0
 AreInRange requests = list_all has_moment_in_range requests ≡ true
 
-in_range_first : (xs ys : List Request) → AreInRange (xs ++ ys) → AreInRange xs
-in_range_first [] ys h = refl
-in_range_first (x ∷ xs) ys h = grind (arith, in_range_first xs ys)
-
 in_range_last : (xs ys : List Request) → AreInRange (xs ++ ys) → AreInRange ys
 in_range_last [] ys h = h
 in_range_last (x ∷ xs) ys h = grind (arith, in_range_last xs ys)

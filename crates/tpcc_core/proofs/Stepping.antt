@@ -17,24 +17,6 @@ use Rattle.tpcc_core.specs.Desks.{DeskNow, place_of}
 use Rattle.tpcc_core.specs.Events.{tests_in, place_in, answer_place, can_answer, IsPostedAt, IsServedBy, IsAnsweredBy, IsCollectedAt}
 use Rattle.tpcc_core.proofs.Places.{change_at_place, test_at_place, same_at_place}
 
--- a request at a seat is a request at the desk
-pub posted_at : {T E : Type 0} (d : DeskNow) (t place : ℕ) (seat new : SeatNow PurseView) (request : Request) (r : Result T E)
-    → place_of t (length d.seats) ≡ Some place → slice_get d.seats place ≡ Some seat
-    → OnOk r (is_free seat.mailbox ≡ true) → OnOk r (new ≡ record seat { mailbox = mailbox_after_post seat.mailbox request })
-    → OnOk r (IsPostedAt d t request (record d { seats = slice_set d.seats place new }))
-posted_at d t place seat new request (Ok v) numbered found ready is =
-    record { seat = seat; seats = change_at_place d.seats t place seat (record seat { mailbox = mailbox_after_post seat.mailbox request }) new numbered found is; ready = ready; rest = refl }
-posted_at d t place seat new request (Err e) numbered found ready is = ready
-
--- a collected answer
-pub collected_at : {T E : Type 0} (d : DeskNow) (t place : ℕ) (seat new : SeatNow PurseView) (r : Result T E)
-    → place_of t (length d.seats) ≡ Some place → slice_get d.seats place ≡ Some seat
-    → is_ok r ≡ is_answered seat.mailbox → OnOk r (new ≡ seat_after_collect seat)
-    → OnOk r (IsCollectedAt d t (record d { seats = slice_set d.seats place new }))
-collected_at d t place seat new (Ok v) numbered found ready is =
-    record { seat = seat; ready = sym ready; seats = change_at_place d.seats t place seat (seat_after_collect seat) new numbered found is; rest = refl }
-collected_at d t place seat new (Err e) numbered found ready is = is
-
 -- a served letter
 pub served_by : {T E : Type 0} (d : DeskNow) (s place : ℕ) (held holds : Hand PurseView) (after : Past) (r : Result T E)
     → place_of s (length d.hands) ≡ Some place → slice_get d.hands place ≡ Some held
@@ -42,9 +24,6 @@ pub served_by : {T E : Type 0} (d : DeskNow) (s place : ℕ) (held holds : Hand 
     → OnOk r (IsServedBy d s (record d { book = after; hands = slice_set d.hands place holds }))
 served_by d s place held holds after r numbered found =
     on_ok_weaker r (λ is. record { held = held; holds = holds; served = is; hands = change_at_place d.hands s place held holds holds numbered found refl; rest = refl })
-
-same-number : (a b : ℕ) → Some a ≡ Some b → a ≡ b
-same-number a b h = cc
 
 -- an answer that is in its mailbox
 pub answered_by : {T E : Type 0} (d : DeskNow) (s at place : ℕ) (seat after : SeatNow PurseView) (held holds : Hand PurseView) (r : Result T E)

@@ -17,15 +17,6 @@ a_text least most s order small words = text_is_drawn is_printable letters least
 pub n_text : (least most : ℕ) (s : Stream) → least ≤ most → most ≤ 1000 → HasWords s → IsTextBetween is_printable least most (n_string least most s)
 n_text least most s order small words = text_is_drawn is_printable digits least most s refl (omega arith) (omega arith) order small words
 
--- the bytes that a generator's draws give
-pub letters_are_printable : (g : Lcg) (t : Stream) (least most : ℕ) (bytes : List ℕ) → least ≤ most → most ≤ 1000 → (bytes, t) ≡ a_string least most (answers g) → list_all is_printable bytes ≡ true
-letters_are_printable g t least most bytes order small drawn =
-    (λ i. list_all is_printable (drawn i).0) ∙ (a_text least most (answers g) order small (answers_are_words g)).all
-
-pub digits_are_printable : (g : Lcg) (t : Stream) (least most : ℕ) (bytes : List ℕ) → least ≤ most → most ≤ 1000 → (bytes, t) ≡ n_string least most (answers g) → list_all is_printable bytes ≡ true
-digits_are_printable g t least most bytes order small drawn =
-    (λ i. list_all is_printable (drawn i).0) ∙ (n_text least most (answers g) order small (answers_are_words g)).all
-
 -- ---- last names
 
 any_or : (xs : List (List ℕ)) (i : ℕ) → list_all (list_all is_printable) xs ≡ true → list_all is_printable (unwrap_or (slice_get xs i) []) ≡ true
@@ -36,7 +27,3 @@ any_or (x ∷ xs) (suc i) h = any_or xs i (grind (arith))
 three : (a b c : List ℕ) → list_all is_printable a ≡ true → list_all is_printable b ≡ true → list_all is_printable c ≡ true → list_all is_printable (a ++ b ++ c) ≡ true
 three a b c h k l =
     grind (arith, list_all-append is_printable (a ++ b) c, list_all-append is_printable a b, list_all-append is_printable a (b ++ c), list_all-append is_printable b c)
-
-pub last_name_is_printable : (n : ℕ) → list_all is_printable (last_name n) ≡ true
-last_name_is_printable n =
-    three (syllable (n / 100)) (syllable (n / 10 % 10)) (syllable (n % 10)) (any_or syllables (n / 100) refl) (any_or syllables (n / 10 % 10) refl) (any_or syllables (n % 10) refl)

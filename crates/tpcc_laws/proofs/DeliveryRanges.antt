@@ -23,9 +23,6 @@ use Rattle.tpcc_laws.proofs.TurnKeeps.{all_false}
 use Rattle.tpcc_laws.proofs.Numbers.{not_false, within, is_in}
 use Rattle.tpcc_laws.proofs.PaymentRanges.{one_customer}
 
-third_last_changed : (x e a b e' : Bool) → (x && e && a && b) ≡ true → e' ≡ true → (x && e' && a && b) ≡ true
-third_last_changed x e a b e' h k = grind arith
-
 fourth_last_changed : (x e a b c e' : Bool) → (x && e && a && b && c) ≡ true → e' ≡ true → (x && e' && a && b && c) ≡ true
 fourth_last_changed x e a b c e' h k = grind arith
 

@@ -78,9 +78,6 @@ servable rows o stocked accepted used =
 
 -- ---- why an order is refused, and that it is not
 
-pub not_refused_back : (rows : Rows) (o : Order) → order_refusal_by_input rows o ≡ None → is_rolled_back rows o ≡ true → order_refusal rows o ≡ None
-not_refused_back rows o e b = λ i. option_or (e i) (if b i then None else order_refusal_by_range rows o)
-
 -- the lines of an order that nothing refuses and nothing rolls back can be served
 pub servable_if : (rows : Rows) (o : Order) → IsStocked rows → order_refusal rows o ≡ None → is_rolled_back rows o ≡ false → IsServable rows o.lines
 servable_if rows o stocked none used = servable rows o stocked (first_none (order_refusal_by_input rows o) _ none) used
@@ -94,17 +91,8 @@ few_lines rows o none =
 
 -- ---- what an order does
 
-pub back_rows : (rows : Rows) (o : Order) → is_rolled_back rows o ≡ true → rows ≡ rows_after_order rows o
-back_rows rows o b = sym (λ i. if b i then rows else after_order rows o)
-
 pub entered_rows : (rows : Rows) (o : Order) → is_rolled_back rows o ≡ false → after_order rows o ≡ rows_after_order rows o
 entered_rows rows o b = sym (λ i. if b i then rows else after_order rows o)
-
-pub back_reply : (rows : Rows) (o : Order) → is_rolled_back rows o ≡ true → RolledBack (rolled_back_order rows o) ≡ order_reply rows o
-back_reply rows o b = sym (λ i. if b i then RolledBack (rolled_back_order rows o) else Accepted (accepted_order rows o))
-
-pub entered_reply : (rows : Rows) (o : Order) → is_rolled_back rows o ≡ false → Accepted (accepted_order rows o) ≡ order_reply rows o
-entered_reply rows o b = sym (λ i. if b i then RolledBack (rolled_back_order rows o) else Accepted (accepted_order rows o))
 
 pub lines_length : (rows : Rows) (o : Order) (n : ℕ) (ls : List Line) → length (map (λ line. order_line_row rows o line.0 line.1) (enumerate_from n ls)) ≡ length ls
 lines_length rows o n [] = refl

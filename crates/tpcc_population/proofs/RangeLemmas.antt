@@ -47,9 +47,6 @@ pub padded_is_printable : (places v : ℕ) → v < 2 ^ 64 → list_all is_printa
 padded_is_printable places v h =
     grind (arith, all-replicate is_printable (places - length (decimal v)) 48 refl, decimal_is_printable v h, list_all-append is_printable (replicate (places - length (decimal v)) 48) (decimal v))
 
-pub numbered_is_printable : (prefix : List ℕ) (places v : ℕ) → list_all is_printable prefix ≡ true → v < 2 ^ 64 → list_all is_printable (prefix ++ padded_number places v) ≡ true
-numbered_is_printable prefix places v all small = grind (arith, all, padded_is_printable places v small, list_all-append is_printable prefix (padded_number places v))
-
 pub length-padded : (places v : ℕ) → 0 < places → v < 10 ^ places → v < 2 ^ 64 → length (padded_number places v) ≡ places
 length-padded places v some fits small =
     omega (arith, length-decimal-le places v some fits small, length-append (replicate (places - length (decimal v)) 48) (decimal v), length-replicate {A = ℕ} (places - length (decimal v)) 48)

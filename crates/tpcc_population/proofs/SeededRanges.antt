@@ -43,11 +43,6 @@ record IsAddressOf (drawn : Address × Stream) : Type 0 where
   address : is_address drawn.0 ≡ true
   words : HasWords drawn.1
 
-pub zip_is_printable : (zip : List ℕ) → list_all is_printable zip ≡ true → list_all is_printable (zip ++ codes "11111") ≡ true
-zip_is_printable zip all =
-    let rest : list_all is_printable (codes "11111") ≡ true = refl in
-    grind (arith, rest, list_all-append is_printable zip (codes "11111"))
-
 zip_ok : (zip : List ℕ) → list_all is_printable zip ≡ true → length zip ≤ 4 → is_text 9 (zip ++ codes "11111") ≡ true
 zip_ok zip all short =
     let rest : list_all is_printable (codes "11111") ≡ true = refl in

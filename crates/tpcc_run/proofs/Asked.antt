@@ -15,12 +15,6 @@ asked_more count role moment old mid new before next =
     let e : count + 1 ≡ suc count = omega arith in
     rw e (mid, before, next)
 
--- so many are all
-pub asked_all : (count : ℕ) (role : Role) (moment : ℕ) (old new : Post) → HasAsked count role moment old new → HasAskedAll role count moment old new
-asked_all count Cards moment old new h = h
-asked_all count Deliveries moment old new h = h
-asked_all count Rest moment old new h = (count, h)
-
 -- the rest may end early
 pub asked_rest : (count asked : ℕ) (role : Role) (moment : ℕ) (old new : Post) → (IsEndless role → ⊥) → HasAsked asked role moment old new → HasAskedAll role count moment old new
 asked_rest count asked Cards moment old new not h = absurd (not tt)

@@ -56,9 +56,6 @@ pub record Reading (bytes line : List ℕ) (left : Option (List ℕ)) : Type 0 w
   pub left_is : left ≡ Some rest
   pub parts : parts_of 10 bytes ≡ onto_all line (parts_of 10 rest)
 
-pub reading_begins : (bytes : List ℕ) (left : Option (List ℕ)) → left ≡ Some bytes → Reading bytes [] left
-reading_begins bytes left e = record { rest = bytes; left_is = e; parts = refl }
-
 some-none : (byte : ℕ) → Some byte ≡ None → ⊥
 some-none byte e = none-some byte (sym e)
 
@@ -163,16 +160,6 @@ read_none view number bytes (Some line) left e h = absurd (none-some line (sym e
 pub read_some : {L : Type 0} (view : L → List ℕ) (number : ℕ) (bytes : List ℕ) (line : L) (o : Option L) (left : Option (List ℕ)) → o ≡ Some line → IsRead view number bytes (Ok o) left → IsLine number bytes (view line) left
 read_some view number bytes line o left e h = rw e at h
 
-pub stops_so : (number : ℕ) (bytes : List ℕ) (old : Book) (left : Option (List ℕ)) (f : ScriptFault)
-    → IsFaultOf (says number bytes) f → IsStopped number bytes old old left f
-stops_so number bytes old left (Bad n) h = record { says_is = h; book = refl }
-stops_so number bytes old left (Cut n) h = record { says_is = h; book = refl }
-stops_so number bytes old left (LongLine n) h = record { says_is = h; book = refl }
-stops_so number bytes old left TooManyLines h = record { says_is = h; book = refl }
-stops_so number bytes old left Read h = refl
-stops_so number bytes old left NoMemory h = inl refl
-stops_so number bytes old left Write h = absurd h
-
 -- the line as the parser saw it
 pub bad_line : (number : ℕ) (bytes line seen : List ℕ) (left : Option (List ℕ)) → IsLine number bytes line left → seen ≡ line → None ≡ call_of seen → says number bytes ≡ fails (Bad number)
 bad_line number bytes line seen left h same e = h.says_is ∙ ap (λ o. then_says number o (says (number + 1) h.rest)) (sym (e ∙ ap call_of same))
@@ -194,52 +181,6 @@ pub unshown_line : (number : ℕ) (bytes line seen : List ℕ) (left : Option (L
 unshown_line number bytes line seen left call old new h same e served =
     inr (record { screen = served.screen; served = served_line number bytes line seen left call old new served.screen h same e served.shows })
 
--- what is written of a line's screen, or of what waited before it
-pub held_line : (number : ℕ) (bytes screen : List ℕ) (o : Option (List ℕ)) (old new : Book) (left held now : Option (List ℕ)) (waits more : List ℕ) → o ≡ Some screen
-    → IsAnswered number bytes old new left (Ok o) → Passes held now (waits ++ screen) more → IsLineHeld number bytes old new left held now waits more
-held_line number bytes screen o old new left held now waits more e h passed = record { screen = screen; served = rw e at h; passed = passed }
-
 pub broken_line : (number : ℕ) (bytes screen : List ℕ) (o : Option (List ℕ)) (old new : Book) (left held now : Option (List ℕ)) (waits : List ℕ) → o ≡ Some screen
     → IsAnswered number bytes old new left (Ok o) → AppendsPart held now (waits ++ screen) → IsFault number bytes old new left held now waits Write
 broken_line number bytes screen o old new left held now waits e h part = inr (record { screen = screen; served = rw e at h; part = part })
-
-pub ended_line : (number : ℕ) (bytes : List ℕ) (o : Option (List ℕ)) (old new : Book) (left : Option (List ℕ)) → o ≡ None
-    → IsAnswered number bytes old new left (Ok o) → IsEnd number bytes ends old new
-ended_line number bytes o old new left e h = rw e at h
-
-pub fault_line : (number : ℕ) (bytes : List ℕ) (old new : Book) (left held now : Option (List ℕ)) (waits : List ℕ) (f : ScriptFault)
-    → IsStopped number bytes old new left f → Appends held now waits → IsFault number bytes old new left held now waits f
-fault_line number bytes old new left held now waits (Bad n) h added = record { stopped = h; added = added }
-fault_line number bytes old new left held now waits (Cut n) h added = record { stopped = h; added = added }
-fault_line number bytes old new left held now waits (LongLine n) h added = record { stopped = h; added = added }
-fault_line number bytes old new left held now waits TooManyLines h added = record { stopped = h; added = added }
-fault_line number bytes old new left held now waits Read h added = record { stopped = h; added = added }
-fault_line number bytes old new left held now waits NoMemory h added = record { stopped = h; added = added }
-fault_line number bytes old new left held now waits Write h added = absurd h
-
-unshown-broken : (number : ℕ) (bytes : List ℕ) (old new : Book) (left held now : Option (List ℕ)) (waits : List ℕ)
-    → (new ≡ old) ⊎ IsLineUnshown number bytes old new left → AppendsPart held now waits → IsFault number bytes old new left held now waits Write
-unshown-broken number bytes old new left held now waits (inl same) part = inl (record { book = same; part = part })
-unshown-broken number bytes old new left held now waits (inr line) part =
-    inr (record { screen = line.screen; served = line.served; part = part_of_more held now waits line.screen part })
-
--- where the sink was given up behind a fault
-pub fault_broken : (number : ℕ) (bytes : List ℕ) (old new : Book) (left held now : Option (List ℕ)) (waits : List ℕ) (f : ScriptFault)
-    → IsStopped number bytes old new left f → AppendsPart held now waits → IsFault number bytes old new left held now waits Write
-fault_broken number bytes old new left held now waits (Bad n) h part = inl (record { book = h.book; part = part })
-fault_broken number bytes old new left held now waits (Cut n) h part = inl (record { book = h.book; part = part })
-fault_broken number bytes old new left held now waits (LongLine n) h part = inl (record { book = h.book; part = part })
-fault_broken number bytes old new left held now waits TooManyLines h part = inl (record { book = h.book; part = part })
-fault_broken number bytes old new left held now waits Read h part = inl (record { book = h; part = part })
-fault_broken number bytes old new left held now waits NoMemory h part = unshown-broken number bytes old new left held now waits h part
-fault_broken number bytes old new left held now waits Write h part = absurd h
-
--- what was given up stays so where no more is
-pub still_given_up : (old new : Watch) (f : ScriptFault) → IsNoWorse old new → HasGivenUp old f → HasGivenUp new f
-still_given_up old new (Bad n) same h = tt
-still_given_up old new (Cut n) same h = tt
-still_given_up old new (LongLine n) same h = tt
-still_given_up old new TooManyLines same h = tt
-still_given_up old new Read same h = same.reader ∙ h
-still_given_up old new NoMemory same h = tt
-still_given_up old new Write same h = same.writer ∙ h
