@@ -8,9 +8,9 @@ ghost use Rattle.tpcc_book.specs.Serve.{IsServed, rooms_of, entries_of, paid_of}
 
 use crate::answer::Answer;
 use crate::naming::{Blanks, Entries, Naming, PaidCents};
+use crate::outcome::Turned;
 use crate::purse::{Pool, Purse};
 use crate::register::Register;
-use crate::outcome::Turned;
 use std::alloc::Global;
 use std::marker::Model;
 use std::sync::ledger::Book as LedgerBook;

@@ -4,8 +4,8 @@ ghost use Rattle.tpcc_book.specs.Past.{IsKept, Rises, opening_past, rise_of};
 ghost use Rattle.tpcc_rows.specs.Turn.{reply_to};
 ghost use Rattle.tpcc_book.specs.Turn.{IsTurn, TakesTurn, MakesTurn, Accepts, Refuses};
 
-use crate::ready::{commit, make_ready};
 use crate::outcome::Turned;
+use crate::ready::{commit, make_ready};
 use crate::year_to_date::year_to_date;
 use std::alloc::Global;
 use std::marker::Model;
