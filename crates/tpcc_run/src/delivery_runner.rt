@@ -43,7 +43,11 @@ impl<
     }
 
     /// Joins the delivery runner, which then asks for what is still queued.
-    pub(crate) fn join_runner(&self, runner: TerminalHandle<'s, N, T, C>, all: &mut ThreadResults<N, T>)
+    pub(crate) fn join_runner(
+        &self,
+        runner: TerminalHandle<'s, N, T, C>,
+        all: &mut ThreadResults<N, T>,
+    )
         requires make { F.IsAlwaysCallable self.now.make.now }
         requires seen { AllSeen all.old.purses.items all.old.receipts.items }
         ensures seen { AllSeen all.new.purses.items all.new.receipts.items }
