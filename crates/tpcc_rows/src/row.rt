@@ -5,7 +5,7 @@ use crate::rows::{
 };
 
 /// The nine tables (1.3).
-#[derive(Clone, Copy, Debug, PartialEq, Eq, PartialOrd, Ord, Hash)]
+#[derive(Clone, Copy, Debug, PartialEq, Eq)]
 pub enum Table {
     /// WAREHOUSE.
     Warehouse,

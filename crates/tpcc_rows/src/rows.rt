@@ -5,12 +5,8 @@
 //! `*_DATA` columns are `information`. The bound of a text is its type, and a row is
 //! a plain value, whose copy takes no memory. The ranges of all columns stand in
 //! `specs/Ranges.antt`; a row outside of them can be built but not loaded.
-ghost use Rattle.std.specs.Prelude.{◌≡◌};
 
 use crate::few::Blank;
-use crate::keys::{
-    CustomerKey, DistrictKey, ItemKey, NewOrderKey, OrderKey, OrderLineKey, StockKey, WarehouseKey,
-};
 use crate::text::Text;
 use tpcc_money::{Cents, Moment, Rate};
 
@@ -246,111 +242,4 @@ pub struct StockRow {
     pub remote_count: u32,
     /// S_DATA.
     pub information: Text<50>,
-}
-
-impl WarehouseRow {
-    /// The primary key of the row.
-    pub fn key(&self) -> WarehouseKey
-        ensures warehouse { result.warehouse ≡ self.now.id }
-    {
-        WarehouseKey { warehouse: self.id }
-    }
-}
-
-impl DistrictRow {
-    /// The primary key of the row.
-    pub fn key(&self) -> DistrictKey
-        ensures warehouse { result.warehouse ≡ self.now.warehouse }
-        ensures district { result.district ≡ self.now.id }
-    {
-        DistrictKey {
-            warehouse: self.warehouse,
-            district: self.id,
-        }
-    }
-}
-
-impl CustomerRow {
-    /// The primary key of the row.
-    pub fn key(&self) -> CustomerKey
-        ensures warehouse { result.warehouse ≡ self.now.warehouse }
-        ensures district { result.district ≡ self.now.district }
-        ensures customer { result.customer ≡ self.now.id }
-    {
-        CustomerKey {
-            warehouse: self.warehouse,
-            district: self.district,
-            customer: self.id,
-        }
-    }
-}
-
-impl OrderRow {
-    /// The primary key of the row.
-    pub fn key(&self) -> OrderKey
-        ensures warehouse { result.warehouse ≡ self.now.warehouse }
-        ensures district { result.district ≡ self.now.district }
-        ensures order { result.order ≡ self.now.id }
-    {
-        OrderKey {
-            warehouse: self.warehouse,
-            district: self.district,
-            order: self.id,
-        }
-    }
-}
-
-impl OrderLineRow {
-    /// The primary key of the row.
-    pub fn key(&self) -> OrderLineKey
-        ensures warehouse { result.warehouse ≡ self.now.warehouse }
-        ensures district { result.district ≡ self.now.district }
-        ensures order { result.order ≡ self.now.order }
-        ensures number { result.number ≡ self.now.number }
-    {
-        OrderLineKey {
-            warehouse: self.warehouse,
-            district: self.district,
-            order: self.order,
-            number: self.number,
-        }
-    }
-}
-
-impl NewOrderRow {
-    /// The primary key of the row.
-    pub fn key(&self) -> NewOrderKey
-        ensures warehouse { result.warehouse ≡ self.now.warehouse }
-        ensures district { result.district ≡ self.now.district }
-        ensures order { result.order ≡ self.now.order }
-    {
-        let order = self.order;
-        NewOrderKey {
-            warehouse: self.warehouse,
-            district: self.district,
-            order,
-        }
-    }
-}
-
-impl ItemRow {
-    /// The primary key of the row.
-    pub fn key(&self) -> ItemKey
-        ensures item { result.item ≡ self.now.id }
-    {
-        ItemKey { item: self.id }
-    }
-}
-
-impl StockRow {
-    /// The primary key of the row.
-    pub fn key(&self) -> StockKey
-        ensures warehouse { result.warehouse ≡ self.now.warehouse }
-        ensures item { result.item ≡ self.now.item }
-    {
-        StockKey {
-            warehouse: self.warehouse,
-            item: self.item,
-        }
-    }
 }
