@@ -13,7 +13,7 @@ use Rattle.tpcc_laws.proofs.OrderKeys.{apart, ascending-inserted}
 use Rattle.tpcc_keyed.specs.declared.parts.part.Part.{Part}
 use Rattle.tpcc_keyed.specs.Searches.{is_same_key}
 use Rattle.tpcc_keyed.specs.Parts.{district_numbers, is_of, has_owner}
-use Rattle.tpcc_keyed.specs.PartWords.{rows_in, owner_of, part_numbers, is_part, owns, shown, HasRoom, IsGrown, IsOpened, AreParts}
+use Rattle.tpcc_keyed.specs.PartWords.{rows_in, owner_of, part_numbers, is_part, owns, owner_and_rows, HasRoom, IsGrown, IsOpened, AreParts}
 use Rattle.tpcc_keyed.proofs.KeyLemmas.{same_if_equal}
 use Rattle.tpcc_keyed.proofs.OwnerLemmas.{owner_is_part}
 use Rattle.tpcc_keyed.proofs.PlaceLemmas.{none_before}
@@ -90,21 +90,21 @@ module _ {T : Type 0} (owner : DistrictKey) (room : ℕ) (old new : List (Part T
 
 -- ---- parts with more room
 
-module _ {T : Type 0} (old new : List (Part T)) (same : map shown new ≡ map shown old) where
+module _ {T : Type 0} (old new : List (Part T)) (same : map owner_and_rows new ≡ map owner_and_rows old) where
   pub rows_shown : flat_map rows_in new ≡ flat_map rows_in old
   rows_shown =
-      let by_rows = λ (parts : List (Part T)). flat_map-map (λ (s : DistrictKey × List T). s.1) shown parts in
+      let by_rows = λ (parts : List (Part T)). flat_map-map (λ (s : DistrictKey × List T). s.1) owner_and_rows parts in
       sym (by_rows new) ∙ ap (flat_map (λ (s : DistrictKey × List T). s.1)) same ∙ by_rows old
 
   pub owners_shown : map owner_of new ≡ map owner_of old
-  owners_shown = map-shown shown (λ (s : DistrictKey × List T). s.0) new ∙ ap (map (λ (s : DistrictKey × List T). s.0)) same ∙ sym (map-shown shown (λ (s : DistrictKey × List T). s.0) old)
+  owners_shown = map-shown owner_and_rows (λ (s : DistrictKey × List T). s.0) new ∙ ap (map (λ (s : DistrictKey × List T). s.0)) same ∙ sym (map-shown owner_and_rows (λ (s : DistrictKey × List T). s.0) old)
 
   pub parts_shown : (key : T → List ℕ) (len room more : ℕ) → AreParts key len room old → All (HasRoom more) new → len + more < 2 ^ 64 → AreParts key len more new
   parts_shown key len room more kept roomy fits =
       let mine = λ (s : DistrictKey × List T). list_all (λ row. is_of s.0 (key row)) s.1 in
       record {
-        ascending = ascending-shown shown (λ (s : DistrictKey × List T). district_numbers s.0) new ∙ ap (is_ascending (λ (s : DistrictKey × List T). district_numbers s.0)) same ∙ sym (ascending-shown shown (λ (s : DistrictKey × List T). district_numbers s.0) old) ∙ kept.ascending;
-        own = all-shown shown mine new ∙ ap (list_all mine) same ∙ sym (all-shown shown mine old) ∙ kept.own;
+        ascending = ascending-shown owner_and_rows (λ (s : DistrictKey × List T). district_numbers s.0) new ∙ ap (is_ascending (λ (s : DistrictKey × List T). district_numbers s.0)) same ∙ sym (ascending-shown owner_and_rows (λ (s : DistrictKey × List T). district_numbers s.0) old) ∙ kept.ascending;
+        own = all-shown owner_and_rows mine new ∙ ap (list_all mine) same ∙ sym (all-shown owner_and_rows mine old) ∙ kept.own;
         counted = kept.counted ∙ ap length (sym rows_shown);
         roomy = roomy;
         bound = fits;
@@ -114,8 +114,8 @@ pub grown_none : {T : Type 0} (room : ℕ) (parts : List (Part T)) → IsGrown r
 grown_none room parts = record { same = refl; kept = λ less h. h; first = AllWithin-none (HasRoom room) parts 0 }
 
 module _ {T : Type 0} (room n : ℕ) (old now : List (Part T)) (grown : IsGrown room n old now) (part changed : Part T) (lt : n < length now) (here : part ≡ get_or now n part) (owner : changed.owner ≡ part.owner) (rows : changed.rows.items ≡ part.rows.items) (capacity : part.rows.capacity ≤ changed.rows.capacity) where
-  still_shown : map shown (set now n changed) ≡ map shown old
-  still_shown = map-set_same shown now n changed part ((λ i. (owner i, rows i)) ∙ ap shown here) ∙ grown.same
+  still_shown : map owner_and_rows (set now n changed) ≡ map owner_and_rows old
+  still_shown = map-set_same owner_and_rows now n changed part ((λ i. (owner i, rows i)) ∙ ap owner_and_rows here) ∙ grown.same
 
   still_roomy : (less : ℕ) → All (HasRoom less) old → All (HasRoom less) (set now n changed)
   still_roomy less h =

@@ -208,6 +208,13 @@ get_past (x ∷ xs) ys (suc i) le =
     let e : i - length xs ≡ suc i - length (x ∷ xs) = omega arith in
     get_past xs ys i (omega arith) ∙ (λ j. slice_get ys (e j))
 
+drop_past : {X : Type 0} (xs ys : List X) (i : ℕ) → length xs ≤ i → drop i (xs ++ ys) ≡ drop (i - length xs) ys
+drop_past [] ys i le = let e : i ≡ i - 0 = omega arith in λ j. drop (e j) ys
+drop_past (x ∷ xs) ys zero le = absurd (omega arith)
+drop_past (x ∷ xs) ys (suc i) le =
+    let e : i - length xs ≡ suc i - length (x ∷ xs) = omega arith in
+    drop_past xs ys i (omega arith) ∙ (λ j. drop (e j) ys)
+
 get_within : {X : Type 0} (xs ys : List X) (i : ℕ) (x : X) → i < length xs → x ≡ get_or xs i x → slice_get (xs ++ ys) i ≡ Some x
 get_within [] ys i x lt here = absurd (omega arith)
 get_within (y ∷ xs) ys zero x lt here = ap Some (sym here)
@@ -224,3 +231,7 @@ module _ {T : Type 0} (parts : List (Part T)) (i : ℕ) (part : Part T) (lt : i 
 
   pub row_within : (before : ℕ) (row : T) → before < length part.rows.items → row ≡ get_or part.rows.items before row → slice_get (flat_map rows_in (drop i parts)) before ≡ Some row
   row_within before row within is = ap (λ xs. slice_get xs before) rows_from ∙ get_within part.rows.items (flat_map rows_in (drop (i + 1) parts)) before row within is
+
+  -- the rows from a place on, counted through the parts
+  pub rest_past : (before : ℕ) → length part.rows.items ≤ before → drop before (flat_map rows_in (drop i parts)) ≡ drop (before - length part.rows.items) (flat_map rows_in (drop (i + 1) parts))
+  rest_past before le = ap (drop before) rows_from ∙ drop_past part.rows.items (flat_map rows_in (drop (i + 1) parts)) before le

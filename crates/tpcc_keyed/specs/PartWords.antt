@@ -28,12 +28,12 @@ abbrev pub HasRoom : {T : Type 0} → ℕ → Part T → Type 0
 HasRoom room p = length p.rows.items + room ≤ p.rows.capacity
 
 -- all of a part but the room of its rows
-abbrev pub shown : {T : Type 0} → Part T → DistrictKey × List T
-shown p = (p.owner, p.rows.items)
+abbrev pub owner_and_rows : {T : Type 0} → Part T → DistrictKey × List T
+owner_and_rows p = (p.owner, p.rows.items)
 
 -- the first n parts have this room, and nothing else has changed
 pub record IsGrown {T : Type 0} (room n : ℕ) (old new : List (Part T)) : Type 0 where
-  pub same : map shown new ≡ map shown old
+  pub same : map owner_and_rows new ≡ map owner_and_rows old
   pub kept : (less : ℕ) → All (HasRoom less) old → All (HasRoom less) new
   pub first : AllWithin (HasRoom room) new 0 n
 

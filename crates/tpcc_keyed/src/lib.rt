@@ -6,7 +6,7 @@ pub mod keyed;
 pub mod names;
 mod order_lines;
 pub mod parts;
-mod places;
+pub mod places;
 pub mod runs;
 pub mod search;
 

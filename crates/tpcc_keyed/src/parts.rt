@@ -1,5 +1,5 @@
 //! Rows in ascending order of their keys, kept in one vector for each district.
-ghost use Rattle.std.specs.Prelude.{◌≡◌, ◌+◌, ◌<◌, ◌≤◌, ℕ, List, [], ◌∷◌, OnOk, OnErr, IfOk, find, filter, not, length, slice_get, take, true};
+ghost use Rattle.std.specs.Prelude.{◌≡◌, ◌+◌, ◌<◌, ◌≤◌, ℕ, List, [], ◌∷◌, OnOk, OnErr, IfOk, find, filter, not, drop, length, slice_get, take, true};
 ghost use Rattle.std.specs.List.{list_all};
 ghost use Rattle.std.specs.Option.{option_copied};
 ghost use Rattle.tpcc_rows.specs.Lists.{by_key, is_ascending, inserted, inserted_all, updated};
@@ -40,9 +40,9 @@ impl<T: Owned> Model for Parts<T> {
 
     ghost Value = { Kept T };
 
-    ghost use Rattle.tpcc_keyed.specs.PartsView.{kept, IsParts};
+    ghost use Rattle.tpcc_keyed.specs.PartsView.{view_of_parts, IsParts};
 
-    ghost view = { kept };
+    ghost view = { view_of_parts };
 
     ghost invariant = { IsParts T.key };
 }
@@ -103,6 +103,22 @@ impl<T: Owned> Parts<T> {
             before -= rows.len();
         }
         None
+    }
+
+    /// Rows that lie side by side, from a place on: at least one, where there is a row.
+    pub fn run_from(&self, position: usize) -> &[T]
+        ensures run { result.now ≡ take (length result.now) (drop position self.now.rows) }
+        ensures some { position < length self.now.rows → 0 < length result.now }
+    {
+        let mut before = position;
+        for part in self.parts.iter() {
+            let rows = part.rows.as_slice();
+            if before < rows.len() {
+                return &rows[before..];
+            }
+            before -= rows.len();
+        }
+        &[]
     }
 
     /// The rows of a district.

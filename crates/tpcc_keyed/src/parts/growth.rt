@@ -1,6 +1,6 @@
 //! Room for more rows in each part.
 ghost use Rattle.std.specs.Prelude.{◌≡◌, ◌≤◌, ℕ, All, OnOk, map};
-ghost use Rattle.tpcc_keyed.specs.PartWords.{shown, HasRoom};
+ghost use Rattle.tpcc_keyed.specs.PartWords.{owner_and_rows, HasRoom};
 
 use crate::keyed::Owned;
 use crate::parts::part::Part;
@@ -18,7 +18,7 @@ fn grow<T: Owned>(part: &mut Part<T>, room: usize) -> Result<(), NoMemory>
 
 /// Room for so many more rows in each part. A refused growth leaves all rows and the room there was.
 pub fn grow_all<T: Owned>(parts: &mut Vec<Part<T>>, room: usize) -> Result<(), NoMemory>
-    ensures same { map shown parts.new.items ≡ map shown parts.old.items }
+    ensures same { map owner_and_rows parts.new.items ≡ map owner_and_rows parts.old.items }
     ensures kept { (less : ℕ)
         → All (HasRoom less) parts.old.items → All (HasRoom less) parts.new.items }
     ensures grown { OnOk result (All (HasRoom room) parts.new.items) }
