@@ -24,10 +24,10 @@ use Rattle.tpcc_rows.proofs.Booleans.{split}
 use Rattle.tpcc_laws.proofs.RemoveLemmas.{found_passes}
 use Rattle.tpcc_laws.proofs.TurnKeeps.{all_false}
 
-abbrev is_paid : OrderLineRow → Bool
+abbrev pub is_paid : OrderLineRow → Bool
 is_paid l = is_amount_within (pos 0) (pos 999999) l.amount
 
-line_is_paid : (l : OrderLineRow) → is_order_line_row l ≡ true → is_paid l ≡ true
+pub line_is_paid : (l : OrderLineRow) → is_order_line_row l ≡ true → is_paid l ≡ true
 unfolding is_order_line_row
 line_is_paid l h = (split _ (is_paid l) (split _ (is_exact_text 24 l.district_information) h).0).1
 

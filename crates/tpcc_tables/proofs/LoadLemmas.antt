@@ -27,7 +27,7 @@ use Rattle.tpcc_laws.proofs.DeliveryKeeps.{some_of}
 use Rattle.tpcc_laws.proofs.OrderKeeps.{both_equal, all_equal}
 use Rattle.tpcc_tables.specs.Loads.{is_order_line, find_order_line, with_warehouse, with_district, with_customer, with_history, with_order, with_order_line, with_new_order, with_item, with_stock, fault_of, warehouse_fault, district_fault, customer_fault, history_fault, is_order_in_range, order_fault, order_line_fault, new_order_fault, item_fault, stock_fault}
 
-fault_none : (in_range has_parents is_taken : Bool) → fault_of in_range has_parents is_taken ≡ None → (in_range ≡ true) × (has_parents ≡ true) × (is_taken ≡ false)
+pub fault_none : (in_range has_parents is_taken : Bool) → fault_of in_range has_parents is_taken ≡ None → (in_range ≡ true) × (has_parents ≡ true) × (is_taken ≡ false)
 fault_none true true true e = cc
 fault_none true true false e = (refl, refl, refl)
 fault_none true false is_taken e = cc
@@ -84,7 +84,7 @@ next_stays id w d new ds true same none h =
 next_stays id w d new ds false same none h = (λ i. nat_lt id (unwrap_or (find-inserted_other (by_key district_key) (is_district w d) new ds same i) no_district).next_order) ∙ h
 
 -- an order of a customer is in a district, and so its number is below the next one
-customer_district : (rows : Rows) (w d k : ℕ) → HasParents rows → is_some (find_customer rows w d k) ≡ true → is_some (find_district rows w d) ≡ true
+pub customer_district : (rows : Rows) (w d k : ℕ) → HasParents rows → is_some (find_customer rows w d k) ≡ true → is_some (find_district rows w d) ≡ true
 customer_district rows w d k parents there =
     let c = some_of (find_customer rows w d k) there in
     let p = found_passes (is_customer w d k) (has_district rows) rows.customers c.0 c.1 parents.customers in

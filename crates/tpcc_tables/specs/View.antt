@@ -6,6 +6,7 @@ use Rattle.tpcc_keyed.specs.Names.{names_of}
 use Rattle.tpcc_tables.specs.declared.tables.Tables.TheInside.{Inside}
 use Rattle.tpcc_tables.specs.Held.{Held}
 use Rattle.tpcc_tables.specs.Ready.{IsReady}
+use Rattle.tpcc_tables.specs.Sums.{AreSums}
 
 abbrev pub rows_of : Inside → Rows
 rows_of t =
@@ -24,9 +25,10 @@ rows_of t =
 abbrev pub held : Inside → Held
 held t = record { rows = rows_of t; order_room = t.order_room; payment_room = t.payment_room }
 
--- the rows are well-keyed, and each room that was promised is there
+-- the rows are well-keyed, the sums are theirs, and each room that was promised is there
 pub record IsHeld (t : Inside) : Type 0 where
   pub well_keyed : IsWellKeyed (rows_of t)
   pub names : t.names ≡ names_of t.customers.items
+  pub sums : AreSums (rows_of t) t.sums
   pub ready : IsReady t.are_open t.order_room t.districts.items t.orders t.order_lines t.new_orders
   pub payments : vec_len t.histories + t.payment_room ≤ vec_capacity t.histories

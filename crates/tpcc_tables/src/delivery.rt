@@ -1,11 +1,15 @@
 //! What the delivery of one order changes (2.7.4.2).
-ghost use Rattle.std.specs.Prelude.{unwrap_or, ◌≡◌, ◌+◌, ◌<◌, ◌^◌, ◌+ℤ◌, ℕ, ℤ, FitsSigned, find, filter, not, take, true, Some};
+ghost use Rattle.std.specs.Prelude.{unwrap_or, ◌≡◌, ◌+◌, ◌<◌, ◌≤◌, ◌^◌, ◌+ℤ◌, ℕ, ℤ, pos, FitsSigned, find, filter, is_some, if◌then◌else◌, length, not, take, true, Some};
+ghost use Rattle.std.specs.Bool.{beq};
+ghost use Rattle.std.specs.List.{list_all};
 ghost use Rattle.std.specs.Int.{w64};
 ghost use Rattle.tpcc_money.specs.Amounts.{total};
 ghost use Rattle.tpcc_rows.specs.declared.rows.CustomerRow.{CustomerRow};
 ghost use Rattle.tpcc_rows.specs.Lists.{updated, is_ascending};
 ghost use Rattle.tpcc_rows.specs.Tables.{is_customer, is_new_order, is_order, no_order, customer_key, new_order_key, order_key};
+ghost use Rattle.tpcc_rows.specs.Ranges.{is_order_line_row};
 ghost use Rattle.tpcc_rows.specs.Delivery.{delivered_customer};
+ghost use Rattle.tpcc_tables.specs.Sums.{is_order_amount};
 
 use crate::find;
 use crate::place::place_of_customer;
@@ -34,6 +38,33 @@ pub fn amount(lines: &[OrderLineRow]) -> Cents
     let mut sum = Cents::new(0);
     for line in lines {
         sum = sum.plus(line.amount);
+    }
+    sum
+}
+
+/// OL_AMOUNT of a line that is delivered or not, as is asked; else 0.00.
+pub fn amount_if(line: &OrderLineRow, delivered: bool) -> Cents
+    ensures { result ≡ (if beq (is_some line.now.delivered) delivered
+        then line.now.amount else pos 0) }
+{
+    if line.delivered.is_some() == delivered {
+        line.amount
+    } else {
+        Cents::new(0)
+    }
+}
+
+/// The sum of OL_AMOUNT of those of an order's lines that are delivered, or of those that are not.
+pub fn amount_where(lines: &[OrderLineRow], delivered: bool) -> Cents
+    requires few { length lines.now ≤ 15 }
+    requires range { list_all is_order_line_row lines.now ≡ true }
+    ensures sum { result ≡ total (λ l. l.amount)
+        (filter (λ l. beq (is_some l.delivered) delivered) lines.now) }
+    ensures range { is_order_amount result ≡ true }
+{
+    let mut sum = Cents::new(0);
+    for line in lines {
+        sum = sum.plus(amount_if(line, delivered));
     }
     sum
 }

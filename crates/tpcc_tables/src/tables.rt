@@ -13,10 +13,12 @@ ghost use Rattle.tpcc_tables.specs.Loads.{find_order_line};
 mod filled;
 mod load;
 mod positions;
+mod totals;
 mod writes;
 
 use crate::copies::copy_lines;
-use crate::{delivery, extremes, find, levels};
+use crate::sums::Sums;
+use crate::{delivery, districts, find, levels};
 use std::alloc::Global;
 use std::marker::Model;
 use tpcc_keyed::{Names, Parts};
@@ -48,6 +50,8 @@ pub struct Tables {
     items: Vec<ItemRow>,
     /// STOCK, by ascending key.
     stocks: Vec<StockRow>,
+    /// What the consistency conditions add up, of each WAREHOUSE, DISTRICT and CUSTOMER row.
+    sums: Sums,
     /// Whether each district has a part in the three tables of orders.
     are_open: bool,
     /// One more than the lines of the next order that there is room for; 0 where there is room for no order.
@@ -94,6 +98,7 @@ impl Tables {
             new_orders: Parts::new(alloc),
             items: Vec::new(alloc),
             stocks: Vec::new(alloc),
+            sums: Sums::empty(alloc),
             are_open: false,
             order_room: 0,
             payment_room: 0,
@@ -206,14 +211,14 @@ impl Tables {
     pub fn last_order(&self, warehouse: u32, district: u32, customer: u32) -> Option<u32>
         ensures { result ≡ last_order_number self.now.rows warehouse district customer }
     {
-        extremes::last_order(&self.orders, warehouse, district, customer)
+        self.customer_sums(warehouse, district, customer).last_order
     }
 
     /// The smallest number of a district's NEW-ORDER rows (2.7.4.2), if there is a row.
     pub fn oldest_new(&self, warehouse: u32, district: u32) -> Option<u32>
         ensures { result ≡ oldest_new_order self.now.rows warehouse district }
     {
-        extremes::oldest_new(&self.new_orders, warehouse, district)
+        districts::oldest_new(&self.new_orders, warehouse, district)
     }
 
     /// The ITEM row of a key.

@@ -5,6 +5,7 @@ ghost use Rattle.tpcc_tables.specs.Listed.{listed};
 
 use super::Tables;
 use crate::lists::Lists;
+use crate::sums::Sums;
 use std::alloc::Global;
 use tpcc_keyed::Names;
 use tpcc_money::NoMemory;
@@ -15,6 +16,7 @@ impl Tables {
         requires keyed { IsWellKeyed (listed lists) }
         ensures rows { IfOk result (λ tables. tables.rows ≡ listed lists) }
     {
+        let sums = Sums::of(&lists, alloc)?;
         let Lists {
             warehouses,
             districts,
@@ -38,6 +40,7 @@ impl Tables {
             new_orders,
             items,
             stocks,
+            sums,
             are_open: false,
             order_room: 0,
             payment_room: 0,

@@ -4,9 +4,11 @@ ghost use Rattle.std.specs.Option.{option_or};
 ghost use Rattle.tpcc_tables.specs.Loads as loads;
 
 use super::Tables;
+use crate::delivery;
 use crate::faults::{self, LoadFault};
+use crate::sums::entry::{CustomerSums, DistrictSums, WarehouseSums};
 use tpcc_keyed::insertion;
-use tpcc_money::NoMemory;
+use tpcc_money::{Cents, NoMemory};
 use tpcc_rows::row::Row;
 use tpcc_rows::rows::*;
 
@@ -59,9 +61,14 @@ impl Tables {
         if let Some(fault) = faults::of_warehouse(self, &row) {
             return Err(fault);
         }
+        if self.sums.warehouses.reserve(1).is_err() {
+            return Err(LoadFault::NoMemory);
+        }
         if let Err(NoMemory) = insertion::insert(&mut self.warehouses, row) {
             return Err(LoadFault::NoMemory);
         }
+        let entry = WarehouseSums::none(row.id);
+        insertion::insert_one(&mut self.sums.warehouses, entry);
         Ok(())
     }
 
@@ -75,9 +82,14 @@ impl Tables {
         if let Some(fault) = faults::of_district(self, &row) {
             return Err(fault);
         }
+        if self.sums.districts.reserve(1).is_err() {
+            return Err(LoadFault::NoMemory);
+        }
         if let Err(NoMemory) = insertion::insert(&mut self.districts, row) {
             return Err(LoadFault::NoMemory);
         }
+        let entry = DistrictSums::none(row.warehouse, row.id);
+        insertion::insert_one(&mut self.sums.districts, entry);
         self.are_open = false;
         self.order_room = 0;
         Ok(())
@@ -96,10 +108,15 @@ impl Tables {
         if self.customers.reserve(1).is_err() {
             return Err(LoadFault::NoMemory);
         }
+        if self.sums.customers.reserve(1).is_err() {
+            return Err(LoadFault::NoMemory);
+        }
         if let Err(NoMemory) = self.names.load(&row) {
             return Err(LoadFault::NoMemory);
         }
         insertion::insert_one(&mut self.customers, row);
+        let entry = CustomerSums::none(row.warehouse, row.district, row.id);
+        insertion::insert_one(&mut self.sums.customers, entry);
         Ok(())
     }
 
@@ -116,6 +133,7 @@ impl Tables {
         if let Err(NoMemory) = insertion::push(&mut self.histories, row) {
             return Err(LoadFault::NoMemory);
         }
+        self.sums.pay(&row);
         self.payment_room = 0;
         Ok(())
     }
@@ -133,6 +151,7 @@ impl Tables {
         if let Err(NoMemory) = self.orders.load(row) {
             return Err(LoadFault::NoMemory);
         }
+        self.sums.enter(&row, Cents::new(0));
         self.order_room = 0;
         Ok(())
     }
@@ -150,6 +169,10 @@ impl Tables {
         if let Err(NoMemory) = self.order_lines.load(row) {
             return Err(LoadFault::NoMemory);
         }
+        let customer = delivery::customer_of(&self.orders, row.warehouse, row.district, row.order);
+        let delivered = delivery::amount_if(&row, true);
+        self.sums
+            .deliver(row.warehouse, row.district, customer, delivered);
         self.order_room = 0;
         Ok(())
     }

@@ -6,7 +6,7 @@ ghost use Rattle.tpcc_tables.specs.Writes.{with_payment, IsPayment, with_entered
 
 use super::Tables;
 use crate::{delivery, place, rooms, supply};
-use tpcc_money::{Moment, NoMemory};
+use tpcc_money::{Cents, Moment, NoMemory};
 use tpcc_rows::rows::*;
 use tpcc_rows::text::Text;
 
@@ -68,6 +68,7 @@ impl Tables {
             history.amount,
             information,
         );
+        self.sums.pay(&history);
         place::append_history(&mut self.histories, history);
         self.payment_room = 0;
     }
@@ -90,6 +91,7 @@ impl Tables {
         };
         self.new_orders.append(waiting);
         self.orders.append(order);
+        self.sums.enter(&order, Cents::new(0));
         self.order_room = 0;
     }
 
@@ -111,12 +113,16 @@ impl Tables {
             ≡ after_delivery self.old.rows warehouse district order carrier moment }
     {
         let _seconds = moment.seconds();
-        let amount = delivery::amount(self.order_lines.lines_of(warehouse, district, order));
+        let lines = self.order_lines.lines_of(warehouse, district, order);
+        let amount = delivery::amount(lines);
+        let undelivered = delivery::amount_where(lines, false);
         let customer = delivery::customer_of(&self.orders, warehouse, district, order);
         delivery::remove_new_order(&mut self.new_orders, warehouse, district, order);
         delivery::carry(&mut self.orders, warehouse, district, order, carrier);
         self.order_lines.stamp(warehouse, district, order, moment);
         delivery::charge(&mut self.customers, warehouse, district, customer, amount);
+        self.sums
+            .deliver(warehouse, district, customer, undelivered);
         self.order_room = 0;
     }
 }

@@ -1,9 +1,12 @@
 use Rattle.std.proofs.Common.{◌∙◌, ◌<◌, length, refl, sym, ap, subst}
 use Rattle.tpcc_rows.specs.WellKeyed.{IsWellKeyed}
-use Rattle.tpcc_rows.specs.Tables.{is_district}
+use Rattle.tpcc_rows.specs.Tables.{Rows, is_district}
 use Rattle.tpcc_rows.specs.NewOrder.{with_next_order}
 use Rattle.tpcc_tables.specs.Held.{Held}
 use Rattle.tpcc_tables.proofs.ReadyLemmas.{ready-updated, ready-kept, keeps-same, parted}
+use Rattle.tpcc_tables.specs.Sums.{AreSums}
+use Rattle.tpcc_tables.proofs.SumRanges.{held_grow}
+use Rattle.tpcc_tables.proofs.SumWrites.{order_entered, entered_lines}
 use Rattle.tpcc_tables.specs.View.{rows_of}
 use Rattle.tpcc_tables.specs.Writes.{IsOrder, with_entered_order}
 use Rattle.tpcc_tables.proofs.SupplyLemmas.{near_starts}
@@ -37,6 +40,7 @@ invariant_of-self c =
     record {
       well_keyed = subst IsWellKeyed (sym written) (entered_is_well_keyed (rows_of c.self.inside) c.args.order c.args.lines.now (subst (λ (t : Held). IsOrder t.rows c.args.order c.args.lines.now) (sym c.self.view_is) c.requires.order) c.self.invariant.well_keyed);
       names = c.self.invariant.names;
+      sums = subst (λ (rows : Rows). AreSums rows c.enter.new.self) (sym written) (order_entered (rows_of c.self.inside) c.args.order c.args.lines.now c.new.result c.self.inside.sums c.enter.new.self (subst (λ (t : Held). IsOrder t.rows c.args.order c.args.lines.now) (sym c.self.view_is) c.requires.order) c.self.invariant.well_keyed.parents c.new.ensures c.self.invariant.sums c.enter.ensures);
       ready = rw c.raise_next_order.ensures (ready-updated c.self.inside.are_open 0 (is_district c.args.order.warehouse c.args.order.district) with_next_order c.self.inside.districts.items c.append-2.new.self c.append_all.new.self c.append.new.self (λ d. refl)
           (ready-kept c.self.inside.are_open c.self.inside.order_room c.self.inside.districts.items c.self.inside.orders c.append-2.new.self c.self.inside.order_lines c.append_all.new.self c.self.inside.new_orders c.append.new.self (keeps-same _ _ c.append-2.ensures.owners) (keeps-same _ _ c.append_all.ensures.owners) (keeps-same _ _ c.append.ensures.owners) c.self.invariant.ready));
       payments = c.self.invariant.payments;
@@ -65,3 +69,9 @@ append-requires-2-clause-owner c =
     let room = subst (λ (t : Held). length c.args.lines.now < t.order_room) (sym c.self.view_is) c.requires.room in
     let parts = parted c.self.inside.are_open c.self.inside.order_room (length c.args.lines.now) c.self.inside.districts.items c.self.inside.orders c.self.inside.order_lines c.self.inside.new_orders c.self.invariant.ready room in
     (owned c.self.inside.orders.owners (rows_of c.self.inside) c.args.order c.args.lines.now (subst (λ (t : Held). IsOrder t.rows c.args.order c.args.lines.now) (sym c.self.view_is) c.requires.order) parts.orders).order
+
+pub enter-requires-clause-room : goal.enter-requires-clause-room
+enter-requires-clause-room c = held_grow c.self.inside c.self.invariant
+
+pub enter-requires-clause-lines : goal.enter-requires-clause-lines
+enter-requires-clause-lines c = entered_lines (rows_of c.self.inside) c.args.order c.args.lines.now (subst (λ (t : Held). IsOrder t.rows c.args.order c.args.lines.now) (sym c.self.view_is) c.requires.order) c.self.invariant.well_keyed

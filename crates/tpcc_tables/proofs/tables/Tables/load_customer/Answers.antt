@@ -6,7 +6,10 @@ use Rattle.tpcc_keyed.proofs.NameLaws.{names_loaded}
 use Rattle.tpcc_tables.specs.Held.{Held}
 use Rattle.tpcc_tables.specs.View.{rows_of}
 use Rattle.tpcc_tables.specs.Loads.{customer_fault}
+use Rattle.tpcc_tables.specs.Sums.{customer_sums_key}
 use Rattle.tpcc_tables.proofs.LoadLemmas.{loaded_customer}
+use Rattle.tpcc_tables.proofs.SumRanges.{held_grow}
+use Rattle.tpcc_tables.proofs.SumEntries.{new_customer, new_customer_key}
 use Rattle.tpcc_tables.proofs.tables.Tables.load_customer.Goals as goal
 
 pub invariant_of-self-2 : goal.invariant_of-self-2
@@ -15,6 +18,14 @@ invariant_of-self-2 c =
     record {
       well_keyed = rw (c.insert_one.ensures, c.reserve.ensures.items) (loaded_customer (rows_of c.self.inside) c.args.row fault c.self.invariant.well_keyed);
       names = rw (c.in_default-load.ensures.loaded, c.insert_one.ensures, c.reserve.ensures.items) (ap (inserted name_before (name_of c.args.row)) c.self.invariant.names ∙ sym (names_loaded (by_key customer_key) c.args.row c.self.inside.customers.items));
+      sums = rw (c.insert_one.ensures, c.reserve.ensures.items) (record {
+        warehouses = c.self.invariant.sums.warehouses;
+        districts = c.self.invariant.sums.districts;
+        customers = new_customer (rows_of c.self.inside) c.self.invariant.well_keyed.parents c.self.inside.sums c.args.row _ (new_customer_key (rows_of c.self.inside) c.args.row fault) c.self.invariant.sums (c.insert_one-2.ensures ∙ (λ i. inserted (by_key customer_sums_key) (c.none-entry.ensures i) (c.reserve-2.ensures.items i)));
+      });
       ready = c.self.invariant.ready;
       payments = c.self.invariant.payments;
     }
+
+pub insert_one-requires-2-clause-keyed : goal.insert_one-requires-2-clause-keyed
+insert_one-requires-2-clause-keyed c = rw c.reserve-2.ensures.items (held_grow c.self.inside c.self.invariant).customers

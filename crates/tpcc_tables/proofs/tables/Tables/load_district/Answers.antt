@@ -3,7 +3,11 @@ use Rattle.tpcc_tables.specs.Held.{Held}
 use Rattle.tpcc_tables.proofs.ReadyLemmas.{ready-none}
 use Rattle.tpcc_tables.specs.View.{rows_of}
 use Rattle.tpcc_tables.specs.Loads.{district_fault}
+use Rattle.tpcc_rows.specs.Lists.{by_key, inserted}
+use Rattle.tpcc_tables.specs.Sums.{district_sums_key}
 use Rattle.tpcc_tables.proofs.LoadLemmas.{loaded_district}
+use Rattle.tpcc_tables.proofs.SumRanges.{held_grow}
+use Rattle.tpcc_tables.proofs.SumEntries.{new_district, new_district_key}
 use Rattle.tpcc_tables.proofs.tables.Tables.load_district.Goals as goal
 
 pub invariant_of-self-2 : goal.invariant_of-self-2
@@ -12,6 +16,14 @@ invariant_of-self-2 c =
     record {
       well_keyed = rw c.in_default-insert.ensures.inserted (loaded_district (rows_of c.self.inside) c.args.row fault c.self.invariant.well_keyed);
       names = c.self.invariant.names;
+      sums = rw c.in_default-insert.ensures.inserted (record {
+        warehouses = c.self.invariant.sums.warehouses;
+        districts = new_district (rows_of c.self.inside) c.self.invariant.well_keyed.parents c.self.inside.sums c.args.row _ (new_district_key (rows_of c.self.inside) c.args.row fault) c.self.invariant.sums (c.insert_one.ensures ∙ (λ i. inserted (by_key district_sums_key) (c.none-entry.ensures i) (c.reserve.ensures.items i)));
+        customers = c.self.invariant.sums.customers;
+      });
       ready = ready-none c.insert.new.rows.items c.self.inside.orders c.self.inside.order_lines c.self.inside.new_orders;
       payments = c.self.invariant.payments;
     }
+
+pub insert_one-requires-clause-keyed : goal.insert_one-requires-clause-keyed
+insert_one-requires-clause-keyed c = rw c.reserve.ensures.items (held_grow c.self.inside c.self.invariant).districts

@@ -3,6 +3,8 @@ use Rattle.tpcc_tables.specs.Held.{Held}
 use Rattle.tpcc_tables.specs.View.{rows_of}
 use Rattle.tpcc_tables.specs.Loads.{history_fault}
 use Rattle.tpcc_tables.proofs.LoadLemmas.{loaded_history}
+use Rattle.tpcc_tables.proofs.SumChanges.{paid}
+use Rattle.tpcc_tables.proofs.SumRanges.{held_grow}
 use Rattle.tpcc_tables.proofs.tables.Tables.load_history.Goals as goal
 
 pub invariant_of-self-2 : goal.invariant_of-self-2
@@ -11,6 +13,10 @@ invariant_of-self-2 c =
     record {
       well_keyed = rw c.in_default-push.ensures.appended (loaded_history (rows_of c.self.inside) c.args.row fault c.self.invariant.well_keyed);
       names = c.self.invariant.names;
+      sums = rw c.in_default-push.ensures.appended (paid (rows_of c.self.inside) c.args.row c.self.inside.sums c.pay.new.self c.self.invariant.sums c.pay.ensures);
       ready = c.self.invariant.ready;
       payments = search rules;
     }
+
+pub pay-requires : goal.pay-requires
+pay-requires c = held_grow c.self.inside c.self.invariant

@@ -11,6 +11,11 @@ invariant_of-self-2 c =
     record {
       well_keyed = rw c.in_default-insert.ensures.inserted (loaded_item (rows_of c.self.inside) c.args.row fault c.self.invariant.well_keyed);
       names = c.self.invariant.names;
+      sums = record {
+        warehouses = c.self.invariant.sums.warehouses;
+        districts = c.self.invariant.sums.districts;
+        customers = c.self.invariant.sums.customers;
+      };
       ready = c.self.invariant.ready;
       payments = c.self.invariant.payments;
     }

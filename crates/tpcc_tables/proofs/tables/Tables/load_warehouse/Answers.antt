@@ -2,7 +2,11 @@ use Rattle.std.proofs.Common.{sym, subst, ◌∙◌, ◌≡◌, None}
 use Rattle.tpcc_tables.specs.Held.{Held}
 use Rattle.tpcc_tables.specs.View.{rows_of}
 use Rattle.tpcc_tables.specs.Loads.{warehouse_fault}
+use Rattle.tpcc_rows.specs.Lists.{by_key, inserted}
+use Rattle.tpcc_tables.specs.Sums.{warehouse_sums_key}
 use Rattle.tpcc_tables.proofs.LoadLemmas.{loaded_warehouse}
+use Rattle.tpcc_tables.proofs.SumRanges.{held_grow}
+use Rattle.tpcc_tables.proofs.SumEntries.{new_warehouse, new_warehouse_key}
 use Rattle.tpcc_tables.proofs.tables.Tables.load_warehouse.Goals as goal
 
 pub invariant_of-self-2 : goal.invariant_of-self-2
@@ -11,6 +15,14 @@ invariant_of-self-2 c =
     record {
       well_keyed = rw c.in_default-insert.ensures.inserted (loaded_warehouse (rows_of c.self.inside) c.args.row fault c.self.invariant.well_keyed);
       names = c.self.invariant.names;
+      sums = rw c.in_default-insert.ensures.inserted (record {
+        warehouses = new_warehouse (rows_of c.self.inside) c.self.invariant.well_keyed.parents c.self.inside.sums c.args.row _ (new_warehouse_key (rows_of c.self.inside) c.args.row fault) c.self.invariant.sums (c.insert_one.ensures ∙ (λ i. inserted (by_key warehouse_sums_key) (c.none-entry.ensures i) (c.reserve.ensures.items i)));
+        districts = c.self.invariant.sums.districts;
+        customers = c.self.invariant.sums.customers;
+      });
       ready = c.self.invariant.ready;
       payments = c.self.invariant.payments;
     }
+
+pub insert_one-requires-clause-keyed : goal.insert_one-requires-clause-keyed
+insert_one-requires-clause-keyed c = rw c.reserve.ensures.items (held_grow c.self.inside c.self.invariant).warehouses

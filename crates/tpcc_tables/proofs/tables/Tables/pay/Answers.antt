@@ -5,6 +5,9 @@ use Rattle.tpcc_rows.specs.Tables.{is_district, is_customer}
 use Rattle.tpcc_tables.specs.Writes.{with_payment, IsPayment, richer_district, charged_customer}
 use Rattle.tpcc_keyed.proofs.NameLaws.{names_kept}
 use Rattle.tpcc_tables.proofs.ReadyLemmas.{ready-updated}
+use Rattle.tpcc_tables.proofs.SumChanges.{paid}
+use Rattle.tpcc_tables.proofs.SumRanges.{held_grow}
+use Rattle.tpcc_tables.proofs.SumWrites.{paid_rows}
 use Rattle.tpcc_tables.proofs.PayLemmas.{payable, paid_is_well_keyed}
 use Rattle.tpcc_tables.proofs.tables.Tables.pay.Goals as goal
 
@@ -40,6 +43,7 @@ invariant_of-self c =
     record {
       well_keyed = rw (c.pay_warehouse.ensures, c.pay_district.ensures, c.pay_customer.ensures, c.append_history.ensures) (paid_is_well_keyed (rows_of c.self.inside) c.args.history c.args.information k c.self.invariant.well_keyed);
       names = rw c.pay_customer.ensures (c.self.invariant.names ∙ sym (names_kept (is_customer c.args.history.customer_warehouse c.args.history.customer_district c.args.history.customer) (charged_customer c.args.history.amount c.args.information) (λ x. refl) c.self.inside.customers.items));
+      sums = rw (c.pay_warehouse.ensures, c.pay_district.ensures, c.pay_customer.ensures, c.append_history.ensures) (paid_rows (rows_of c.self.inside) c.args.history c.args.information c.pay.new.self (paid (rows_of c.self.inside) c.args.history c.self.inside.sums c.pay.new.self c.self.invariant.sums c.pay.ensures));
       ready = rw c.pay_district.ensures (ready-updated c.self.inside.are_open c.self.inside.order_room (is_district c.args.history.warehouse c.args.history.district) (richer_district c.args.history.amount) c.self.inside.districts.items c.self.inside.orders c.self.inside.order_lines c.self.inside.new_orders (λ d. refl) c.self.invariant.ready);
       payments = search rules;
     }
@@ -48,3 +52,6 @@ pub returns : goal.returns
 unfolding with_payment
 returns c =
     rw (c.pay_warehouse.ensures, c.pay_district.ensures, c.pay_customer.ensures, c.append_history.ensures, ← c.self.view_is) refl
+
+pub pay-requires : goal.pay-requires
+pay-requires c = held_grow c.self.inside c.self.invariant

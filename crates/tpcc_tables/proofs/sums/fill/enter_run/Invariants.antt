@@ -1,0 +1,7 @@
+use Rattle.std.proofs.Common.{◌+◌, length}
+use Rattle.tpcc_tables.specs.Listed.{listed}
+use Rattle.tpcc_tables.specs.Sums.{AreSums, first_rows}
+use Rattle.tpcc_tables.proofs.sums.fill.enter_run.Given as goal
+
+abbrev pub invariant-loop-order : goal.invariant-loop-order
+invariant-loop-order l = AreSums (first_rows (listed l.lists) (length (listed l.lists).histories) (l.start + l.order-index)) l.sums
