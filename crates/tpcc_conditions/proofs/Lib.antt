@@ -1,7 +1,5 @@
-mod SumLemmas
-mod KnownLemmas
 mod NumberLemmas
-mod DeliveredLemmas
+mod DistrictLemmas
 mod FirstLemmas
 mod StockedLemmas
 mod OpeningLemmas

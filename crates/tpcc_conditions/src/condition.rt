@@ -1,12 +1,9 @@
 //! The conditions, and the first row at which one of them fails.
 ghost use Rattle.std.specs.Prelude.{◌≡◌, IfErr, OnOk, Some, None, option_map, if◌then◌else◌};
 ghost use Rattle.tpcc_conditions.specs.Broken.{as_model};
-ghost use Rattle.tpcc_conditions.specs.Known.{AreTotals};
 ghost use Rattle.tpcc_conditions.specs.First.{failing_at, first_of, tested_table};
 
 use crate::broken::{Broken, at_customer, at_district, at_order, at_order_line, at_warehouse};
-use crate::column::Column;
-use crate::totals::Totals;
 use crate::{keeps, places};
 use tpcc_rows::row::Table;
 use tpcc_tables::tables::Tables;
@@ -36,13 +33,7 @@ fn unless(keeps: bool, broken: Broken) -> Option<Broken>
 }
 
 #[tactic(auto, unfolding(crate::specs::First::failing_at))]
-fn broken_warehouse(
-    tables: &Tables,
-    totals: &Totals,
-    condition: Condition,
-    position: usize,
-) -> Option<Broken>
-    requires known { AreTotals ⟦<Column as PartialEq>⟧.eq totals.now tables.now.rows }
+fn broken_warehouse(tables: &Tables, condition: Condition, position: usize) -> Option<Broken>
     requires tested { tested_table condition ≡ Table.Warehouse }
     ensures { option_map as_model result ≡ failing_at condition tables.now.rows position }
 {
@@ -53,7 +44,7 @@ fn broken_warehouse(
             at_warehouse(1, row),
         ),
         Condition::Eight => unless(
-            keeps::payments_of_warehouse(tables, totals, row),
+            keeps::payments_of_warehouse(tables, row),
             at_warehouse(8, row),
         ),
         _ => None,
@@ -61,30 +52,21 @@ fn broken_warehouse(
 }
 
 #[tactic(auto, unfolding(crate::specs::First::failing_at))]
-fn broken_district(
-    tables: &Tables,
-    totals: &Totals,
-    condition: Condition,
-    position: usize,
-) -> Option<Broken>
-    requires known { AreTotals ⟦<Column as PartialEq>⟧.eq totals.now tables.now.rows }
+fn broken_district(tables: &Tables, condition: Condition, position: usize) -> Option<Broken>
     requires tested { tested_table condition ≡ Table.District }
     ensures { option_map as_model result ≡ failing_at condition tables.now.rows position }
 {
     let row = places::district(tables, position)?;
     match condition {
         Condition::Two => unless(keeps::next_number(tables, row), at_district(2, row)),
-        Condition::Three => unless(keeps::no_gap(tables, totals, row), at_district(3, row)),
-        Condition::Four => unless(
-            keeps::lines_of_district(tables, totals, row),
-            at_district(4, row),
-        ),
+        Condition::Three => unless(keeps::no_gap(tables, row), at_district(3, row)),
+        Condition::Four => unless(keeps::lines_of_district(tables, row), at_district(4, row)),
         Condition::Nine => unless(
-            keeps::payments_of_district(tables, totals, row),
+            keeps::payments_of_district(tables, row),
             at_district(9, row),
         ),
         Condition::Eleven(customers) => unless(
-            keeps::delivered_orders(tables, totals, row, customers),
+            keeps::delivered_orders(tables, row, customers),
             at_district(11, row),
         ),
         _ => None,
@@ -92,20 +74,14 @@ fn broken_district(
 }
 
 #[tactic(auto, unfolding(crate::specs::First::failing_at))]
-fn broken_order(
-    tables: &Tables,
-    totals: &Totals,
-    condition: Condition,
-    position: usize,
-) -> Option<Broken>
-    requires known { AreTotals ⟦<Column as PartialEq>⟧.eq totals.now tables.now.rows }
+fn broken_order(tables: &Tables, condition: Condition, position: usize) -> Option<Broken>
     requires tested { tested_table condition ≡ Table.Order }
     ensures { option_map as_model result ≡ failing_at condition tables.now.rows position }
 {
     let row = places::order(tables, position)?;
     match condition {
         Condition::Five => unless(keeps::carrier(tables, row), at_order(5, row)),
-        Condition::Six => unless(keeps::lines_of_order(tables, totals, row), at_order(6, row)),
+        Condition::Six => unless(keeps::lines_of_order(tables, row), at_order(6, row)),
         _ => None,
     }
 }
@@ -119,21 +95,15 @@ fn broken_line(tables: &Tables, position: usize) -> Option<Broken>
 }
 
 #[tactic(auto, unfolding(crate::specs::First::failing_at))]
-fn broken_customer(
-    tables: &Tables,
-    totals: &Totals,
-    condition: Condition,
-    position: usize,
-) -> Option<Broken>
-    requires known { AreTotals ⟦<Column as PartialEq>⟧.eq totals.now tables.now.rows }
+fn broken_customer(tables: &Tables, condition: Condition, position: usize) -> Option<Broken>
     requires tested { tested_table condition ≡ Table.Customer }
     ensures { option_map as_model result ≡ failing_at condition tables.now.rows position }
 {
     let row = places::customer(tables, position)?;
     match condition {
-        Condition::Ten => unless(keeps::balance(tables, totals, row), at_customer(10, row)),
+        Condition::Ten => unless(keeps::balance(tables, row), at_customer(10, row)),
         Condition::Twelve => unless(
-            keeps::balance_and_payments(tables, totals, row),
+            keeps::balance_and_payments(tables, row),
             at_customer(12, row),
         ),
         _ => None,
@@ -141,25 +111,19 @@ fn broken_customer(
 }
 
 /// What is broken at the row at a place, if there is a row and it fails.
-fn broken_at(
-    tables: &Tables,
-    totals: &Totals,
-    condition: Condition,
-    position: usize,
-) -> Option<Broken>
-    requires known { AreTotals ⟦<Column as PartialEq>⟧.eq totals.now tables.now.rows }
+fn broken_at(tables: &Tables, condition: Condition, position: usize) -> Option<Broken>
     ensures { option_map as_model result ≡ failing_at condition tables.now.rows position }
 {
     match condition {
-        Condition::One | Condition::Eight => broken_warehouse(tables, totals, condition, position),
+        Condition::One | Condition::Eight => broken_warehouse(tables, condition, position),
         Condition::Two
         | Condition::Three
         | Condition::Four
         | Condition::Nine
-        | Condition::Eleven(_) => broken_district(tables, totals, condition, position),
-        Condition::Five | Condition::Six => broken_order(tables, totals, condition, position),
+        | Condition::Eleven(_) => broken_district(tables, condition, position),
+        Condition::Five | Condition::Six => broken_order(tables, condition, position),
         Condition::Seven => broken_line(tables, position),
-        Condition::Ten | Condition::Twelve => broken_customer(tables, totals, condition, position),
+        Condition::Ten | Condition::Twelve => broken_customer(tables, condition, position),
     }
 }
 
@@ -183,13 +147,12 @@ fn table(condition: Condition) -> Table
 }
 
 /// Tests a condition at the rows of its table, in the order of their keys.
-pub fn test(tables: &Tables, totals: &Totals, condition: Condition) -> Result<(), Broken>
-    requires known { AreTotals ⟦<Column as PartialEq>⟧.eq totals.now tables.now.rows }
+pub fn test(tables: &Tables, condition: Condition) -> Result<(), Broken>
     ensures held { OnOk result (first_of condition tables.now.rows ≡ None) }
     ensures broken { IfErr result (λ b. first_of condition tables.now.rows ≡ Some (as_model b)) }
 {
     for position in 0..tables.count(table(condition)) {
-        if let Some(broken) = broken_at(tables, totals, condition, position) {
+        if let Some(broken) = broken_at(tables, condition, position) {
             return Err(broken);
         }
     }

@@ -1,32 +1,21 @@
 //! Conditions of one row (3.3.2).
-ghost use Rattle.std.specs.Prelude.{◌≡◌, ◌+ℤ◌, ◌-ℤ◌, ◌+◌, ◌==◌, is_none, length, unwrap_or};
+ghost use Rattle.std.specs.Prelude.{◌≡◌, ◌+ℤ◌, ◌-ℤ◌, ◌+◌, ◌==◌, ◌||◌, is_none, length, unwrap_or};
 ghost use Rattle.std.specs.Ordering.{int_eq};
 ghost use Rattle.tpcc_rows.specs.Lists.{largest};
 ghost use Rattle.tpcc_rows.specs.Tables.{order_at};
-ghost use Rattle.tpcc_conditions.specs.Known.{AreTotals};
-ghost use Rattle.tpcc_rows.specs.Conditions.{keeps_1, keeps_2, keeps_3, keeps_4, keeps_5, keeps_6, keeps_7, keeps_8, keeps_9, keeps_10, keeps_11, keeps_12, new_order_numbers};
+ghost use Rattle.tpcc_rows.specs.Conditions.{keeps_1, keeps_2, keeps_3, keeps_4, keeps_5, keeps_6, keeps_7, keeps_8, keeps_9, keeps_10, keeps_11, keeps_12, largest_order, new_order_numbers};
 
-use crate::column::Column;
-use crate::totals::Totals;
-use crate::{numbers, sums};
+use crate::district_totals::district_totals;
 use tpcc_money::Cents;
 use tpcc_rows::rows::*;
-use tpcc_tables::tables::Tables;
+use tpcc_tables::Tables;
 
 /// Condition 1: W_YTD is the sum of D_YTD.
 #[tactic(auto, unfolding(tpcc_rows::specs::Conditions::keeps_1))]
 pub fn totals_of_districts(tables: &Tables, row: &WarehouseRow) -> bool
     ensures { result ≡ keeps_1 tables.now.rows row.now }
 {
-    i128::from(row.ytd.value()) == sums::district_totals(tables, row.id)
-}
-
-/// Whether a district has no NEW-ORDER row.
-#[tactic(auto, using(crate::proofs::NumberLemmas::no_smallest))]
-fn has_no_new_order(tables: &Tables, row: &DistrictRow) -> bool
-    ensures { result ≡ (length (new_order_numbers tables.now.rows row.now) == 0) }
-{
-    tables.oldest_new(row.warehouse, row.id).is_none()
+    i128::from(row.ytd.value()) == district_totals(tables, row.id)
 }
 
 /// Whether D_NEXT_O_ID follows a number.
@@ -36,60 +25,78 @@ fn is_next(row: &DistrictRow, number: u32) -> bool
     u64::from(row.next_order) == u64::from(number) + 1
 }
 
+/// Whether D_NEXT_O_ID follows the largest O_ID, or is 1 where there is no order.
+fn follows_orders(tables: &Tables, row: &DistrictRow) -> bool
+    ensures { result ≡ (row.now.next_order == largest_order tables.now.rows row.now + 1) }
+{
+    match tables.newest_order(row.warehouse, row.id) {
+        Some(newest) => is_next(row, newest),
+        None => is_next(row, 0),
+    }
+}
+
+/// Whether D_NEXT_O_ID follows the largest NO_O_ID, if there is one.
+#[tactic(auto, using(crate::proofs::NumberLemmas::none_largest))]
+fn follows_new_orders(tables: &Tables, row: &DistrictRow) -> bool
+    ensures { result ≡ ((length (new_order_numbers tables.now.rows row.now) == 0)
+        || (row.now.next_order
+        == unwrap_or (largest (new_order_numbers tables.now.rows row.now)) 0 + 1)) }
+{
+    match tables.newest_new(row.warehouse, row.id) {
+        Some(newest) => is_next(row, newest),
+        None => true,
+    }
+}
+
 /// Condition 2: D_NEXT_O_ID follows the largest O_ID and the largest NO_O_ID.
 #[tactic(auto, unfolding(tpcc_rows::specs::Conditions::keeps_2))]
 pub fn next_number(tables: &Tables, row: &DistrictRow) -> bool
     ensures { result ≡ keeps_2 tables.now.rows row.now }
 {
-    let order = numbers::largest_order(tables, row.warehouse, row.id);
-    let new_order = numbers::largest_new(tables, row.warehouse, row.id);
-    is_next(row, order) && (has_no_new_order(tables, row) || is_next(row, new_order))
+    follows_orders(tables, row) && follows_new_orders(tables, row)
 }
 
 /// Whether the NO_O_IDs of a district are as many as from the oldest one to the newest.
-#[tactic(auto, using(crate::proofs::NumberLemmas::span, crate::proofs::NumberLemmas::length_map))]
-fn is_span(tables: &Tables, totals: &Totals, row: &DistrictRow, oldest: u32) -> bool
-    requires known { AreTotals ⟦<Column as PartialEq>⟧.eq totals.now tables.now.rows }
-    ensures { result ≡ (unwrap_or (largest (new_order_numbers tables.now.rows row.now)) 0 + 1
+fn is_span(tables: &Tables, row: &DistrictRow, oldest: u32, newest: u32) -> bool
+    ensures { result ≡ (newest + 1
         == oldest + length (new_order_numbers tables.now.rows row.now)) }
 {
-    let newest = numbers::largest_new(tables, row.warehouse, row.id);
-    i128::from(newest) + 1 - i128::from(oldest)
-        == sums::new_orders(tables, totals, row.warehouse, row.id)
+    let count = tables.new_order_count(row.warehouse, row.id);
+    u128::from(newest) + 1 == u128::from(oldest) + count as u128
 }
 
 /// Condition 3: the NO_O_IDs have no gap.
-#[tactic(auto, unfolding(tpcc_rows::specs::Conditions::keeps_3), using(crate::proofs::NumberLemmas::none_length))]
-pub fn no_gap(tables: &Tables, totals: &Totals, row: &DistrictRow) -> bool
-    requires known { AreTotals ⟦<Column as PartialEq>⟧.eq totals.now tables.now.rows }
+#[tactic(auto, unfolding(tpcc_rows::specs::Conditions::keeps_3), using(crate::proofs::NumberLemmas::none_largest, crate::proofs::NumberLemmas::none_smallest))]
+pub fn no_gap(tables: &Tables, row: &DistrictRow) -> bool
     ensures { result ≡ keeps_3 tables.now.rows row.now }
 {
-    match tables.oldest_new(row.warehouse, row.id) {
-        Some(oldest) => is_span(tables, totals, row, oldest),
-        None => true,
-    }
+    let Some(oldest) = tables.oldest_new(row.warehouse, row.id) else {
+        return true;
+    };
+    let Some(newest) = tables.newest_new(row.warehouse, row.id) else {
+        return true;
+    };
+    is_span(tables, row, oldest, newest)
 }
 
 /// Condition 11, of an opening: 7/10 as many orders as customers are delivered.
-#[tactic(auto, unfolding(tpcc_rows::specs::Conditions::keeps_11), using(crate::proofs::NumberLemmas::more_by))]
-pub fn delivered_orders(tables: &Tables, totals: &Totals, row: &DistrictRow, customers: u32) -> bool
-    requires known { AreTotals ⟦<Column as PartialEq>⟧.eq totals.now tables.now.rows }
+#[tactic(auto, unfolding(tpcc_rows::specs::Conditions::keeps_11))]
+pub fn delivered_orders(tables: &Tables, row: &DistrictRow, customers: u32) -> bool
     ensures { result ≡ keeps_11 customers tables.now.rows row.now }
 {
     let delivered = 7 * u64::from(customers) / 10;
-    sums::orders(tables, totals, row.warehouse, row.id)
-        - sums::new_orders(tables, totals, row.warehouse, row.id)
-        == i128::from(delivered)
+    let orders = tables.order_count(row.warehouse, row.id);
+    let new_orders = tables.new_order_count(row.warehouse, row.id);
+    orders as u128 == new_orders as u128 + u128::from(delivered)
 }
 
 /// Condition 4: the sum of O_OL_CNT is the number of ORDER-LINE rows.
-#[tactic(auto, unfolding(tpcc_rows::specs::Conditions::keeps_4), using(crate::proofs::SumLemmas::pos_eq))]
-pub fn lines_of_district(tables: &Tables, totals: &Totals, row: &DistrictRow) -> bool
-    requires known { AreTotals ⟦<Column as PartialEq>⟧.eq totals.now tables.now.rows }
+#[tactic(auto, unfolding(tpcc_rows::specs::Conditions::keeps_4), using(crate::proofs::NumberLemmas::pos_eq))]
+pub fn lines_of_district(tables: &Tables, row: &DistrictRow) -> bool
     ensures { result ≡ keeps_4 tables.now.rows row.now }
 {
-    sums::line_counts(tables, totals, row.warehouse, row.id)
-        == sums::lines(tables, totals, row.warehouse, row.id)
+    let lines = tables.line_count(row.warehouse, row.id);
+    tables.counted_lines(row.warehouse, row.id) == lines as i128
 }
 
 /// Condition 5: O_CARRIER_ID is null exactly if there is a NEW-ORDER row.
@@ -104,13 +111,11 @@ pub fn carrier(tables: &Tables, row: &OrderRow) -> bool
 }
 
 /// Condition 6: O_OL_CNT is the number of the order's ORDER-LINE rows.
-#[tactic(auto, unfolding(tpcc_rows::specs::Conditions::keeps_6), using(crate::proofs::SumLemmas::pos_eq))]
-pub fn lines_of_order(tables: &Tables, totals: &Totals, row: &OrderRow) -> bool
-    requires known { AreTotals ⟦<Column as PartialEq>⟧.eq totals.now tables.now.rows }
+#[tactic(auto, unfolding(tpcc_rows::specs::Conditions::keeps_6))]
+pub fn lines_of_order(tables: &Tables, row: &OrderRow) -> bool
     ensures { result ≡ keeps_6 tables.now.rows row.now }
 {
-    i128::from(row.line_count)
-        == sums::lines_of(tables, totals, row.warehouse, row.district, row.id)
+    row.line_count as usize == tables.order_line_count(row.warehouse, row.district, row.id)
 }
 
 /// Whether an order's carrier is null, as it is of an order that is not there.
@@ -133,20 +138,18 @@ pub fn delivery_date(tables: &Tables, row: &OrderLineRow) -> bool
 
 /// Condition 8: W_YTD is the sum of H_AMOUNT paid into the warehouse.
 #[tactic(auto, unfolding(tpcc_rows::specs::Conditions::keeps_8))]
-pub fn payments_of_warehouse(tables: &Tables, totals: &Totals, row: &WarehouseRow) -> bool
-    requires known { AreTotals ⟦<Column as PartialEq>⟧.eq totals.now tables.now.rows }
+pub fn payments_of_warehouse(tables: &Tables, row: &WarehouseRow) -> bool
     ensures { result ≡ keeps_8 tables.now.rows row.now }
 {
-    i128::from(row.ytd.value()) == sums::paid_into_warehouse(tables, totals, row.id)
+    i128::from(row.ytd.value()) == tables.warehouse_paid(row.id)
 }
 
 /// Condition 9: D_YTD is the sum of H_AMOUNT paid into the district.
 #[tactic(auto, unfolding(tpcc_rows::specs::Conditions::keeps_9))]
-pub fn payments_of_district(tables: &Tables, totals: &Totals, row: &DistrictRow) -> bool
-    requires known { AreTotals ⟦<Column as PartialEq>⟧.eq totals.now tables.now.rows }
+pub fn payments_of_district(tables: &Tables, row: &DistrictRow) -> bool
     ensures { result ≡ keeps_9 tables.now.rows row.now }
 {
-    i128::from(row.ytd.value()) == sums::paid_into_district(tables, totals, row.warehouse, row.id)
+    i128::from(row.ytd.value()) == tables.district_paid(row.warehouse, row.id)
 }
 
 /// Whether a balance is what was delivered less what was paid.
@@ -161,12 +164,11 @@ fn is_difference(balance: Cents, delivered: i128, paid: i128) -> bool
 
 /// Condition 10: C_BALANCE is the sum of the delivered OL_AMOUNT less the sum of H_AMOUNT.
 #[tactic(auto, unfolding(tpcc_rows::specs::Conditions::keeps_10))]
-pub fn balance(tables: &Tables, totals: &Totals, row: &CustomerRow) -> bool
-    requires known { AreTotals ⟦<Column as PartialEq>⟧.eq totals.now tables.now.rows }
+pub fn balance(tables: &Tables, row: &CustomerRow) -> bool
     ensures { result ≡ keeps_10 tables.now.rows row.now }
 {
-    let delivered = sums::delivered_to(tables, totals, row);
-    let paid = sums::paid_by(tables, totals, row.warehouse, row.district, row.id);
+    let delivered = tables.customer_delivered(row.warehouse, row.district, row.id);
+    let paid = tables.customer_paid(row.warehouse, row.district, row.id);
     is_difference(row.balance, delivered, paid)
 }
 
@@ -179,9 +181,9 @@ fn both(a: Cents, b: Cents) -> i128
 
 /// Condition 12: C_BALANCE and C_YTD_PAYMENT together are the sum of the delivered OL_AMOUNT.
 #[tactic(auto, unfolding(tpcc_rows::specs::Conditions::keeps_12))]
-pub fn balance_and_payments(tables: &Tables, totals: &Totals, row: &CustomerRow) -> bool
-    requires known { AreTotals ⟦<Column as PartialEq>⟧.eq totals.now tables.now.rows }
+pub fn balance_and_payments(tables: &Tables, row: &CustomerRow) -> bool
     ensures { result ≡ keeps_12 tables.now.rows row.now }
 {
-    both(row.balance, row.ytd_payment) == sums::delivered_to(tables, totals, row)
+    both(row.balance, row.ytd_payment)
+        == tables.customer_delivered(row.warehouse, row.district, row.id)
 }

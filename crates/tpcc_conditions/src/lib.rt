@@ -3,18 +3,12 @@
 
 pub mod all;
 pub mod broken;
-mod column;
 mod condition;
-mod delivered;
+mod district_totals;
 mod keeps;
-mod known;
-mod measure;
-mod numbers;
 mod places;
 mod stocked;
-mod sums;
-mod totals;
 
-pub use all::{check, check_at_once, check_opening, nothing_broken_at_opening};
+pub use all::{check, check_opening, nothing_broken_at_opening};
 pub use broken::Broken;
 pub use stocked::{is_stocked, stock_stays};

@@ -39,17 +39,6 @@ pub fn customer(tables: &Tables, position: usize) -> Option<&CustomerRow>
     }
 }
 
-/// The HISTORY row at a place.
-#[tactic(auto, unfolding(tpcc_tables::specs::Positions::row_at))]
-pub fn history(tables: &Tables, position: usize) -> Option<&HistoryRow>
-    ensures { option_copied result ≡ slice_get tables.now.rows.histories position }
-{
-    match tables.row(Table::History, position) {
-        Some(RowRef::History(row)) => Some(row),
-        _ => None,
-    }
-}
-
 /// The ORDER row at a place.
 #[tactic(auto, unfolding(tpcc_tables::specs::Positions::row_at))]
 pub fn order(tables: &Tables, position: usize) -> Option<&OrderRow>
@@ -68,17 +57,6 @@ pub fn line(tables: &Tables, position: usize) -> Option<&OrderLineRow>
 {
     match tables.row(Table::OrderLine, position) {
         Some(RowRef::OrderLine(row)) => Some(row),
-        _ => None,
-    }
-}
-
-/// The NEW-ORDER row at a place.
-#[tactic(auto, unfolding(tpcc_tables::specs::Positions::row_at))]
-pub fn new_order(tables: &Tables, position: usize) -> Option<NewOrderRow>
-    ensures { result ≡ slice_get tables.now.rows.new_orders position }
-{
-    match tables.row(Table::NewOrder, position) {
-        Some(RowRef::NewOrder(row)) => Some(row),
         _ => None,
     }
 }

@@ -5,7 +5,7 @@ ghost use Rattle.tpcc_rows.specs.Replay.{results_of};
 ghost use Rattle.tpcc_terminal.specs.Screens as screens;
 
 use std::alloc::Global;
-use tpcc_conditions::check_at_once;
+use tpcc_conditions::check;
 use tpcc_journal::{Journal, results};
 use tpcc_money::NoMemory;
 use tpcc_tables::Tables;
@@ -15,7 +15,7 @@ use tpcc_terminal::{Screen, broken_screen, consistent_screen};
 pub fn check_screen(alloc: Global, tables: &Tables) -> Result<Screen, NoMemory>
     ensures shown { IfOk result (λ s. s ≡ screens.check_screen (first_broken tables.now.rows)) }
 {
-    match check_at_once(tables, alloc) {
+    match check(tables) {
         Ok(()) => consistent_screen(alloc),
         Err(broken) => broken_screen(
             alloc,

@@ -88,7 +88,7 @@ pub fn enter_district(
     };
     if let Some(place) = search::place_of(entries.as_slice(), &key) {
         let entry = &mut entries[place];
-        entry.counted_lines = entry.counted_lines + line_count;
+        entry.counted_lines += line_count;
     }
 }
 
