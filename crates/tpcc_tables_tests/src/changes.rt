@@ -1,5 +1,5 @@
 //! One change of the opening, so that one condition is broken or one column is near its limit.
-use tpcc_money::Cents;
+use tpcc_money::{Cents, Moment};
 use tpcc_rows::{
     CustomerRow, DistrictRow, Field, NewOrderRow, OrderLineRow, OrderRow, Row, WarehouseRow,
 };
@@ -21,6 +21,8 @@ pub enum Change {
     LineAdded,
     LineCounts,
     LineUndelivered,
+    LineDelivered,
+    OneCustomer,
     Balance,
     YtdPayment,
     NearLimit(Field),
@@ -85,20 +87,32 @@ fn customer(change: Change, row: CustomerRow) -> CustomerRow {
     row
 }
 
-/// O_OL_CNT of order 4.
+/// O_OL_CNT of order 4, or who ordered.
 fn order(change: Change, row: OrderRow) -> OrderRow {
     let line_count = match (change, row.district, row.id) {
         (Change::LineCounts, 1, 4) => 6,
         _ => 5,
     };
-    OrderRow { line_count, ..row }
+    let customer = match (change, row.district) {
+        (Change::OneCustomer, 1) => 1,
+        _ => row.customer,
+    };
+    OrderRow {
+        line_count,
+        customer,
+        ..row
+    }
 }
 
-/// OL_DELIVERY_D of line 4 of order 2.
+/// OL_DELIVERY_D of line 4 of order 2, or of order 8.
 fn order_line(change: Change, row: OrderLineRow) -> OrderLineRow {
     match (change, row.district, row.order, row.number) {
         (Change::LineUndelivered, 1, 2, 4) => OrderLineRow {
             delivered: None,
+            ..row
+        },
+        (Change::LineDelivered, 1, 8, 4) => OrderLineRow {
+            delivered: Some(Moment::new(0)),
             ..row
         },
         _ => row,

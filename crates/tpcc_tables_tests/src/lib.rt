@@ -12,4 +12,6 @@ mod opening;
 #[cfg(test)]
 mod stories;
 #[cfg(test)]
+mod totals;
+#[cfg(test)]
 mod transactions;

@@ -4,6 +4,7 @@ ghost use Rattle.tpcc_rows.specs.WellKeyed.{IsStocked};
 use crate::conditions::{are_named, is_opening_of_ten};
 use crate::loads::{are_loaded, refuse_out_of_range, refuse_taken, refuse_without_owners};
 use crate::opening::plain_tables;
+use crate::totals::{are_counted, are_nothing, count_loaded, pay_elsewhere};
 use crate::transactions::{enter_one, leave_behind, pass_over_gap, pay_each, reach_limits};
 use std::alloc::AllocGlobal;
 use std::process::Abort;
@@ -21,6 +22,10 @@ pub enum Story {
     Limits,
     LeftBehind,
     Gap,
+    Counted,
+    Nothing,
+    PaidElsewhere,
+    LoadedSums,
 }
 
 pub fn told(rt: &(impl Abort + AllocGlobal), story: Story) {
@@ -43,5 +48,9 @@ fn happens(rt: &(impl Abort + AllocGlobal), tables: &mut Tables, story: Story)
         Story::Limits => reach_limits(rt, tables),
         Story::LeftBehind => leave_behind(rt, tables),
         Story::Gap => pass_over_gap(rt, tables),
+        Story::Counted => are_counted(rt, tables),
+        Story::Nothing => are_nothing(rt, tables),
+        Story::PaidElsewhere => pay_elsewhere(rt, tables),
+        Story::LoadedSums => count_loaded(rt, tables),
     }
 }

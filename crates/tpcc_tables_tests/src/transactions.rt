@@ -5,6 +5,7 @@ use crate::changes::Change;
 use crate::conditions::at;
 use crate::opening::{load_changed, scale};
 use crate::stories::{Story, told};
+use crate::totals::{delivery_is_counted, order_is_counted};
 use std::alloc::AllocGlobal;
 use std::mem::size_of;
 use std::process::Abort;
@@ -56,6 +57,7 @@ pub fn enter_one(rt: &(impl Abort + AllocGlobal), tables: &mut Tables)
 {
     let total = total(enter(tables, &order(rt)));
     assert!(rt; total == Some(Cents::new(5495)));
+    order_is_counted(rt, tables);
 }
 
 #[test]
@@ -144,7 +146,7 @@ fn order_in(run: Delivery, district: u32) -> Option<u32> {
 }
 
 /// Queues a ticket and makes its ten runs; gives the order that was delivered in that district.
-fn delivered_in(
+pub fn delivered_in(
     rt: &impl Abort,
     tables: &mut Tables,
     waiting: &mut Queue,
@@ -168,6 +170,7 @@ fn delivered_in(
 pub fn leave_behind(rt: &(impl Abort + AllocGlobal), tables: &mut Tables) {
     let delivered = delivered_in(rt, tables, &mut Queue::new(rt.alloc()), 10);
     assert!(rt; (delivered, tables.oldest_new(1, 10)) == (Some(8), Some(9)));
+    delivery_is_counted(rt, tables);
     let answers = [check(tables), check_opening(tables, scale(rt, 10))];
     assert!(rt; answers == [Ok(()), at(11, 1, 0)]);
 }
