@@ -25,7 +25,7 @@ pub struct Sums {
 }
 
 impl Sums {
-    /// Of tables with no rows.
+    /// The sums of tables with no rows.
     pub fn empty(alloc: Global) -> Sums
         ensures warehouses { result.warehouses.items ≡ [] }
         ensures districts { result.districts.items ≡ [] }

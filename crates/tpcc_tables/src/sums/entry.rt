@@ -47,7 +47,7 @@ pub struct CustomerSums {
 }
 
 impl WarehouseSums {
-    /// Of a warehouse for which nothing is counted yet.
+    /// The sums of a warehouse for which nothing is counted yet.
     pub fn none(warehouse: u32) -> WarehouseSums
         ensures { result ≡ no_warehouse_sums warehouse }
     {
@@ -59,7 +59,7 @@ impl WarehouseSums {
 }
 
 impl DistrictSums {
-    /// Of a district for which nothing is counted yet.
+    /// The sums of a district for which nothing is counted yet.
     pub fn none(warehouse: u32, district: u32) -> DistrictSums
         ensures { result ≡ no_district_sums warehouse district }
     {
@@ -73,7 +73,7 @@ impl DistrictSums {
 }
 
 impl CustomerSums {
-    /// Of a customer for whom nothing is counted yet.
+    /// The sums of a customer for whom nothing is counted yet.
     pub fn none(warehouse: u32, district: u32, customer: u32) -> CustomerSums
         ensures { result ≡ no_customer_sums warehouse district customer }
     {
