@@ -1,4 +1,33 @@
 //! The book: tables, queue and journal, served one transaction at a time, and the purses that share its totals.
+//!
+//! # A book and its purses
+//!
+//! A `Book` holds the rows, the queue of deliveries, and the journal of its requests with their replies. It is
+//! seen as its past, an opening and a journal, from which its rows follow. `Book::start` makes it from an
+//! opening, with no entry and its first purse.
+//!
+//! A `Purse` is the right to ask. `serve` takes one with a request, and `Answer::into_parts` gives it back. It
+//! counts what its own requests did: their entries in the journal, and the cents that their payments paid.
+//! `Purse::split` makes up to 10,000 more of the first one. `gather` takes them all, and tells what their sum is
+//! then: the journal's length, and the rise of the sum of W_YTD.
+//!
+//! # Threads
+//!
+//! `UnnamedTurns::start` makes a book for threads, which share its `Turns` and have a `SeatedPurse` each:
+//!
+//! ```text
+//! Turns::serve:  draw a ticket, wait until it is called -> serve -> put the book back, call the next ticket
+//! ```
+//!
+//! `begin` keeps a turn as a `HeldTurn`; `serve_held` serves in it for any purse, as often as one wants, until
+//! `end`. After the joins `gather` takes all purses and gives the book back.
+//!
+//! # Names
+//!
+//! A book's type names it: `N: Naming` stands for its two ledgers, `T: Seating` for the seats of its turns. So a
+//! purse can't be used at another book.
+//!
+//! Not promised: that a ticket is ever called.
 #![tactic(auto)]
 
 mod answer;

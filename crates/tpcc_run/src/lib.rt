@@ -1,4 +1,17 @@
 //! Runs: terminals, a delivery runner and servers, if any, each in a thread of its own, up to the settlement.
+//!
+//! `run` and `run_shown` start every thread of a `Plan` and join it, whatever happens; then they settle the book with all
+//! purses, and write the report, or the parts that were asked for.
+//!
+//! ```text
+//! terminal threads  --ask-->   mailboxes  --serve-->  servers     (Service::Servers)
+//! terminal threads  --ask-->   turns of the book                  (Service::Direct)
+//! delivery runner   --ask-->   either, deliveries alone
+//! ```
+//!
+//! The files by the way of a run: `runs` makes the book, `threads` starts and joins all, `server_threads`,
+//! `terminal_threads` and `delivery_runner` one kind each; `role` says what a terminal asks next, `operator` asks it,
+//! `route` brings it to the book; `results` gathers what came back, and `settled_book` ends.
 #![tactic(auto)]
 
 mod context;
