@@ -51,10 +51,8 @@ pub fn insert<T: Keyed>(rows: &mut Vec<T>, added: T) -> Result<(), NoMemory>
     ensures succeeds { vec_len rows.old < vec_capacity rows.old → IsOk result }
 {
     let place = place_for(rows.as_slice(), &added);
-    match rows.insert(place, added) {
-        Ok(()) => Ok(()),
-        Err(_) => Err(NoMemory),
-    }
+    rows.insert(place, added)?;
+    Ok(())
 }
 
 /// Appends a row; refuses only for want of memory.
@@ -64,10 +62,8 @@ pub fn push<T: Copy>(rows: &mut Vec<T>, added: T) -> Result<(), NoMemory>
     ensures capacity { vec_capacity rows.old ≤ vec_capacity rows.new }
     ensures succeeds { vec_len rows.old < vec_capacity rows.old → IsOk result }
 {
-    match rows.push(added) {
-        Ok(()) => Ok(()),
-        Err(_) => Err(NoMemory),
-    }
+    rows.push(added)?;
+    Ok(())
 }
 
 /// Puts a new row at its place, for which there is room.

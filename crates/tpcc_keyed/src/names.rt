@@ -120,10 +120,8 @@ fn insert(names: &mut Vec<CustomerName>, added: CustomerName) -> Result<(), NoMe
     ensures order { is_in_order name_before names.new.items ≡ true }
 {
     let place = place_for(names.as_slice(), &added);
-    match names.insert(place, added) {
-        Ok(()) => Ok(()),
-        Err(_) => Err(NoMemory),
-    }
+    names.insert(place, added)?;
+    Ok(())
 }
 
 /// How many names stand before those of a last name, searched by halves.
@@ -187,10 +185,7 @@ fn names_with_last<'a>(
 fn all_of(rows: &[CustomerRow], alloc: Global) -> Result<Vec<CustomerName>, NoMemory>
     ensures { IfOk result (λ names. names.items ≡ map name_of rows.now) }
 {
-    match rows.iter().map(|row| CustomerName::of(row)).collect(alloc) {
-        Ok(names) => Ok(names),
-        Err(_) => Err(NoMemory),
-    }
+    Ok(rows.iter().map(|row| CustomerName::of(row)).collect(alloc)?)
 }
 
 /// The names of customers, in order.

@@ -79,10 +79,8 @@ impl<T> Tail<T> {
         ensures capacity { self.old.capacity ≤ self.new.capacity }
         ensures grown { OnOk result (length self.new.items + room ≤ self.new.capacity) }
     {
-        match self.all.reserve(room) {
-            Ok(()) => Ok(()),
-            Err(_) => Err(NoMemory),
-        }
+        self.all.reserve(room)?;
+        Ok(())
     }
 }
 

@@ -15,42 +15,33 @@ use tpcc_rows::rows::*;
 fn of_warehouses(rows: &[WarehouseRow], alloc: Global) -> Result<Vec<WarehouseSums>, NoMemory>
     ensures { IfOk result (λ sums. sums.items ≡ map (λ w. no_warehouse_sums w.id) rows.now) }
 {
-    match rows
-        .iter()
-        .map(|row| WarehouseSums::none(row.id))
-        .collect(alloc)
-    {
-        Ok(sums) => Ok(sums),
-        Err(_) => Err(NoMemory),
-    }
+    Ok(
+        rows.iter()
+            .map(|row| WarehouseSums::none(row.id))
+            .collect(alloc)?,
+    )
 }
 
 fn of_districts(rows: &[DistrictRow], alloc: Global) -> Result<Vec<DistrictSums>, NoMemory>
     ensures { IfOk result
         (λ sums. sums.items ≡ map (λ d. no_district_sums d.warehouse d.id) rows.now) }
 {
-    match rows
-        .iter()
-        .map(|row| DistrictSums::none(row.warehouse, row.id))
-        .collect(alloc)
-    {
-        Ok(sums) => Ok(sums),
-        Err(_) => Err(NoMemory),
-    }
+    Ok(
+        rows.iter()
+            .map(|row| DistrictSums::none(row.warehouse, row.id))
+            .collect(alloc)?,
+    )
 }
 
 fn of_customers(rows: &[CustomerRow], alloc: Global) -> Result<Vec<CustomerSums>, NoMemory>
     ensures { IfOk result
         (λ sums. sums.items ≡ map (λ c. no_customer_sums c.warehouse c.district c.id) rows.now) }
 {
-    match rows
-        .iter()
-        .map(|row| CustomerSums::none(row.warehouse, row.district, row.id))
-        .collect(alloc)
-    {
-        Ok(sums) => Ok(sums),
-        Err(_) => Err(NoMemory),
-    }
+    Ok(
+        rows.iter()
+            .map(|row| CustomerSums::none(row.warehouse, row.district, row.id))
+            .collect(alloc)?,
+    )
 }
 
 /// The sums while nothing is counted.

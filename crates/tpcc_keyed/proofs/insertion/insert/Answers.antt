@@ -10,7 +10,7 @@ insert-requires g c =
     let place = c.place_for-place.ensures ∙ ap (prefix_len (λ row. not (by_key g.T.Keyed.key c.args.added row))) c.as_slice.ensures.value in
     omega (arith, place, prefix_len-le-length (λ row. not (by_key g.T.Keyed.key c.args.added row)) c.args.rows.now.items)
 
-pub returns-in-Ok-clause-inserted : goal.returns-in-Ok-clause-inserted
-returns-in-Ok-clause-inserted g c =
+pub returns-clause-inserted : goal.returns-clause-inserted
+returns-clause-inserted g c =
     let place = c.place_for-place.ensures ∙ ap (prefix_len (λ row. not (by_key g.T.Keyed.key c.args.added row))) c.as_slice.ensures.value in
-    c.in-Ok.ensures.items ∙ ap (λ i. insert c.args.rows.now.items i c.args.added) place ∙ insert_is_inserted (by_key g.T.Keyed.key) c.args.added c.args.rows.now.items
+    c.in_ok-insert.ensures.items ∙ ap (λ i. insert c.args.rows.now.items i c.args.added) place ∙ insert_is_inserted (by_key g.T.Keyed.key) c.args.added c.args.rows.now.items

@@ -12,13 +12,13 @@ insert-requires c =
     let place = c.place_for-place.ensures ∙ ap (prefix_len (λ name. not (name_before c.args.added name))) c.as_slice.ensures.value in
     omega (arith, place, prefix_len-le-length (λ name. not (name_before c.args.added name)) c.args.names.now.items)
 
-pub returns-in-Ok-clause-inserted : goal.returns-in-Ok-clause-inserted
-returns-in-Ok-clause-inserted c =
+pub returns-clause-inserted : goal.returns-clause-inserted
+returns-clause-inserted c =
     let place = c.place_for-place.ensures ∙ ap (prefix_len (λ name. not (name_before c.args.added name))) c.as_slice.ensures.value in
-    c.in-Ok.ensures.items ∙ ap (λ i. insert c.args.names.now.items i c.args.added) place ∙ insert_is_inserted name_before c.args.added c.args.names.now.items
+    c.in_ok-insert.ensures.items ∙ ap (λ i. insert c.args.names.now.items i c.args.added) place ∙ insert_is_inserted name_before c.args.added c.args.names.now.items
 
-pub returns-in-Ok-clause-order : goal.returns-in-Ok-clause-order
-returns-in-Ok-clause-order c =
+pub returns-clause-order : goal.returns-clause-order
+returns-clause-order c =
     let place = c.place_for-place.ensures ∙ ap (prefix_len (λ name. not (name_before c.args.added name))) c.as_slice.ensures.value in
-    ap (is_in_order name_before) (c.in-Ok.ensures.items ∙ ap (λ i. insert c.args.names.now.items i c.args.added) place ∙ insert_is_inserted name_before c.args.added c.args.names.now.items)
+    ap (is_in_order name_before) (c.in_ok-insert.ensures.items ∙ ap (λ i. insert c.args.names.now.items i c.args.added) place ∙ insert_is_inserted name_before c.args.added c.args.names.now.items)
     ∙ in_order-inserted name_before name_order c.args.added c.args.names.now.items c.requires.order
