@@ -5,8 +5,10 @@ ghost use Rattle.tpcc_tables.specs.Positions.{lent_row};
 
 use crate::fields::Fields;
 use tpcc_money::NoMemory;
-use tpcc_rows::RowRef;
-use tpcc_rows::rows::*;
+use tpcc_rows::{
+    CustomerRow, DistrictRow, HistoryRow, ItemRow, NewOrderRow, OrderLineRow, OrderRow, RowRef,
+    StockRow, WarehouseRow,
+};
 
 /// The record of a row.
 pub fn put_row(fields: &mut Fields, row: RowRef<'_>) -> Result<(), NoMemory>

@@ -19,7 +19,7 @@ use tpcc_journal::Journal;
 use tpcc_money::{Cents, NoMemory};
 use tpcc_population::Opening;
 use tpcc_rows::Request;
-use tpcc_tables::tables::Tables;
+use tpcc_tables::Tables;
 
 /// A register, and the two totals that its purses share: the journal's length, and by how much the
 /// sum of W_YTD rose since the opening.

@@ -9,7 +9,7 @@ ghost use Rattle.tpcc_book.specs.Ready.{IsReady, HasRoom, state_of, room_in};
 use tpcc_delivery::{PreparedRun, Queue, finish_run, finish_ticket, prepare_run, prepare_ticket};
 use tpcc_lookups::{Level, order_status, stock_level};
 use tpcc_rows::{Refusal, Reply, Request, StatusQuery};
-use tpcc_tables::tables::Tables;
+use tpcc_tables::Tables;
 
 /// What was found out of a request that nothing refuses.
 #[derive(Clone, Copy)]

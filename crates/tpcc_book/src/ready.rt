@@ -10,7 +10,7 @@ use crate::halves::{Prepared, finish, prepare};
 use tpcc_delivery::Queue;
 use tpcc_journal::Journal;
 use tpcc_rows::{Entry, Refusal, Request};
-use tpcc_tables::tables::Tables;
+use tpcc_tables::Tables;
 
 // At most so many entries are journaled.
 const MOST_ENTRIES: usize = 1_000_000_000;

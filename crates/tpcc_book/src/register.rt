@@ -15,7 +15,7 @@ use tpcc_laws::laws;
 use tpcc_money::{Cents, NoMemory};
 use tpcc_population::{Opening, fill, opening_is_sound};
 use tpcc_rows::{Refusal, Request};
-use tpcc_tables::tables::Tables;
+use tpcc_tables::Tables;
 
 /// Tables, queue and journal of one opening. Whenever it can be seen, its rows satisfy the
 /// consistency conditions 1 to 10 and 12 (3.3.2) and are the opening's rows followed by the journal

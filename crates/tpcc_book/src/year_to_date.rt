@@ -3,9 +3,8 @@ ghost use Rattle.std.specs.Prelude.{◌≡◌, pos, slice_get, option_map, unwra
 ghost use Rattle.std.specs.Option.{option_copied};
 ghost use Rattle.tpcc_money.specs.Amounts.{total};
 
-use tpcc_rows::row::{RowRef, Table};
-use tpcc_rows::rows::WarehouseRow;
-use tpcc_tables::tables::Tables;
+use tpcc_rows::{RowRef, Table, WarehouseRow};
+use tpcc_tables::Tables;
 
 /// The WAREHOUSE row at a place, from 0.
 #[tactic(auto, unfolding(tpcc_tables::specs::Positions::row_at))]

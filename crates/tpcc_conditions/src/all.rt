@@ -8,7 +8,7 @@ ghost use Rattle.tpcc_conditions.specs.First.{IsConsistentOpening, first_broken_
 use crate::broken::Broken;
 use crate::condition::{Condition, test};
 use tpcc_population::Scale;
-use tpcc_tables::tables::Tables;
+use tpcc_tables::Tables;
 
 #[tactic(auto, unfolding(tpcc_rows::specs::Conditions::first_broken))]
 fn test_all(tables: &Tables) -> Result<(), Broken>

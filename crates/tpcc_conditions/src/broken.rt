@@ -3,7 +3,7 @@ ghost use Rattle.std.specs.Prelude.{◌≡◌};
 ghost use Rattle.tpcc_rows.specs.Conditions as model;
 ghost use Rattle.tpcc_conditions.specs.Broken.{as_model};
 
-use tpcc_rows::rows::*;
+use tpcc_rows::{CustomerRow, DistrictRow, OrderLineRow, OrderRow, WarehouseRow};
 
 /// A condition of clause 3.3.2 that does not hold, and the key of the first row at which it fails.
 #[derive(Clone, Copy, Debug, PartialEq, Eq)]

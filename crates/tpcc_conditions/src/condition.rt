@@ -5,8 +5,8 @@ ghost use Rattle.tpcc_conditions.specs.First.{failing_at, first_of, tested_table
 
 use crate::broken::{Broken, at_customer, at_district, at_order, at_order_line, at_warehouse};
 use crate::{keeps, places};
-use tpcc_rows::row::Table;
-use tpcc_tables::tables::Tables;
+use tpcc_rows::Table;
+use tpcc_tables::Tables;
 
 /// The conditions of clause 3.3.2.
 #[derive(Clone, Copy)]

@@ -5,8 +5,7 @@ ghost use Rattle.tpcc_rows.specs.Tables.{districts_of};
 ghost use Rattle.tpcc_conditions.specs.DistrictTotals.{total_in, found_total};
 
 use crate::places;
-use tpcc_rows::row::Table;
-use tpcc_rows::rows::DistrictRow;
+use tpcc_rows::{DistrictRow, Table};
 use tpcc_tables::Tables;
 
 /// D_YTD of a district of the warehouse, 0 of another one, in cents.

@@ -7,7 +7,7 @@ ghost use Rattle.tpcc_rows.specs.Conditions.{keeps_1, keeps_2, keeps_3, keeps_4,
 
 use crate::district_totals::district_totals;
 use tpcc_money::Cents;
-use tpcc_rows::rows::*;
+use tpcc_rows::{CustomerRow, DistrictRow, OrderLineRow, OrderRow, WarehouseRow};
 use tpcc_tables::Tables;
 
 /// Condition 1: W_YTD is the sum of D_YTD.

@@ -2,9 +2,8 @@
 ghost use Rattle.std.specs.Prelude.{◌≡◌, slice_get};
 ghost use Rattle.std.specs.Option.{option_copied};
 
-use tpcc_rows::row::{RowRef, Table};
-use tpcc_rows::rows::*;
-use tpcc_tables::tables::Tables;
+use tpcc_rows::{CustomerRow, DistrictRow, OrderLineRow, OrderRow, RowRef, Table, WarehouseRow};
+use tpcc_tables::Tables;
 
 /// The WAREHOUSE row at a place, counted from 0.
 #[tactic(auto, unfolding(tpcc_tables::specs::Positions::row_at))]

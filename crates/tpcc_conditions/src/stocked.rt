@@ -9,9 +9,8 @@ ghost use Rattle.tpcc_rows.specs.WellKeyed.{IsStocked, IsWellKeyed};
 ghost use Rattle.tpcc_conditions.specs.Stocked.{has_items, are_stocked, passes_at};
 
 use crate::places;
-use tpcc_rows::row::{RowRef, Table};
-use tpcc_rows::rows::ItemRow;
-use tpcc_tables::tables::Tables;
+use tpcc_rows::{ItemRow, RowRef, Table};
+use tpcc_tables::Tables;
 
 #[tactic(auto, unfolding(tpcc_tables::specs::Positions::row_at))]
 fn item(tables: &Tables, position: usize) -> Option<&ItemRow>

@@ -9,7 +9,7 @@ ghost use Rattle.tpcc_delivery.specs.Runs.{charge_tests};
 use tpcc_money::Cents;
 use tpcc_rows::limits::{GREATEST_COUNT, GREATEST_TOTAL};
 use tpcc_rows::{Field, Refusal};
-use tpcc_tables::tables::Tables;
+use tpcc_tables::Tables;
 
 fn is_count_after(count: u32) -> bool
     ensures { result ≡ is_count (count + 1) }

@@ -8,7 +8,7 @@ use crate::charge::district_refusal;
 use crate::waiting::Queue;
 use tpcc_money::Moment;
 use tpcc_rows::{Delivery, DistrictDelivery, Refusal};
-use tpcc_tables::tables::Tables;
+use tpcc_tables::Tables;
 
 /// A run that nothing refuses, with what it answers.
 #[derive(Clone, Copy, PartialEq, Eq)]

@@ -6,7 +6,7 @@ ghost use Rattle.tpcc_rows.specs.Ranges.{is_carrier};
 
 use crate::waiting::Queue;
 use tpcc_rows::{Refusal, Ticket};
-use tpcc_tables::tables::Tables;
+use tpcc_tables::Tables;
 
 // At most so many tickets wait.
 const MOST_TICKETS: usize = 1000;

@@ -4,7 +4,7 @@ ghost use Rattle.std.specs.List.{list_all};
 ghost use Rattle.tpcc_rows.specs.Printable.{is_printable};
 ghost use Rattle.tpcc_rows.specs.LastName.{last_name, syllable};
 
-use tpcc_rows::text::Text;
+use tpcc_rows::Text;
 
 /// The last name of a number from 0 to 999: a syllable for each of its three decimal digits,
 /// leading zeros kept (4.3.2.3). At most 15 bytes.

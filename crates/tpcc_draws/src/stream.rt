@@ -12,7 +12,7 @@ use rand_pcg::Lcg128Xsl64;
 use std::alloc::{AllocError, Allocator};
 use std::marker::Model;
 use tpcc_money::NoMemory;
-use tpcc_rows::text::Text;
+use tpcc_rows::Text;
 
 /// The draws of one row, in the order of its columns. A call that is refused memory has drawn
 /// nothing; a permutation alone takes any.

@@ -5,8 +5,10 @@ ghost use Rattle.tpcc_keyed.specs.Searches.{is_same_key};
 ghost use Rattle.tpcc_keyed.specs.Parts.{district_numbers};
 
 use crate::places;
-use tpcc_rows::keys::*;
-use tpcc_rows::rows::*;
+use tpcc_rows::{
+    CustomerKey, CustomerRow, DistrictKey, DistrictRow, ItemKey, ItemRow, NewOrderKey, NewOrderRow,
+    OrderKey, OrderLineKey, OrderLineRow, OrderRow, StockKey, StockRow, WarehouseKey, WarehouseRow,
+};
 
 /// A row whose key is a list of numbers; the first that differs decides.
 pub trait Keyed: Copy {

@@ -9,8 +9,7 @@ use std::alloc::Global;
 use std::cmp::Ordering;
 use std::marker::Model;
 use tpcc_money::NoMemory;
-use tpcc_rows::rows::CustomerRow;
-use tpcc_rows::text::Text;
+use tpcc_rows::{CustomerRow, Text};
 
 /// What the order of names looks at in a customer.
 #[derive(Clone, Copy, PartialEq, Eq)]

@@ -9,8 +9,7 @@ use crate::parts::part::Part;
 use crate::parts::place::place_of;
 use crate::runs;
 use tpcc_money::Moment;
-use tpcc_rows::DistrictKey;
-use tpcc_rows::rows::OrderLineRow;
+use tpcc_rows::{DistrictKey, OrderLineRow};
 
 fn stamp(part: &mut Part<OrderLineRow>, warehouse: u32, district: u32, order: u32, moment: Moment)
     requires keyed { is_ascending order_line_key part.old.rows.items ≡ true }

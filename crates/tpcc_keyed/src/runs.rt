@@ -7,7 +7,7 @@ ghost use Rattle.tpcc_rows.specs.Tables.{is_line_of, order_line_key};
 ghost use Rattle.tpcc_keyed.specs.Runs.{is_line_between};
 
 use tpcc_money::Moment;
-use tpcc_rows::rows::OrderLineRow;
+use tpcc_rows::OrderLineRow;
 
 fn is_before(row: &OrderLineRow, warehouse: u32, district: u32, order: u32) -> bool
     ensures { result ≡ key_before (order_line_key row.now) (warehouse ∷ district ∷ order ∷ []) }

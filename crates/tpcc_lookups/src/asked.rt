@@ -5,10 +5,8 @@ ghost use Rattle.tpcc_rows.specs.ChosenCustomer.{chosen_customer};
 ghost use Rattle.tpcc_rows.specs.Lookups.{status_refusal, stock_refusal};
 ghost use Rattle.tpcc_rows.specs.Tables.{find_district};
 
-use tpcc_rows::refusals::Refusal;
-use tpcc_rows::requests::{StatusQuery, StockQuery, Who};
-use tpcc_rows::rows::{CustomerRow, DistrictRow};
-use tpcc_tables::tables::Tables;
+use tpcc_rows::{CustomerRow, DistrictRow, Refusal, StatusQuery, StockQuery, Who};
+use tpcc_tables::Tables;
 
 /// The customer whom a query names.
 #[tactic(auto, unfolding(tpcc_rows::specs::ChosenCustomer::chosen_customer))]

@@ -8,5 +8,4 @@ pub mod stocks;
 
 pub use orders::order_status;
 pub use stocks::stock_level;
-pub use tpcc_rows::replies::{LastOrder, Level, Status, StatusLine};
-pub use tpcc_rows::requests::{StatusQuery, StockQuery};
+pub use tpcc_rows::{LastOrder, Level, Status, StatusLine, StatusQuery, StockQuery};

@@ -2,8 +2,7 @@
 ghost use Rattle.std.specs.Prelude.{◌≡◌, ◌≤◌, length, map};
 ghost use Rattle.tpcc_rows.specs.Lookups.{status_line};
 
-use tpcc_rows::replies::{StatusLine, StatusLines};
-use tpcc_rows::rows::OrderLineRow;
+use tpcc_rows::{OrderLineRow, StatusLine, StatusLines};
 
 /// What is shown of an ORDER-LINE row.
 fn shown_line(row: &OrderLineRow) -> StatusLine

@@ -6,11 +6,8 @@ ghost use Rattle.tpcc_rows.specs.Tables.{find_order};
 
 use crate::asked::asking_customer;
 use crate::lines::shown_lines;
-use tpcc_rows::refusals::Refusal;
-use tpcc_rows::replies::{LastOrder, Status};
-use tpcc_rows::requests::StatusQuery;
-use tpcc_rows::rows::CustomerRow;
-use tpcc_tables::tables::Tables;
+use tpcc_rows::{CustomerRow, LastOrder, Refusal, Status, StatusQuery};
+use tpcc_tables::Tables;
 
 /// An order with its lines.
 fn show_order(tables: &Tables, warehouse: u32, district: u32, order: u32) -> LastOrder

@@ -3,10 +3,8 @@ ghost use Rattle.std.specs.Prelude.{◌≡◌, IfOk, IfErr, OnOk, Some, None};
 ghost use Rattle.tpcc_rows.specs.Lookups.{stock_refusal, stock_reply};
 
 use crate::asked::asked_district;
-use tpcc_rows::refusals::Refusal;
-use tpcc_rows::replies::Level;
-use tpcc_rows::requests::StockQuery;
-use tpcc_tables::tables::Tables;
+use tpcc_rows::{Level, Refusal, StockQuery};
+use tpcc_tables::Tables;
 
 /// One Stock-Level. The refusals are NoWarehouse, NoDistrict and Threshold, the first that
 /// applies. Takes no memory.

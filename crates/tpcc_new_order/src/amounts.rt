@@ -4,8 +4,7 @@ ghost use Rattle.tpcc_money.specs.Amounts.{line_amount};
 ghost use Rattle.tpcc_rows.specs.Ranges.{is_within, is_item_row};
 
 use tpcc_money::Cents;
-use tpcc_rows::requests::Line;
-use tpcc_rows::rows::ItemRow;
+use tpcc_rows::{ItemRow, Line};
 
 /// OL_AMOUNT of a line of an item: 0.01 to 9,999.90.
 pub fn amount(item: &ItemRow, line: &Line) -> Cents

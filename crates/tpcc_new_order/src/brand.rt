@@ -4,8 +4,7 @@ ghost use Rattle.std.specs.List.{list_any};
 ghost use Rattle.tpcc_rows.specs.Lists.{has_text};
 ghost use Rattle.tpcc_rows.specs.NewOrder.{brand_of};
 
-use tpcc_rows::replies::Brand;
-use tpcc_rows::rows::{ItemRow, StockRow};
+use tpcc_rows::{Brand, ItemRow, StockRow};
 
 /// Whether a byte stands in ORIGINAL.
 fn is_of_original(byte: u8) -> bool

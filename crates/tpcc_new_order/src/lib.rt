@@ -12,6 +12,5 @@ mod rows;
 mod supply;
 pub mod transaction;
 
-pub use tpcc_rows::replies::Entered;
-pub use tpcc_rows::requests::{Line, Order};
+pub use tpcc_rows::{Entered, Line, Order};
 pub use transaction::{Prepared, enter, finish, prepare};

@@ -12,12 +12,10 @@ use crate::brand::brand;
 use crate::lookups::{item_of, stock_of};
 use crate::supply::numbers_after;
 use tpcc_money::Cents;
-use tpcc_rows::few::Few;
-use tpcc_rows::replies::{EnteredLine, EnteredLines};
-use tpcc_rows::requests::{Line, Order};
-use tpcc_rows::rows::{ItemRow, OrderLineRow, StockRow};
-use tpcc_rows::text::Text;
-use tpcc_tables::tables::Tables;
+use tpcc_rows::{
+    EnteredLine, EnteredLines, Few, ItemRow, Line, Order, OrderLineRow, StockRow, Text,
+};
+use tpcc_tables::Tables;
 
 /// S_DIST_xx of a district.
 fn district_information(stock: &StockRow, district: u32) -> Text<24>

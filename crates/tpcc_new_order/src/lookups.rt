@@ -5,9 +5,8 @@ ghost use Rattle.tpcc_rows.specs.Ranges.{is_item_row, is_stock_row};
 ghost use Rattle.tpcc_rows.specs.Tables.{find_item, item_at, stock_at};
 ghost use Rattle.tpcc_new_order.specs.Supplied.{is_servable_line};
 
-use tpcc_rows::requests::Line;
-use tpcc_rows::rows::{ItemRow, StockRow};
-use tpcc_tables::tables::Tables;
+use tpcc_rows::{ItemRow, Line, StockRow};
+use tpcc_tables::Tables;
 
 /// The ITEM row of a line.
 pub fn item_of<'a>(tables: &'a Tables, line: &Line) -> &'a ItemRow

@@ -7,10 +7,8 @@ ghost use Rattle.tpcc_rows.specs.Tables.{find_warehouse};
 ghost use Rattle.tpcc_rows.specs.NewOrder.{order_refusal, order_refusal_by_input};
 ghost use Rattle.tpcc_new_order.specs.Tests.{IsNamed, line_tests};
 
-use tpcc_rows::refusals::Refusal;
-use tpcc_rows::requests::{Line, Order};
-use tpcc_rows::rows::{CustomerRow, DistrictRow, WarehouseRow};
-use tpcc_tables::tables::Tables;
+use tpcc_rows::{CustomerRow, DistrictRow, Line, Order, Refusal, WarehouseRow};
+use tpcc_tables::Tables;
 
 /// The rows that an order names.
 #[derive(Drop)]

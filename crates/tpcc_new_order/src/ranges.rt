@@ -10,9 +10,8 @@ ghost use Rattle.tpcc_new_order.specs.Tests.{overruns_of, overruns_with, range_t
 use crate::lookups::stock_of;
 use crate::supply::{StockNumbers, numbers_after};
 use tpcc_rows::limits::{GREATEST_COUNT, GREATEST_ORDER, GREATEST_STOCK_YTD};
-use tpcc_rows::refusals::{Field, Refusal};
-use tpcc_rows::requests::{Line, Order};
-use tpcc_tables::tables::Tables;
+use tpcc_rows::{Field, Line, Order, Refusal};
+use tpcc_tables::Tables;
 
 /// Which columns would leave their ranges in some STOCK row of an order.
 #[derive(Clone, Copy)]

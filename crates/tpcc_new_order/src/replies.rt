@@ -7,11 +7,8 @@ ghost use Rattle.tpcc_new_order.specs.Prepares.{accepted_from};
 use crate::lines::add_lines;
 use crate::named_rows::{NamedRows, named_rows};
 use tpcc_money::{Cents, order_total};
-use tpcc_rows::few::Few;
-use tpcc_rows::replies::{AcceptedOrder, RolledBackOrder};
-use tpcc_rows::requests::Order;
-use tpcc_rows::rows::OrderLineRow;
-use tpcc_tables::tables::Tables;
+use tpcc_rows::{AcceptedOrder, Few, Order, OrderLineRow, RolledBackOrder};
+use tpcc_tables::Tables;
 
 /// What is shown of an order's three rows, with no line yet and no total.
 fn show_head(order: &Order, named: &NamedRows) -> AcceptedOrder

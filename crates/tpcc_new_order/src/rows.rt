@@ -6,11 +6,8 @@ ghost use Rattle.tpcc_rows.specs.NewOrder.{accepted_order, after_order, is_rolle
 ghost use Rattle.tpcc_new_order.specs.Prepares.{order_row_from};
 
 use crate::replies::show_order;
-use tpcc_rows::few::Few;
-use tpcc_rows::replies::AcceptedOrder;
-use tpcc_rows::requests::{Line, Order};
-use tpcc_rows::rows::OrderRow;
-use tpcc_tables::tables::Tables;
+use tpcc_rows::{AcceptedOrder, Few, Line, Order, OrderRow};
+use tpcc_tables::Tables;
 
 /// Whether the warehouse supplies every line (O_ALL_LOCAL).
 fn are_local(warehouse: u32, lines: &[Line]) -> bool

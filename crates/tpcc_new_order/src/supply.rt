@@ -5,8 +5,7 @@ ghost use Rattle.tpcc_rows.specs.Ranges.{is_within, is_stock_row};
 ghost use Rattle.tpcc_rows.specs.NewOrder.{quantity_after, stock_after};
 ghost use Rattle.tpcc_new_order.specs.Supplied.{numbers_of, numbers_after_line, IsNear};
 
-use tpcc_rows::requests::Line;
-use tpcc_rows::rows::StockRow;
+use tpcc_rows::{Line, StockRow};
 
 /// The columns of a STOCK row that an order changes.
 #[derive(Clone, Copy)]

@@ -11,10 +11,8 @@ use crate::ranges::range_refusal;
 use crate::replies::show_rollback;
 use crate::rows::write_order;
 use tpcc_money::NoMemory;
-use tpcc_rows::refusals::Refusal;
-use tpcc_rows::replies::Entered;
-use tpcc_rows::requests::Order;
-use tpcc_tables::tables::Tables;
+use tpcc_rows::{Entered, Order, Refusal};
+use tpcc_tables::Tables;
 
 /// What is left to do for an order that nothing refuses.
 #[derive(Clone, Copy)]

@@ -3,9 +3,7 @@ ghost use Rattle.std.specs.Prelude.{◌≡◌, ◌++◌, codes};
 ghost use Rattle.tpcc_payment.specs.Prepares.{history_from};
 
 use crate::named_rows::NamedRows;
-use tpcc_rows::requests::Payment;
-use tpcc_rows::rows::HistoryRow;
-use tpcc_rows::text::Text;
+use tpcc_rows::{HistoryRow, Payment, Text};
 
 /// Two names with four spaces between them.
 fn join_names(a: &Text<10>, b: &Text<10>) -> Text<24>

@@ -7,11 +7,8 @@ ghost use Rattle.tpcc_rows.specs.ChosenCustomer.{chosen_customer};
 ghost use Rattle.tpcc_payment.specs.Prepares.{IsNamed};
 
 use crate::ranges::range_refusal;
-use tpcc_rows::keys::CustomerKey;
-use tpcc_rows::refusals::Refusal;
-use tpcc_rows::requests::{Payment, Who};
-use tpcc_rows::rows::*;
-use tpcc_tables::tables::Tables;
+use tpcc_rows::{CustomerKey, CustomerRow, DistrictRow, Payment, Refusal, WarehouseRow, Who};
+use tpcc_tables::Tables;
 
 /// The rows that a payment names.
 #[derive(Drop)]

@@ -6,9 +6,7 @@ ghost use Rattle.tpcc_rows.specs.Payment.{payment_note, has_bad_credit};
 ghost use Rattle.tpcc_payment.specs.Prepares.{new_information};
 
 use tpcc_money::Cents;
-use tpcc_rows::requests::Payment;
-use tpcc_rows::rows::CustomerRow;
-use tpcc_rows::text::Text;
+use tpcc_rows::{CustomerRow, Payment, Text};
 
 fn is_bad_credit(customer: &CustomerRow) -> bool
     ensures { result ≡ has_bad_credit customer.now }

@@ -7,7 +7,7 @@ ghost use Rattle.tpcc_payment.specs.Prepares.{range_tests};
 use crate::named_rows::NamedRows;
 use tpcc_money::Cents;
 use tpcc_rows::limits::{GREATEST_COUNT, GREATEST_PAYMENT, GREATEST_TOTAL, LEAST_PAYMENT};
-use tpcc_rows::refusals::{Field, Refusal};
+use tpcc_rows::{Field, Refusal};
 
 // A sum of two amounts has more bits than an amount.
 const GREATEST: i128 = GREATEST_TOTAL as i128;

@@ -4,9 +4,7 @@ ghost use Rattle.std.specs.Int.{w64};
 ghost use Rattle.tpcc_payment.specs.Prepares.{new_information, reply_from};
 
 use crate::named_rows::NamedRows;
-use tpcc_rows::replies::Paid;
-use tpcc_rows::requests::Payment;
-use tpcc_rows::text::Text;
+use tpcc_rows::{Paid, Payment, Text};
 
 /// The first 200 bytes of a text.
 fn first_200(text: &Text<500>) -> Text<200>

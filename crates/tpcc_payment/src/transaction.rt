@@ -8,11 +8,8 @@ use crate::history::history_row;
 use crate::named_rows::{named_rows, rows_of_payment};
 use crate::note::information_after;
 use crate::replies::show_payment;
-use tpcc_rows::keys::CustomerKey;
-use tpcc_rows::refusals::Refusal;
-use tpcc_rows::replies::Paid;
-use tpcc_rows::requests::Payment;
-use tpcc_tables::tables::Tables;
+use tpcc_rows::{CustomerKey, Paid, Payment, Refusal};
+use tpcc_tables::Tables;
 
 /// What was found out of a payment that nothing refuses.
 #[derive(Clone, Copy)]

@@ -4,7 +4,7 @@ ghost use Rattle.tpcc_rows.specs.Opening.{plain_new_order};
 
 use crate::layout::{TableRows, push};
 use tpcc_money::NoMemory;
-use tpcc_rows::rows::NewOrderRow;
+use tpcc_rows::NewOrderRow;
 
 /// NEW-ORDER.
 #[derive(Drop)]

@@ -5,7 +5,7 @@ ghost use Rattle.tpcc_money.specs.Texts.{padded_number};
 ghost use Rattle.tpcc_rows.specs.Opening.{plain_district_information};
 ghost use Rattle.tpcc_rows.specs.Printable.{is_printable};
 
-use tpcc_rows::text::Text;
+use tpcc_rows::Text;
 
 /// A prefix and a number with leading zeros in so many places.
 pub(crate) fn numbered_text<const N: usize>(prefix: &[u8], places: usize, number: u32) -> Text<N>

@@ -2,17 +2,17 @@
 //! the model of order entry that every contract cites (`specs/`).
 #![tactic(auto)]
 
-pub mod entry;
-pub mod few;
-pub mod keys;
+mod entry;
+mod few;
+mod keys;
 pub mod limits;
 mod numerals;
-pub mod refusals;
-pub mod replies;
-pub mod requests;
-pub mod row;
-pub mod rows;
-pub mod text;
+mod refusals;
+mod replies;
+mod requests;
+mod row;
+mod rows;
+mod text;
 
 pub use entry::Entry;
 pub use few::{Blank, Few};
@@ -32,4 +32,4 @@ pub use rows::{
     Address, CustomerRow, DistrictRow, HistoryRow, ItemRow, NewOrderRow, OrderLineRow, OrderRow,
     StockRow, WarehouseRow,
 };
-pub use text::{Text, TextFault};
+pub use text::{Text, TextFault, are_plain};

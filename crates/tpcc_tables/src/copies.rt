@@ -1,8 +1,7 @@
 //! The lines of an order, copied out of the tables.
 ghost use Rattle.std.specs.Prelude.{◌≡◌, ◌≤◌, length};
 
-use tpcc_rows::few::Few;
-use tpcc_rows::rows::OrderLineRow;
+use tpcc_rows::{Few, OrderLineRow};
 
 /// At most 15 lines as a value.
 pub fn copy_lines(lines: &[OrderLineRow]) -> Few<OrderLineRow, 15>

@@ -15,8 +15,7 @@ use crate::find;
 use crate::place::place_of_customer;
 use tpcc_keyed::Parts;
 use tpcc_money::Cents;
-use tpcc_rows::keys::*;
-use tpcc_rows::rows::*;
+use tpcc_rows::{CustomerRow, NewOrderKey, NewOrderRow, OrderKey, OrderLineRow, OrderRow};
 
 /// The customer of an order, or 0, which no customer has, where there is no such order.
 pub fn customer_of(rows: &Parts<OrderRow>, warehouse: u32, district: u32, order: u32) -> u32

@@ -4,8 +4,7 @@ ghost use Rattle.tpcc_rows.specs.Lists.{largest, smallest, is_ascending};
 ghost use Rattle.tpcc_rows.specs.Tables.{new_order_key, order_key};
 
 use tpcc_keyed::Parts;
-use tpcc_rows::keys::DistrictKey;
-use tpcc_rows::rows::{NewOrderRow, OrderLineRow, OrderRow};
+use tpcc_rows::{DistrictKey, NewOrderRow, OrderLineRow, OrderRow};
 
 /// The ORDER rows of a district.
 pub fn orders(rows: &Parts<OrderRow>, warehouse: u32, district: u32) -> &[OrderRow]

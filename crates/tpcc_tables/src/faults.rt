@@ -7,7 +7,10 @@ ghost use Rattle.tpcc_tables.specs.Loads as loads;
 use crate::ranges::*;
 use crate::tables::Tables;
 use thiserror::Error;
-use tpcc_rows::rows::*;
+use tpcc_rows::{
+    CustomerRow, DistrictRow, HistoryRow, ItemRow, NewOrderRow, OrderLineRow, OrderRow, StockRow,
+    WarehouseRow,
+};
 
 /// Why a row can't be loaded: the first that applies, in this order.
 #[derive(Clone, Copy, Debug, PartialEq, Eq, Error)]

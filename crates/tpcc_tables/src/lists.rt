@@ -1,7 +1,10 @@
 //! Nine lists of rows that stand ready to be tables.
 
 use tpcc_keyed::Parts;
-use tpcc_rows::rows::*;
+use tpcc_rows::{
+    CustomerRow, DistrictRow, HistoryRow, ItemRow, NewOrderRow, OrderLineRow, OrderRow, StockRow,
+    WarehouseRow,
+};
 
 /// The rows of each table, in ascending key order; those of orders in parts of their districts.
 #[derive(Drop)]

@@ -9,8 +9,10 @@ use tpcc_rows::limits::{
     GREATEST_CARRIER, GREATEST_COUNT, GREATEST_CUSTOMER, GREATEST_DISTRICT, GREATEST_ITEM,
     GREATEST_ORDER, GREATEST_STOCK_YTD, GREATEST_TOTAL, GREATEST_WAREHOUSE,
 };
-use tpcc_rows::rows::*;
-use tpcc_rows::text::Text;
+use tpcc_rows::{
+    Address, CustomerRow, DistrictRow, HistoryRow, ItemRow, NewOrderRow, OrderLineRow, OrderRow,
+    StockRow, Text, WarehouseRow,
+};
 
 fn is_within(low: u32, high: u32, n: u32) -> bool
     ensures { result ≡ ranges.is_within low high n }
@@ -51,13 +53,13 @@ fn is_moment(moment: Moment) -> bool
 fn is_text<const N: usize>(longest: usize, text: &Text<N>) -> bool
     ensures { result ≡ ranges.is_text longest text.now }
 {
-    text.len() <= longest && tpcc_rows::text::are_plain(text.bytes())
+    text.len() <= longest && tpcc_rows::are_plain(text.bytes())
 }
 
 fn is_exact_text<const N: usize>(long: usize, text: &Text<N>) -> bool
     ensures { result ≡ ranges.is_exact_text long text.now }
 {
-    text.len() == long && tpcc_rows::text::are_plain(text.bytes())
+    text.len() == long && tpcc_rows::are_plain(text.bytes())
 }
 
 fn is_warehouse_id(id: u32) -> bool

@@ -5,8 +5,7 @@ ghost use Rattle.tpcc_tables.specs.Ready.{is_open};
 
 use tpcc_keyed::{Owned, Parts};
 use tpcc_money::NoMemory;
-use tpcc_rows::keys::DistrictKey;
-use tpcc_rows::rows::DistrictRow;
+use tpcc_rows::{DistrictKey, DistrictRow};
 
 /// A part for each of the districts. A refused growth leaves the rows and their room as they were.
 pub fn open_all<T: Owned>(parts: &mut Parts<T>, districts: &[DistrictRow]) -> Result<(), NoMemory>

@@ -11,7 +11,7 @@ pub mod total;
 use entry::{CustomerSums, DistrictSums, WarehouseSums};
 use std::alloc::Global;
 use tpcc_money::Cents;
-use tpcc_rows::rows::*;
+use tpcc_rows::{HistoryRow, OrderRow};
 
 /// The sums of each warehouse, district and customer, in ascending order of their keys.
 #[derive(Drop)]

@@ -10,8 +10,7 @@ ghost use Rattle.tpcc_tables.specs.Writes.{line_of};
 ghost use Rattle.tpcc_tables.specs.Supplies.{is_supplied_by, HasRoomFor, is_near};
 
 use tpcc_keyed::search;
-use tpcc_rows::keys::StockKey;
-use tpcc_rows::rows::{OrderLineRow, StockRow};
+use tpcc_rows::{OrderLineRow, StockKey, StockRow};
 
 /// S_QUANTITY after a line: 91 more where fewer than 10 would be left.
 fn quantity_after(stock: u32, quantity: u32) -> u32

@@ -23,8 +23,10 @@ use std::alloc::Global;
 use std::marker::Model;
 use tpcc_keyed::{Names, Parts};
 use tpcc_money::Cents;
-use tpcc_rows::few::Few;
-use tpcc_rows::rows::*;
+use tpcc_rows::{
+    CustomerRow, DistrictRow, Few, HistoryRow, ItemRow, NewOrderRow, OrderLineRow, OrderRow,
+    StockRow, WarehouseRow,
+};
 
 /// The nine tables (1.3), whose rows are always well-keyed: keys ascend, parents exist, and all columns are in their
 /// ranges. It is seen as its rows, and the room that was made for one more payment and one more order.

@@ -6,7 +6,7 @@ ghost use Rattle.tpcc_rows.specs.Tables.{is_line_of, order_line_key};
 use crate::runs;
 use std::marker::Model;
 use tpcc_money::{Moment, NoMemory};
-use tpcc_rows::rows::OrderLineRow;
+use tpcc_rows::OrderLineRow;
 
 /// The rows of a vector but those at its front that are gone.
 ///

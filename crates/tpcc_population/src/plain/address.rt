@@ -2,8 +2,7 @@
 ghost use Rattle.std.specs.Prelude.{◌≡◌};
 ghost use Rattle.tpcc_rows.specs.Opening.{plain_address};
 
-use tpcc_rows::rows::Address;
-use tpcc_rows::text::Text;
+use tpcc_rows::{Address, Text};
 
 pub(super) fn plain_address() -> Address
     ensures { result ≡ plain_address }

@@ -7,8 +7,7 @@ use crate::layout::{TableRows, push};
 use crate::texts::{credit, numbered_text};
 use tpcc_draws::last_name;
 use tpcc_money::{Cents, Moment, NoMemory, Rate};
-use tpcc_rows::rows::{CustomerRow, HistoryRow};
-use tpcc_rows::text::Text;
+use tpcc_rows::{CustomerRow, HistoryRow, Text};
 
 fn plain_customer(warehouse: u32, district: u32, number: u32) -> CustomerRow
     requires least { 1 ≤ number }

@@ -6,8 +6,7 @@ ghost use Rattle.tpcc_rows.specs.Opening.{plain_item, plain_stock, plain_distric
 use crate::layout::{TableRows, push};
 use crate::texts::{district_information, numbered_text};
 use tpcc_money::{Cents, NoMemory};
-use tpcc_rows::rows::{ItemRow, StockRow};
-use tpcc_rows::text::Text;
+use tpcc_rows::{ItemRow, StockRow, Text};
 
 fn plain_item(number: u32) -> ItemRow
     requires least { 1 ≤ number }

@@ -7,7 +7,7 @@ use crate::layout::{TableRows, push};
 use crate::scale::Scale;
 use crate::texts::numbered_text;
 use tpcc_money::{Cents, NoMemory, Rate};
-use tpcc_rows::rows::{DistrictRow, WarehouseRow};
+use tpcc_rows::{DistrictRow, WarehouseRow};
 
 fn plain_warehouse(scale: &Scale, number: u32) -> WarehouseRow
     requires { number ≤ 100 }

@@ -7,7 +7,7 @@ use crate::layout::{TableRows, push};
 use crate::scale::Scale;
 use crate::texts::district_information;
 use tpcc_money::{Cents, Moment, NoMemory};
-use tpcc_rows::rows::OrderLineRow;
+use tpcc_rows::OrderLineRow;
 
 fn plain_order_line(
     scale: &Scale,

@@ -5,7 +5,7 @@ ghost use Rattle.tpcc_rows.specs.Opening.{plain_order};
 use crate::layout::{TableRows, push};
 use crate::scale::Scale;
 use tpcc_money::{Moment, NoMemory};
-use tpcc_rows::rows::OrderRow;
+use tpcc_rows::OrderRow;
 
 fn plain_order(scale: &Scale, warehouse: u32, district: u32, number: u32) -> OrderRow
     requires { 1 ≤ number }

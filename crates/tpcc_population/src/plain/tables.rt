@@ -13,7 +13,7 @@ use crate::new_orders::NewOrders;
 use crate::scale::Scale;
 use std::alloc::Global;
 use tpcc_money::NoMemory;
-use tpcc_rows::rows::{
+use tpcc_rows::{
     CustomerRow, DistrictRow, HistoryRow, ItemRow, NewOrderRow, OrderLineRow, OrderRow, StockRow,
     WarehouseRow,
 };

@@ -4,8 +4,7 @@ ghost use Rattle.tpcc_draws.specs.Draws.{answers};
 ghost use Rattle.tpcc_population.specs.Seeded.{drawn_zip, drawn_address};
 
 use tpcc_draws::Stream;
-use tpcc_rows::rows::Address;
-use tpcc_rows::text::Text;
+use tpcc_rows::{Address, Text};
 
 // Four digits and five ones.
 #[tactic(auto, unfolding(crate::specs::Seeded::drawn_zip))]

@@ -10,8 +10,7 @@ use crate::layout::{TableRows, push};
 use crate::texts::credit;
 use tpcc_draws::{Stream, last_name};
 use tpcc_money::{Cents, NoMemory, Rate};
-use tpcc_rows::rows::{CustomerRow, HistoryRow};
-use tpcc_rows::text::Text;
+use tpcc_rows::{CustomerRow, HistoryRow, Text};
 
 #[tactic(auto, unfolding(crate::specs::Seeded::drawn_last))]
 fn drawn_last(stream: &mut Stream, number: u32) -> Text<16>

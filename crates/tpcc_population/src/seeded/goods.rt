@@ -8,8 +8,7 @@ use super::numbers::stock_number;
 use crate::layout::{TableRows, push};
 use tpcc_draws::Stream;
 use tpcc_money::{Cents, NoMemory};
-use tpcc_rows::rows::{ItemRow, StockRow};
-use tpcc_rows::text::Text;
+use tpcc_rows::{ItemRow, StockRow, Text};
 
 // The text with ORIGINAL in place of the eight bytes from a place on.
 fn with_original(text: &Text<50>, place: usize) -> Text<50>

@@ -10,7 +10,7 @@ use super::orders::carrier_and_lines;
 use crate::layout::{TableRows, push};
 use tpcc_draws::Stream;
 use tpcc_money::{Cents, NoMemory};
-use tpcc_rows::rows::OrderLineRow;
+use tpcc_rows::OrderLineRow;
 
 // A delivered line costs nothing, and nothing is drawn for it.
 #[tactic(auto, unfolding(crate::specs::Seeded::drawn_amount))]

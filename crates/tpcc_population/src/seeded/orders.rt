@@ -10,7 +10,7 @@ use crate::layout::{TableRows, push};
 use std::alloc::Global;
 use tpcc_draws::Stream;
 use tpcc_money::NoMemory;
-use tpcc_rows::rows::OrderRow;
+use tpcc_rows::OrderRow;
 
 // A carrier where the order is delivered; else null, and nothing is drawn.
 #[tactic(auto, unfolding(crate::specs::Seeded::drawn_carrier))]

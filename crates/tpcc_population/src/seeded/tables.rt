@@ -13,7 +13,7 @@ use crate::layout::{fill_by_district, fill_by_number, fill_by_warehouse};
 use crate::new_orders::NewOrders;
 use std::alloc::Global;
 use tpcc_money::NoMemory;
-use tpcc_rows::rows::{
+use tpcc_rows::{
     CustomerRow, DistrictRow, HistoryRow, ItemRow, NewOrderRow, OrderLineRow, OrderRow, StockRow,
     WarehouseRow,
 };

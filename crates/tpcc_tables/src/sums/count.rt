@@ -7,8 +7,7 @@ ghost use Rattle.tpcc_tables.specs.Sums as sums;
 use super::entry::{CustomerSums, DistrictSums, WarehouseSums};
 use tpcc_keyed::search;
 use tpcc_money::Cents;
-use tpcc_rows::keys::*;
-use tpcc_rows::rows::OrderRow;
+use tpcc_rows::{CustomerKey, DistrictKey, OrderRow, WarehouseKey};
 
 /// What was paid into a warehouse rises by an amount.
 pub fn pay_warehouse(entries: &mut Vec<WarehouseSums>, warehouse: u32, amount: Cents)

@@ -5,7 +5,7 @@ ghost use Rattle.tpcc_tables.specs.Sums.{no_warehouse_sums, no_district_sums, no
 use super::total::Total;
 use tpcc_keyed::{Keyed, places};
 use tpcc_money::Cents;
-use tpcc_rows::keys::*;
+use tpcc_rows::{CustomerKey, DistrictKey, WarehouseKey};
 
 /// The sums of a warehouse.
 #[derive(Clone, Copy)]

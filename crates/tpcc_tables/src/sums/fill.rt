@@ -10,7 +10,7 @@ use crate::delivery;
 use crate::lists::Lists;
 use std::alloc::Global;
 use tpcc_money::NoMemory;
-use tpcc_rows::rows::*;
+use tpcc_rows::{CustomerRow, DistrictRow, OrderRow, WarehouseRow};
 
 fn of_warehouses(rows: &[WarehouseRow], alloc: Global) -> Result<Vec<WarehouseSums>, NoMemory>
     ensures { IfOk result (λ sums. sums.items ≡ map (λ w. no_warehouse_sums w.id) rows.now) }

@@ -5,7 +5,7 @@ ghost use Rattle.tpcc_tables.specs.Sums.{has_key, warehouse_sums_key, district_s
 
 use super::entry::{CustomerSums, DistrictSums, WarehouseSums};
 use tpcc_keyed::search;
-use tpcc_rows::keys::*;
+use tpcc_rows::{CustomerKey, DistrictKey, WarehouseKey};
 
 /// The sums of a warehouse.
 pub fn of_warehouse(entries: &[WarehouseSums], warehouse: u32) -> WarehouseSums

@@ -9,8 +9,10 @@ use crate::faults::{self, LoadFault};
 use crate::sums::entry::{CustomerSums, DistrictSums, WarehouseSums};
 use tpcc_keyed::insertion;
 use tpcc_money::{Cents, NoMemory};
-use tpcc_rows::row::Row;
-use tpcc_rows::rows::*;
+use tpcc_rows::{
+    CustomerRow, DistrictRow, HistoryRow, ItemRow, NewOrderRow, OrderLineRow, OrderRow, Row,
+    StockRow, WarehouseRow,
+};
 
 impl Tables {
     /// Loads one row at the place of its key, a HISTORY row at the end. A refused row comes back,

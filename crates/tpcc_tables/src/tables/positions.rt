@@ -3,7 +3,7 @@ ghost use Rattle.std.specs.Prelude.{◌≡◌, option_map};
 ghost use Rattle.tpcc_tables.specs.Positions.{count_of, row_at, lent_row};
 
 use super::Tables;
-use tpcc_rows::row::{RowRef, Table};
+use tpcc_rows::{RowRef, Table};
 
 impl Tables {
     /// How many rows a table has.

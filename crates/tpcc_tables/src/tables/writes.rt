@@ -7,8 +7,7 @@ ghost use Rattle.tpcc_tables.specs.Writes.{with_payment, IsPayment, with_entered
 use super::Tables;
 use crate::{delivery, place, rooms, supply};
 use tpcc_money::{Cents, Moment, NoMemory};
-use tpcc_rows::rows::*;
-use tpcc_rows::text::Text;
+use tpcc_rows::{HistoryRow, NewOrderRow, OrderLineRow, OrderRow, Text};
 
 /// For how many orders more room is made at once in each district.
 const SPARE_ORDERS: usize = 16;
