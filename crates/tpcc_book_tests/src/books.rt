@@ -18,7 +18,7 @@ enum Story {
 }
 
 /// Tells a story of a book that is named here.
-fn told<R: Abort>(rt: &R, alloc: Global, story: Story) {
+fn tell<R: Abort>(rt: &R, alloc: Global, story: Story) {
     at_book::<Brand, R>(rt, alloc, Blanks::new(), story)
 }
 
@@ -68,7 +68,7 @@ fn value_of<N: Naming>(purse: &Purse<N>) -> (u32, u64, Cents) {
 
 #[test]
 fn the_second_purse_of_a_terminal_is_a_stranger(rt: HostRuntime) {
-    told(&rt, rt.alloc(), Story::TwoPurses)
+    tell(&rt, rt.alloc(), Story::TwoPurses)
 }
 
 /// Both purses are of terminal 5, and the journal already has an entry of it when the second pays.
@@ -115,7 +115,7 @@ fn are_both(receipts: &[Receipt]) -> bool {
 
 #[test]
 fn a_terminal_keeps_the_receipts_of_its_journaled_answers(rt: HostRuntime) {
-    told(&rt, rt.alloc(), Story::Receipts)
+    tell(&rt, rt.alloc(), Story::Receipts)
 }
 
 /// The second of three payments is refused.

@@ -17,7 +17,7 @@ enum Story {
 }
 
 /// Tells a story of a desk whose book is named here.
-fn told<R: Abort>(rt: &R, alloc: Global, story: Story) {
+fn tell<R: Abort>(rt: &R, alloc: Global, story: Story) {
     at_a_desk::<Brand, R>(rt, alloc, Blanks::new(), story)
 }
 
@@ -142,7 +142,7 @@ fn first_place<N: Naming>(desk: &Desk<N>, terminal: u32) -> Option<u64> {
 
 #[test]
 fn the_later_post_is_served_first(rt: HostRuntime) {
-    told(&rt, rt.alloc(), Story::Overtaking)
+    tell(&rt, rt.alloc(), Story::Overtaking)
 }
 
 fn overtake<N: Naming, R: Abort>(rt: &R, alloc: Global, desk: &mut Desk<N>) {
@@ -158,7 +158,7 @@ fn overtake<N: Naming, R: Abort>(rt: &R, alloc: Global, desk: &mut Desk<N>) {
 
 #[test]
 fn a_kept_letter_stops_nobody_else(rt: HostRuntime) {
-    told(&rt, rt.alloc(), Story::KeptLetter)
+    tell(&rt, rt.alloc(), Story::KeptLetter)
 }
 
 fn kept_letter<N: Naming, R: Abort>(rt: &R, alloc: Global, desk: &mut Desk<N>) {

@@ -21,16 +21,16 @@ enum Story {
 
 #[test]
 fn all_purses_are_settled_and_the_first_counts_among_them(rt: HostRuntime) {
-    told(&rt, rt.alloc(), Story::AllThere)
+    tell(&rt, rt.alloc(), Story::AllThere)
 }
 
 #[test]
 fn a_book_is_left_where_a_purse_is_missing(rt: HostRuntime) {
-    told(&rt, rt.alloc(), Story::OneWithheld)
+    tell(&rt, rt.alloc(), Story::OneWithheld)
 }
 
 /// Tells a story of turns whose book is named here.
-fn told<R: Wait + Abort>(rt: &R, alloc: Global, story: Story) {
+fn tell<R: Wait + Abort>(rt: &R, alloc: Global, story: Story) {
     at_turns::<Brand, R>(rt, alloc, Blanks::new(), story)
 }
 

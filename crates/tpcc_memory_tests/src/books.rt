@@ -14,11 +14,11 @@ use tpcc_terminal::screen;
 
 #[test]
 fn a_book_serves_each_kind_of_request(rt: HostRuntime) {
-    assert!(rt; told(&rt, rt.alloc()).is_ok() || told(&rt, rt.alloc()).is_ok());
+    assert!(rt; tell(&rt, rt.alloc()).is_ok() || tell(&rt, rt.alloc()).is_ok());
 }
 
 /// Serves and looks at a book that is named here.
-fn told<R: Abort + AllocGlobal>(rt: &R, alloc: Global) -> Result<(), NoMemory> {
+fn tell<R: Abort + AllocGlobal>(rt: &R, alloc: Global) -> Result<(), NoMemory> {
     at_book::<Brand, R>(rt, alloc, Blanks::new())
 }
 

@@ -12,10 +12,10 @@ use tpcc_rows::Request;
 
 #[test]
 fn a_terminal_of_a_desk_posts(rt: HostRuntime) {
-    assert!(rt; told(&rt, rt.alloc()).is_ok() || told(&rt, rt.alloc()).is_ok());
+    assert!(rt; tell(&rt, rt.alloc()).is_ok() || tell(&rt, rt.alloc()).is_ok());
 }
 
-fn told<R: Abort>(rt: &R, alloc: Global) -> Result<(), NoMemory> {
+fn tell<R: Abort>(rt: &R, alloc: Global) -> Result<(), NoMemory> {
     at_a_desk::<Brand, R>(rt, alloc, Blanks::new())
 }
 

@@ -36,10 +36,10 @@ fn a_terminal_asks_its_cards(rt: HostRuntime) {
 
 #[test]
 fn a_terminal_keeps_a_receipt(rt: HostRuntime) {
-    told(&rt, rt.alloc())
+    tell(&rt, rt.alloc())
 }
 
-fn told<R: Abort>(rt: &R, alloc: Global) {
+fn tell<R: Abort>(rt: &R, alloc: Global) {
     at_book::<Brand, R>(rt, alloc, Blanks::new())
 }
 

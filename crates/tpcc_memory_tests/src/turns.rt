@@ -9,10 +9,10 @@ use tpcc_book::{Blanks, Naming, UnnamedTurns};
 
 #[test]
 fn turns_are_started(rt: HostRuntime) {
-    assert!(rt; told(&rt, rt.alloc()) || told(&rt, rt.alloc()));
+    assert!(rt; tell(&rt, rt.alloc()) || tell(&rt, rt.alloc()));
 }
 
-fn told<R: Abort>(rt: &R, alloc: Global) -> bool {
+fn tell<R: Abort>(rt: &R, alloc: Global) -> bool {
     are_started::<Brand, R>(rt, alloc, Blanks::new())
 }
 

@@ -36,7 +36,7 @@ enum Story {
 }
 
 /// Tells a story of a book that is named here.
-fn told<R: Threads + Wait + Clock + Abort + Sync>(rt: &R, alloc: Global, story: Story) {
+fn tell<R: Threads + Wait + Clock + Abort + Sync>(rt: &R, alloc: Global, story: Story) {
     at_a_book::<Brand, R>(rt, alloc, Blanks::new(), story)
 }
 

@@ -1,7 +1,7 @@
 //! Each condition broken by one change of the opening, and condition 11 by what comes behind it.
 use crate::changes::Change;
 use crate::opening::{load_changed, scale};
-use crate::stories::{Story, told};
+use crate::stories::{Story, tell};
 use std::alloc::AllocGlobal;
 use std::process::Abort;
 use tpcc_conditions::{Broken, check, check_opening};
@@ -47,7 +47,7 @@ pub fn are_named(rt: &(impl Abort + AllocGlobal), opening: &Tables) {
 
 #[test]
 fn the_first_broken_condition_is_named(rt: HostRuntime) {
-    told(&rt, Story::Named)
+    tell(&rt, Story::Named)
 }
 
 /// Ten customers of each district, and not twenty.
@@ -59,5 +59,5 @@ pub fn is_opening_of_ten(rt: &impl Abort, tables: &Tables) {
 
 #[test]
 fn an_opening_has_seven_of_ten_orders_delivered(rt: HostRuntime) {
-    told(&rt, Story::OfTen)
+    tell(&rt, Story::OfTen)
 }

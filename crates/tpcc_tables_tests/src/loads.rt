@@ -1,7 +1,7 @@
 //! Rows that are loaded one by one, and why a row is refused.
 use crate::changes::Change;
 use crate::opening::{load_changed, row_at};
-use crate::stories::{Story, told};
+use crate::stories::{Story, tell};
 use std::alloc::AllocGlobal;
 use std::process::Abort;
 use tpcc_rows::{
@@ -32,7 +32,7 @@ pub fn are_loaded(rt: &(impl Abort + AllocGlobal), opening: &Tables) {
 
 #[test]
 fn rows_are_loaded_at_the_places_of_their_keys(rt: HostRuntime) {
-    told(&rt, Story::Loaded)
+    tell(&rt, Story::Loaded)
 }
 
 /// Why a row is refused that comes back as it was.
@@ -67,7 +67,7 @@ pub fn refuse_out_of_range(rt: &impl Abort, tables: &mut Tables) {
 
 #[test]
 fn rows_out_of_range_are_refused(rt: HostRuntime) {
-    told(&rt, Story::OutOfRange)
+    tell(&rt, Story::OutOfRange)
 }
 
 fn refuse_each(rt: &impl Abort, opening: &Tables, tables: &mut Tables) {
@@ -91,7 +91,7 @@ pub fn refuse_without_owners(rt: &(impl Abort + AllocGlobal), opening: &Tables) 
 
 #[test]
 fn rows_without_their_owners_are_refused(rt: HostRuntime) {
-    told(&rt, Story::WithoutOwners)
+    tell(&rt, Story::WithoutOwners)
 }
 
 pub fn refuse_taken(rt: &impl Abort, tables: &mut Tables) {
@@ -108,5 +108,5 @@ pub fn refuse_taken(rt: &impl Abort, tables: &mut Tables) {
 
 #[test]
 fn rows_whose_keys_are_taken_are_refused(rt: HostRuntime) {
-    told(&rt, Story::Taken)
+    tell(&rt, Story::Taken)
 }

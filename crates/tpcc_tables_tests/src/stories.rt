@@ -28,7 +28,7 @@ pub enum Story {
     LoadedSums,
 }
 
-pub fn told(rt: &(impl Abort + AllocGlobal), story: Story) {
+pub fn tell(rt: &(impl Abort + AllocGlobal), story: Story) {
     let mut tables = plain_tables(rt);
     happens(rt, &mut tables, story)
 }

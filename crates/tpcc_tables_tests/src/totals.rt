@@ -1,7 +1,7 @@
 //! What the tables add up and count, on rows that were worked out by hand.
 use crate::changes::Change;
 use crate::opening::load_changed;
-use crate::stories::{Story, told};
+use crate::stories::{Story, tell};
 use crate::transactions::delivered_in;
 use std::alloc::AllocGlobal;
 use std::process::Abort;
@@ -57,7 +57,7 @@ pub fn are_counted(rt: &(impl Abort + AllocGlobal), opening: &Tables) {
 
 #[test]
 fn an_opening_is_counted_at_once_and_row_by_row(rt: HostRuntime) {
-    told(&rt, Story::Counted)
+    tell(&rt, Story::Counted)
 }
 
 /// Of a warehouse, a district, a customer and an order that are not there.
@@ -85,7 +85,7 @@ pub fn are_nothing(rt: &impl Abort, tables: &Tables) {
 
 #[test]
 fn there_is_nothing_of_keys_that_no_row_has(rt: HostRuntime) {
-    told(&rt, Story::Nothing)
+    tell(&rt, Story::Nothing)
 }
 
 /// Customer 8 of district 2 pays 1.00 into district 1.
@@ -106,7 +106,7 @@ pub fn pay_elsewhere(rt: &impl Abort, tables: &mut Tables) {
 
 #[test]
 fn a_payment_counts_where_it_went_and_for_who_paid(rt: HostRuntime) {
-    told(&rt, Story::PaidElsewhere)
+    tell(&rt, Story::PaidElsewhere)
 }
 
 /// Behind an order of customer 1 with five lines.
@@ -146,5 +146,5 @@ pub fn count_loaded(rt: &(impl Abort + AllocGlobal), opening: &Tables) {
 
 #[test]
 fn loaded_rows_are_counted_whatever_came_before(rt: HostRuntime) {
-    told(&rt, Story::LoadedSums)
+    tell(&rt, Story::LoadedSums)
 }

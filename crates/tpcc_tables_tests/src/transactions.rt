@@ -4,7 +4,7 @@ ghost use Rattle.tpcc_rows.specs.WellKeyed.{IsStocked};
 use crate::changes::Change;
 use crate::conditions::at;
 use crate::opening::{load_changed, scale};
-use crate::stories::{Story, told};
+use crate::stories::{Story, tell};
 use crate::totals::{delivery_is_counted, order_is_counted};
 use std::alloc::AllocGlobal;
 use std::mem::size_of;
@@ -62,7 +62,7 @@ pub fn enter_one(rt: &(impl Abort + AllocGlobal), tables: &mut Tables)
 
 #[test]
 fn an_order_is_entered(rt: HostRuntime) {
-    told(&rt, Story::Entered)
+    tell(&rt, Story::Entered)
 }
 
 /// A customer of district 1 pays so many cents there.
@@ -101,7 +101,7 @@ pub fn pay_each(rt: &impl Abort, tables: &mut Tables) {
 
 #[test]
 fn payments_are_made_from_the_least_to_the_greatest_amount(rt: HostRuntime) {
-    told(&rt, Story::Paid)
+    tell(&rt, Story::Paid)
 }
 
 /// Whether the greatest payment is made, and how the least one behind it is answered.
@@ -134,7 +134,7 @@ pub fn reach_limits(rt: &(impl Abort + AllocGlobal), opening: &Tables) {
 
 #[test]
 fn a_payment_reaches_the_limit_of_a_column_and_none_goes_past_it(rt: HostRuntime) {
-    told(&rt, Story::Limits)
+    tell(&rt, Story::Limits)
 }
 
 /// The order that a run delivered in this district.
@@ -177,7 +177,7 @@ pub fn leave_behind(rt: &(impl Abort + AllocGlobal), tables: &mut Tables) {
 
 #[test]
 fn ten_runs_leave_condition_11_behind(rt: HostRuntime) {
-    told(&rt, Story::LeftBehind)
+    tell(&rt, Story::LeftBehind)
 }
 
 fn pass_over(rt: &impl Abort, tables: &mut Tables, waiting: &mut Queue) {
@@ -193,7 +193,7 @@ pub fn pass_over_gap(rt: &(impl Abort + AllocGlobal), opening: &Tables) {
 
 #[test]
 fn runs_pass_over_a_gap_of_new_orders(rt: HostRuntime) {
-    told(&rt, Story::Gap)
+    tell(&rt, Story::Gap)
 }
 
 /// What goes from the first half of a transaction to the second: the sizes of docs/architecture.md.

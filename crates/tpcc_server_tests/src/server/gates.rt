@@ -3,7 +3,7 @@ ghost use Rattle.std.specs.Prelude.{◌≡◌, None};
 ghost use Rattle.std.specs.Thread.{IsSync};
 ghost use Rattle.tpcc_mailbox.specs.Tokens.{identity, serving_origin, serving_hand};
 
-use super::{Story, is_paid, last_of, let_go, post, told};
+use super::{Story, is_paid, last_of, let_go, post, tell};
 use crate::plain_turn::PlainTurn;
 use std::alloc::Global;
 use std::process::Abort;
@@ -48,7 +48,7 @@ impl<'a, R: Clock> Gate for HeldGate<'a, R> {
 
 #[test]
 fn a_held_server_is_stood_in_for(rt: HostRuntime) {
-    told(&rt, rt.alloc(), Story::HeldUp)
+    tell(&rt, rt.alloc(), Story::HeldUp)
 }
 
 /// Two jobs lie in closed mailboxes, and the server that takes the first one is held until the other has answered.

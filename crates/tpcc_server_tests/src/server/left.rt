@@ -2,7 +2,7 @@
 ghost use Rattle.std.specs.Prelude.{◌≡◌};
 ghost use Rattle.tpcc_mailbox.specs.Tokens.{identity, client_origin, idle_origin, waiting_origin, serving_origin};
 
-use super::{CountedTurn, One, Story, let_go, make_one, payment, post, told};
+use super::{CountedTurn, One, Story, let_go, make_one, payment, post, tell};
 use std::alloc::Global;
 use std::process::Abort;
 use std::sync::Wait;
@@ -17,7 +17,7 @@ use tpcc_server::{
 
 #[test]
 fn a_job_at_closed_mailboxes_is_given_back_uncalled(rt: HostRuntime) {
-    told(&rt, rt.alloc(), Story::AskedInVain)
+    tell(&rt, rt.alloc(), Story::AskedInVain)
 }
 
 pub(super) fn asked_in_vain<N: Naming, T: Seating, R: Wait + Abort>(
@@ -118,7 +118,7 @@ fn last_left<X: Drop, R: Abort>(rt: &R, lefts: Vec<X>) -> X {
 
 #[test]
 fn an_answer_is_reclaimed_whose_call_was_made_once(rt: HostRuntime) {
-    told(&rt, rt.alloc(), Story::NotCollected)
+    tell(&rt, rt.alloc(), Story::NotCollected)
 }
 
 pub(super) fn not_collected<N: Naming, T: Seating, R: Wait + Abort>(

@@ -2,7 +2,7 @@
 ghost use Rattle.std.specs.Prelude.{◌≡◌};
 ghost use Rattle.tpcc_mailbox.specs.Tokens.{identity, serving_origin, waiting_origin};
 
-use super::{One, Story, let_go, make_one, post, told};
+use super::{One, Story, let_go, make_one, post, tell};
 use crate::plain_turn::PlainTurn;
 use std::alloc::Global;
 use std::process::Abort;
@@ -61,7 +61,7 @@ impl<'a, N: Naming, T: Seating> Reposter<'a, N, T> {
 
 #[test]
 fn a_round_is_made_behind_a_flag_that_was_seen(rt: HostRuntime) {
-    told(&rt, rt.alloc(), Story::ClosedMeanwhile)
+    tell(&rt, rt.alloc(), Story::ClosedMeanwhile)
 }
 
 /// Behind the first job its client collects, posts again and closes: the next round finds that job, since a

@@ -2,7 +2,7 @@
 ghost use Rattle.std.specs.Prelude.{◌≡◌, All, None};
 ghost use Rattle.tpcc_mailbox.specs.Tokens.{identity, idle_origin, waiting_origin, serving_origin, serving_hand};
 
-use super::{CountedTurn, Story, is_paid, last_of, let_go, post, told};
+use super::{CountedTurn, Story, is_paid, last_of, let_go, post, tell};
 use std::alloc::Global;
 use std::process::Abort;
 use std::sync::Wait;
@@ -52,7 +52,7 @@ impl<'a> Watch<'a> {
 
 #[test]
 fn limits_are_kept_and_no_job_is_passed_over(rt: HostRuntime) {
-    told(&rt, rt.alloc(), Story::Limited)
+    tell(&rt, rt.alloc(), Story::Limited)
 }
 
 /// Jobs lie in the first and the last of three mailboxes.

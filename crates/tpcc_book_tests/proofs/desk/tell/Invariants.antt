@@ -1,4 +1,4 @@
-use Rattle.tpcc_memory_tests.proofs.desks.told.Given as goal
+use Rattle.tpcc_book_tests.proofs.desk.tell.Given as goal
 
 -- the desk that is started
 abbrev pub ghosts-at_a_desk : goal.ghosts-at_a_desk

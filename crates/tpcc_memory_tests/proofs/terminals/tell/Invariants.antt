@@ -1,4 +1,4 @@
-use Rattle.tpcc_memory_tests.proofs.terminals.told.Given as goal
+use Rattle.tpcc_memory_tests.proofs.terminals.tell.Given as goal
 
 -- the book that is started
 abbrev pub ghosts-at_book : goal.ghosts-at_book

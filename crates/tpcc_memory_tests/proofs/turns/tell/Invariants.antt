@@ -1,4 +1,4 @@
-use Rattle.tpcc_memory_tests.proofs.turns.told.Given as goal
+use Rattle.tpcc_memory_tests.proofs.turns.tell.Given as goal
 
 -- the turns that are started
 abbrev pub ghosts-are_started : goal.ghosts-are_started

@@ -1,4 +1,4 @@
-use Rattle.tpcc_book_tests.proofs.turns.told.Given as goal
+use Rattle.tpcc_book_tests.proofs.turns.tell.Given as goal
 
 -- the book that is started
 abbrev pub ghosts-at_turns : goal.ghosts-at_turns

@@ -1,4 +1,4 @@
-use Rattle.tpcc_book_tests.proofs.books.told.Given as goal
+use Rattle.tpcc_memory_tests.proofs.books.tell.Given as goal
 
 -- the book that is started
 abbrev pub ghosts-at_book : goal.ghosts-at_book
