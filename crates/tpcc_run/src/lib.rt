@@ -1,6 +1,6 @@
 //! Runs: terminals, a delivery runner and servers, if any, each in a thread of its own, up to the settlement.
 //!
-//! `run` and `run_shown` start every thread of a `Plan` and join it, whatever happens; then they settle the book with all
+//! `run` and `run_shown` start the threads of a `Plan` and join each that was started; then they settle the book with all
 //! purses, and write the report, or the parts that were asked for.
 //!
 //! ```text
