@@ -54,7 +54,7 @@ fn at_named_turns<N: Naming, T: Seating, R: Wait + Abort>(
 )
     requires name { turns.table ≡ T.table }
 {
-    let (turns, first) = turns.named::<T>();
+    let (turns, first) = turns.name::<T>();
     let purses = three_turns(rt, alloc, &turns, first, story);
     let sums = (3, Cents::new(350), Cents::new(350));
     let wanted = match story {

@@ -1,8 +1,8 @@
 //! The consistency conditions of clause 3.3.2, tested over all rows.
 #![tactic(auto)]
 
-pub mod all;
-pub mod broken;
+mod all;
+mod broken;
 mod condition;
 mod district_totals;
 mod keeps;

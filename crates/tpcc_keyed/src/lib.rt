@@ -2,12 +2,12 @@
 #![tactic(auto)]
 
 pub mod insertion;
-pub mod keyed;
-pub mod names;
+mod keyed;
+mod names;
 mod order_lines;
-pub mod parts;
+mod parts;
 pub mod places;
-pub mod runs;
+mod runs;
 pub mod search;
 
 pub use keyed::{Keyed, Owned};

@@ -3,8 +3,8 @@
 
 mod asked;
 mod lines;
-pub mod orders;
-pub mod stocks;
+mod orders;
+mod stocks;
 
 pub use orders::order_status;
 pub use stocks::stock_level;

@@ -10,7 +10,7 @@ mod ranges;
 mod replies;
 mod rows;
 mod supply;
-pub mod transaction;
+mod transaction;
 
 pub use tpcc_rows::{Entered, Line, Order};
 pub use transaction::{Prepared, enter, finish, prepare};

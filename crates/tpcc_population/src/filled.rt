@@ -41,7 +41,7 @@ fn fill_plain(alloc: Global, scale: Scale) -> Result<Tables, NoMemory>
 {
     let lists = plain_lists(alloc, scale)?;
     plain_is_sound(scale);
-    Tables::filled(lists, alloc)
+    Tables::of(lists, alloc)
 }
 
 fn fill_seeded(alloc: Global, seed: Seed) -> Result<Tables, NoMemory>
@@ -49,7 +49,7 @@ fn fill_seeded(alloc: Global, seed: Seed) -> Result<Tables, NoMemory>
 {
     let lists = seeded_lists(alloc, seed)?;
     is_sound(seed);
-    Tables::filled(lists, alloc)
+    Tables::of(lists, alloc)
 }
 
 fn is_sound(seed: Seed)

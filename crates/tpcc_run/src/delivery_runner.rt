@@ -60,7 +60,8 @@ impl<
     fn drain_back(&self, back: Back<'s, N, T, C>) -> Back<'s, N, T, C>
         requires receipts { IfSome back.operator (λ s. AllStand s.purse.front s.terminal.receipts) }
         requires make { F.IsAlwaysCallable self.now.make.now }
-        ensures receipts { IfSome result.operator (λ s. AllStand s.purse.front s.terminal.receipts) }
+        ensures receipts { IfSome result.operator
+            (λ s. AllStand s.purse.front s.terminal.receipts) }
     {
         let Back { operator, fault } = back;
         match operator {

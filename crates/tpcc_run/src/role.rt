@@ -69,7 +69,8 @@ impl<
     ) -> Asked<'s, N, T, C>
         requires receipts { AllStand operator.purse.front operator.terminal.receipts }
         requires make { F.IsAlwaysCallable self.now.make.now }
-        ensures receipts { IfSome result.operator (λ s. AllStand s.purse.front s.terminal.receipts) }
+        ensures receipts { IfSome result.operator
+            (λ s. AllStand s.purse.front s.terminal.receipts) }
         ensures back { result.fault ≡ None → IsSome result.operator }
         ensures asked { result.fault ≡ None → IfSome result.operator (λ s.
             HasAskedNext role self.now.plan.moment
@@ -96,7 +97,8 @@ impl<
     ) -> Back<'s, N, T, C>
         requires receipts { AllStand operator.purse.front operator.terminal.receipts }
         requires make { F.IsAlwaysCallable self.now.make.now }
-        ensures receipts { IfSome result.operator (λ s. AllStand s.purse.front s.terminal.receipts) }
+        ensures receipts { IfSome result.operator
+            (λ s. AllStand s.purse.front s.terminal.receipts) }
         ensures back { result.fault ≡ None → IsSome result.operator }
         ensures asked { result.fault ≡ None → IfSome result.operator (λ s.
             HasAskedAll role most self.now.plan.moment

@@ -136,7 +136,7 @@ fn run_seated<
     requires name { turns.table ≡ T.table }
     ensures settled { IfOk result (λ s. HasTotals turns.opening s.book s.report) }
 {
-    let (turns, first) = turns.named::<T>();
+    let (turns, first) = turns.name::<T>();
     let context = RunContext {
         rt: lent.rt,
         alloc: lent.alloc,

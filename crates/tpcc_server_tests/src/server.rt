@@ -66,7 +66,7 @@ fn at_its_turns<
 >(rt: &R, alloc: Global, turns: UnnamedTurns<N>, story: Story)
     requires name { turns.table ≡ T.table }
 {
-    let (turns, mut first) = turns.named::<T>();
+    let (turns, mut first) = turns.name::<T>();
     let one = first.split(&turns, 1);
     let two = first.split(&turns, 2);
     let other = first.split(&turns, 3);

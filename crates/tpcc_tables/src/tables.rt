@@ -10,8 +10,8 @@ ghost use Rattle.tpcc_rows.specs.Lookups.{last_order_number, is_low};
 ghost use Rattle.tpcc_rows.specs.Lists.{distinct};
 ghost use Rattle.tpcc_tables.specs.Loads.{find_order_line};
 
-mod filled;
 mod load;
+mod of_lists;
 mod positions;
 mod totals;
 mod writes;

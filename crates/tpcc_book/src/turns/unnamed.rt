@@ -64,7 +64,7 @@ impl<N: Naming> UnnamedTurns<N> {
     }
 
     /// The turns under a name, and the first purse, which has seen nothing.
-    pub fn named<T: Seating>(self) -> (Turns<N, T>, SeatedPurse<N, T>)
+    pub fn name<T: Seating>(self) -> (Turns<N, T>, SeatedPurse<N, T>)
         requires name { self.table ≡ T.table }
         ensures turns { result.0 ≡ self.opening }
         ensures purse { result.1

@@ -12,7 +12,7 @@ use tpcc_money::NoMemory;
 
 impl Tables {
     /// The tables of well-keyed rows. Refused only for want of memory.
-    pub fn filled(lists: Lists, alloc: Global) -> Result<Tables, NoMemory>
+    pub fn of(lists: Lists, alloc: Global) -> Result<Tables, NoMemory>
         requires keyed { IsWellKeyed (listed lists) }
         ensures rows { IfOk result (λ tables. tables.rows ≡ listed lists) }
     {
