@@ -77,8 +77,8 @@ pub(crate) fn serve_session<N: Naming, R: Read, W: Write>(
 ) -> Result<usize, ScriptFault>
     ensures gave_up { IfErr result (HasGivenUp watch.new) }
     ensures counted { (bytes : List ℕ) → R.remaining input.old ≡ Some bytes
-        → IsCounted (book_of session.old) (script_of bytes) (W.contents out.old) (W.contents out.new)
-        (book_of session.new) result }
+        → IsCounted (book_of session.old) (script_of bytes)
+        (W.contents out.old) (W.contents out.new) (book_of session.new) result }
 {
     match serve_script(alloc, session, input, out, watch) {
         Ok(()) => Ok(session.entries()),

@@ -75,7 +75,12 @@ fn put_broken(
     number: u32,
 ) -> Result<(), NoMemory>
     ensures { OnOk result (Adds screen.old screen.new (screens.check_screen
-        (Some (record { condition = condition; warehouse = warehouse; district = district; number = number })))) }
+        (Some (record {
+          condition = condition;
+          warehouse = warehouse;
+          district = district;
+          number = number;
+        })))) }
 {
     screen.put_number(b"broken ", condition)?;
     screen.put_number(b" ", warehouse)?;
@@ -94,7 +99,12 @@ pub fn broken_screen(
     number: u32,
 ) -> Result<Screen, NoMemory>
     ensures { IfOk result (λ screen. screen ≡ screens.check_screen
-        (Some (record { condition = condition; warehouse = warehouse; district = district; number = number }))) }
+        (Some (record {
+          condition = condition;
+          warehouse = warehouse;
+          district = district;
+          number = number;
+        }))) }
 {
     let mut screen = Screen::new(alloc);
     put_broken(&mut screen, condition, warehouse, district, number)?;

@@ -6,11 +6,11 @@ ghost use Rattle.tpcc_terminal.specs.Terminals.{deck_to_deal, next_card};
 use tpcc_draws::{Card, Stream};
 use tpcc_money::NoMemory;
 
-#[tactic(auto, using(crate::proofs::Decks::some_cards))]
 // Shuffles a new deck where no card is left.
+#[tactic(auto, using(crate::proofs::Decks::some_cards))]
 fn renew(cards: &mut Vec<Card>, stream: &mut Stream) -> Result<(), NoMemory>
-    ensures renewed { OnOk result
-        ((cards.new.items, answers stream.new) ≡ deck_to_deal cards.old.items (answers stream.old)) }
+    ensures renewed { OnOk result ((cards.new.items, answers stream.new)
+        ≡ deck_to_deal cards.old.items (answers stream.old)) }
     ensures some { OnOk result (0 < length cards.new.items) }
     ensures refused { OnErr result
         ((cards.new.items ≡ cards.old.items) × (stream.new ≡ stream.old)) }
