@@ -7,6 +7,7 @@ ghost use Rattle.std.specs.Prelude.{◌≡◌};
 ghost use Rattle.tpcc_book.specs.Seats.{IsTurned};
 ghost use Rattle.tpcc_book.specs.Turn.{TakesTurn, MakesTurn};
 
+mod boxed_book;
 mod gather;
 mod held;
 mod knows;
@@ -17,10 +18,10 @@ mod steps;
 mod unnamed;
 
 use crate::answer::Answer;
-use crate::book::Book;
 use crate::naming::Naming;
 use crate::outcome::Turned;
 use crate::register::Register;
+use crate::turns::boxed_book::BoxedBook;
 use crate::turns::knows::Knows;
 use crate::turns::rule::TurnRule;
 use crate::turns::steps::{give, take};
@@ -39,7 +40,7 @@ pub use unnamed::UnnamedTurns;
 #[derive(Drop)]
 pub struct Turns<N: Naming, T: Seating> {
     /// Both words, the book's slot and the seats' rule.
-    table: Table<Option<Book<N>>, Knows, Opening, TurnRule<N>, Global>,
+    table: Table<Option<BoxedBook<N>>, Knows, Opening, TurnRule<N>, Global>,
     /// Which table it is, for its type alone.
     of: PhantomData<T>,
 }
@@ -58,7 +59,7 @@ impl<N: Naming, T: Seating> Model for Turns<N, T> {
 
 impl<N: Naming, T: Seating> Turns<N, T> {
     pub(crate) fn of(
-        table: Table<Option<Book<N>>, Knows, Opening, TurnRule<N>, Global>,
+        table: Table<Option<BoxedBook<N>>, Knows, Opening, TurnRule<N>, Global>,
     ) -> Turns<N, T>
         requires name { table.shared.table_id ≡ T.table }
         requires counts { (table.shared.table_id.words ≡ 2) × (table.shared.table_id.slots ≡ 1) }
@@ -107,7 +108,7 @@ impl<N: Naming, T: Seating> Turns<N, T> {
             badge,
             of,
         } = purse;
-        let mut seat = badge.into_seat::<Option<Book<N>>>();
+        let mut seat = badge.into_seat::<Option<BoxedBook<N>>>();
         let board = &self.table.shared;
         let (ticket, mut book) = take(rt, board, &mut seat);
         let turned = book.serve_for(request, &mut purse, turn);

@@ -13,6 +13,7 @@ use crate::book::Book;
 use crate::naming::Naming;
 use crate::purse::{ALL_PARTS, Pool};
 use crate::turns::Turns;
+use crate::turns::boxed_book::BoxedBook;
 use crate::turns::knows::Knows;
 use crate::turns::seated::{SeatedPurse, Seating};
 use crate::turns::steps::{Board, Place};
@@ -72,7 +73,7 @@ fn join_all<N: Naming, T: Seating>(
         badge,
         of: _,
     } = last;
-    let mut seat = badge.into_seat::<Option<Book<N>>>();
+    let mut seat = badge.into_seat::<Option<BoxedBook<N>>>();
     let mut pool = Pool::of(purse);
     while let Some(next) = rest.pop() {
         join(board, &mut seat, &mut pool, next);
@@ -99,13 +100,13 @@ fn join<N: Naming, T: Seating>(
         badge,
         of: _,
     } = purse;
-    board.join_seat::<Joining>(seat, badge.into_seat::<Option<Book<N>>>());
+    board.join_seat::<Joining>(seat, badge.into_seat::<Option<BoxedBook<N>>>());
     pool.take_in(purse);
 }
 
-// The book of a closed table, where each ticket that was drawn was served. What a book is stays open: so this is
+// What lies in the slot of a closed table, where each ticket that was drawn was served. What it is stays open: so this is
 // proved of a plain parameter.
-fn book_of<B: Drop>(closed: Closed<Option<B>, Global>) -> Option<B>
+fn home_of<B: Drop>(closed: Closed<Option<B>, Global>) -> Option<B>
     requires full { IsFull closed.words × IsFull closed.slots }
     requires counts { (slots_len closed.words ≡ 2) × (slots_len closed.slots ≡ 1) }
     ensures told { TellsBook (slots_items closed.words) (slots_items closed.slots) result }
@@ -116,6 +117,25 @@ fn book_of<B: Drop>(closed: Closed<Option<B>, Global>) -> Option<B>
     let slot = closed.take(0);
     closed.free();
     if drawn == served { slot } else { None }
+}
+
+// The book out of its block.
+fn unbox<N: Naming>(book: Option<BoxedBook<N>>) -> Option<Book<N>>
+    ensures { result ≡ book }
+{
+    match book {
+        Some(book) => Some(book.into_book()),
+        None => None,
+    }
+}
+
+// The book of a closed table, where each ticket that was drawn was served.
+fn book_of<N: Naming>(closed: Closed<Option<BoxedBook<N>>, Global>) -> Option<Book<N>>
+    requires full { IsFull closed.words × IsFull closed.slots }
+    requires counts { (slots_len closed.words ≡ 2) × (slots_len closed.slots ≡ 1) }
+    ensures told { TellsBook (slots_items closed.words) (slots_items closed.slots) result }
+{
+    unbox(home_of(closed))
 }
 
 // The book with the two totals, where all purses are pooled.

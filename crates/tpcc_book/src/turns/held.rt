@@ -4,12 +4,12 @@ ghost use Rattle.tpcc_book.specs.Seats.{IsTurned, keeper_of};
 ghost use Rattle.tpcc_book.specs.Turn.{TakesTurn, MakesTurn};
 
 use crate::answer::Answer;
-use crate::book::Book;
 use crate::naming::Naming;
 use crate::outcome::Turned;
 use crate::purse::Purse;
 use crate::register::Register;
 use crate::turns::Turns;
+use crate::turns::boxed_book::BoxedBook;
 use crate::turns::seated::{SeatedPurse, Seating};
 use crate::turns::steps::{Place, adopt, free, give, show, take};
 use std::marker::{Model, PhantomData};
@@ -27,7 +27,7 @@ pub struct HeldTurn<N: Naming, T: Seating> {
     /// The ticket that is served, modulo 2^64.
     ticket: u64,
     /// The book, out of its slot.
-    book: Book<N>,
+    book: BoxedBook<N>,
     /// Which table it is, for its type alone.
     of: PhantomData<T>,
 }
@@ -52,7 +52,7 @@ impl<N: Naming, T: Seating> Turns<N, T> {
         ensures keeper { result ≡ keeper_of purse }
     {
         let SeatedPurse { purse, badge, of } = purse;
-        let mut seat = badge.into_seat::<Option<Book<N>>>();
+        let mut seat = badge.into_seat::<Option<BoxedBook<N>>>();
         let (ticket, book) = take(rt, &self.table.shared, &mut seat);
         HeldTurn {
             purse,
@@ -99,7 +99,7 @@ impl<N: Naming, T: Seating> Turns<N, T> {
             of: _,
         } = purse;
         let board = &self.table.shared;
-        adopt(board, &mut seat, badge.into_seat::<Option<Book<N>>>());
+        adopt(board, &mut seat, badge.into_seat::<Option<BoxedBook<N>>>());
         let turned = book.serve_for(request, &mut purse, turn);
         let book = show(board, &mut seat, book);
         let _journal = book.journal();

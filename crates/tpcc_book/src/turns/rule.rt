@@ -2,8 +2,8 @@
 //!
 //! Word 0 is the next ticket to be drawn, word 1 the ticket that is served. The one slot holds the book,
 //! which the seat that is served has taken out.
-use crate::book::Book;
 use crate::naming::Naming;
+use crate::turns::boxed_book::BoxedBook;
 use crate::turns::knows::Knows;
 use atomic_table::{Play, TableRule};
 use std::marker::PhantomData;
@@ -14,7 +14,7 @@ pub struct TurnRule<N> {
     of: PhantomData<N>,
 }
 
-impl<N: Naming> TableRule<Option<Book<N>>, Knows, Opening> for TurnRule<N> {
+impl<N: Naming> TableRule<Option<BoxedBook<N>>, Knows, Opening> for TurnRule<N> {
     ghost use Rattle.tpcc_book.specs.TurnRule.{IsTurning, first};
 
     ghost holds = { IsTurning };
@@ -25,7 +25,7 @@ impl<N: Naming> TableRule<Option<Book<N>>, Knows, Opening> for TurnRule<N> {
 /// Drawing a ticket.
 pub struct Draw;
 
-impl<N: Naming> Play<Option<Book<N>>, Knows> for Draw {
+impl<N: Naming> Play<Option<BoxedBook<N>>, Knows> for Draw {
     ghost use Rattle.tpcc_book.specs.TurnRule.{DrawStep};
 
     ghost then = { DrawStep };
@@ -34,7 +34,7 @@ impl<N: Naming> Play<Option<Book<N>>, Knows> for Draw {
 /// Looking whether it is served, and taking the book.
 pub struct Look;
 
-impl<N: Naming> Play<Option<Book<N>>, Knows> for Look {
+impl<N: Naming> Play<Option<BoxedBook<N>>, Knows> for Look {
     ghost use Rattle.tpcc_book.specs.TurnRule.{LookStep};
 
     ghost then = { LookStep };
@@ -43,7 +43,7 @@ impl<N: Naming> Play<Option<Book<N>>, Knows> for Look {
 /// Telling that the journal is that of the book in hand.
 pub struct Grow;
 
-impl<N: Naming> Play<Option<Book<N>>, Knows> for Grow {
+impl<N: Naming> Play<Option<BoxedBook<N>>, Knows> for Grow {
     ghost use Rattle.tpcc_book.specs.TurnRule.{GrowStep};
 
     ghost then = { GrowStep };
@@ -52,7 +52,7 @@ impl<N: Naming> Play<Option<Book<N>>, Knows> for Grow {
 /// Giving the book back, and serving the next ticket.
 pub struct End;
 
-impl<N: Naming> Play<Option<Book<N>>, Knows> for End {
+impl<N: Naming> Play<Option<BoxedBook<N>>, Knows> for End {
     ghost use Rattle.tpcc_book.specs.TurnRule.{EndStep};
 
     ghost then = { EndStep };

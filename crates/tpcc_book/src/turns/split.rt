@@ -1,9 +1,9 @@
 //! Splitting a seated purse.
 ghost use Rattle.std.specs.Prelude.{◌≡◌, ◌+◌, ◌<◌, pos};
 
-use crate::book::Book;
 use crate::naming::Naming;
 use crate::turns::Turns;
+use crate::turns::boxed_book::BoxedBook;
 use crate::turns::knows::Knows;
 use crate::turns::seated::{SeatedPurse, Seating};
 use atomic_table::{Badge, Split};
@@ -51,7 +51,7 @@ impl<N: Naming, T: Seating> SeatedPurse<N, T> {
     {
         let board = &turns.table.shared;
         let badge = replace(&mut self.badge, Badge::blank());
-        let mut seat = badge.into_seat::<Option<Book<N>>>();
+        let mut seat = badge.into_seat::<Option<BoxedBook<N>>>();
         let given = board.split_seat::<OnePart>(&mut seat);
         self.badge = seat.into_badge();
         SeatedPurse {

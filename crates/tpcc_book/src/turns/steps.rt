@@ -8,8 +8,8 @@ ghost use Rattle.tpcc_book.specs.Shares.{both_of, last_parts, freed_of, back_of}
 ghost use Rattle.tpcc_rows.specs.declared.entry.Entry.{Entry};
 ghost use Rattle.tpcc_book.specs.Past.{Past};
 
-use crate::book::Book;
 use crate::naming::Naming;
+use crate::turns::boxed_book::BoxedBook;
 use crate::turns::gather::Joining;
 use crate::turns::knows::Knows;
 use crate::turns::rule::{Draw, End, Grow, Look, TurnRule};
@@ -20,10 +20,10 @@ use std::thread;
 use tpcc_population::Opening;
 
 /// The words and the slot that all seats share.
-pub type Board<N> = Shared<Option<Book<N>>, Knows, Opening, TurnRule<N>>;
+pub type Board<N> = Shared<Option<BoxedBook<N>>, Knows, Opening, TurnRule<N>>;
 
 /// A seat at the board.
-pub type Place<N> = Seat<Option<Book<N>>, Knows>;
+pub type Place<N> = Seat<Option<BoxedBook<N>>, Knows>;
 
 // Draws a ticket.
 fn draw<N: Naming>(board: &Board<N>, seat: &mut Place<N>) -> u64
@@ -70,7 +70,7 @@ pub(crate) fn take<N: Naming, R: Wait>(
     rt: &R,
     board: &Board<N>,
     seat: &mut Place<N>,
-) -> (u64, Book<N>)
+) -> (u64, BoxedBook<N>)
     requires fits { (seat.old.table_id ≡ board.now.table_id) × (board.now.table_id.words ≡ 2) }
     requires idle { (seat.old.me.0.stage ≡ Idle) × (0 < seat.old.me.0.parts)
         × (seat.old.me.1 ≡ []) }
@@ -112,7 +112,11 @@ pub(crate) fn adopt<N: Naming>(board: &Board<N>, seat: &mut Place<N>, other: Pla
 }
 
 /// Tells the turn's seat that the journal is that of the book, which comes back.
-pub(crate) fn show<N: Naming>(board: &Board<N>, seat: &mut Place<N>, book: Book<N>) -> Book<N>
+pub(crate) fn show<N: Naming>(
+    board: &Board<N>,
+    seat: &mut Place<N>,
+    book: BoxedBook<N>,
+) -> BoxedBook<N>
     requires fits { (seat.old.table_id ≡ board.now.table_id) × (board.now.table_id.words ≡ 2) }
     requires growing { CanShow seat.old.me book }
     ensures same { (seat.new.table_id ≡ seat.old.table_id) × (seat.new.id ≡ seat.old.id) }
@@ -153,7 +157,12 @@ pub(crate) fn free<N: Naming>(board: &Board<N>, seat: &mut Place<N>) -> Place<N>
 }
 
 /// Gives the book back, and ends the turn.
-pub(crate) fn give<N: Naming>(board: &Board<N>, seat: &mut Place<N>, ticket: u64, book: Book<N>)
+pub(crate) fn give<N: Naming>(
+    board: &Board<N>,
+    seat: &mut Place<N>,
+    ticket: u64,
+    book: BoxedBook<N>,
+)
     requires fits { (seat.old.table_id ≡ board.now.table_id) × (board.now.table_id.words ≡ 2) }
     requires giving { CanGive seat.old.me ticket book }
     ensures same { (seat.new.table_id ≡ seat.old.table_id) × (seat.new.id ≡ seat.old.id) }

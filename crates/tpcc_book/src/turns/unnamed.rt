@@ -6,6 +6,7 @@ use crate::book::Book;
 use crate::naming::{Blanks, Naming};
 use crate::purse::Purse;
 use crate::turns::Turns;
+use crate::turns::boxed_book::BoxedBook;
 use crate::turns::knows::Knows;
 use crate::turns::rule::TurnRule;
 use crate::turns::seated::{SeatedPurse, Seating};
@@ -21,7 +22,7 @@ use tpcc_population::Opening;
 #[derive(Drop)]
 pub struct UnnamedTurns<N: Naming> {
     /// Both words and the new book in its slot.
-    table: Table<Option<Book<N>>, Knows, Opening, TurnRule<N>, Global>,
+    table: Table<Option<BoxedBook<N>>, Knows, Opening, TurnRule<N>, Global>,
     /// The first seat, which has all parts.
     seat: Place<N>,
     /// The book's first purse.
@@ -75,8 +76,16 @@ impl<N: Naming> UnnamedTurns<N> {
     }
 }
 
-// The slot with the book, of whatever a book is.
-fn slot_of<B: Drop>(alloc: Global, book: B) -> Result<Vec<Option<B>>, NoMemory>
+// The slot with the book in its block.
+fn slot_of<N: Naming>(alloc: Global, book: Book<N>) -> Result<Vec<Option<BoxedBook<N>>>, NoMemory>
+    ensures slot { IfOk result (λ slots. slots.items ≡ Some book ∷ []) }
+{
+    let boxed = BoxedBook::new(alloc, book)?;
+    one_slot(alloc, boxed)
+}
+
+// One slot that is full, of whatever lies in it.
+fn one_slot<B: Drop>(alloc: Global, book: B) -> Result<Vec<Option<B>>, NoMemory>
     ensures slot { IfOk result (λ slots. slots.items ≡ Some book ∷ []) }
 {
     let mut slots = Vec::with_capacity(alloc, 1)?;

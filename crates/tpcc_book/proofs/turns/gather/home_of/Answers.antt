@@ -1,5 +1,5 @@
 use Rattle.std.proofs.Common.{rules, arith, ℕ, ◌≡◌, ◌∷◌, ◌∙◌, ap, refl, List, [], Bool, false, get_or, set}
-use Rattle.tpcc_book.proofs.turns.gather.book_of.Goals as goal
+use Rattle.tpcc_book.proofs.turns.gather.home_of.Goals as goal
 
 pub word-drawn-requires : goal.word-drawn-requires
 word-drawn-requires g c = (omega (arith, c.requires.counts.0), c.requires.full.0)
