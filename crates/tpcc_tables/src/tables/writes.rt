@@ -17,6 +17,7 @@ impl Tables {
     pub fn reserve_payment(&mut self) -> Result<(), NoMemory>
         ensures same { self.new.rows ≡ self.old.rows }
         ensures room { OnOk result (0 < self.new.payment_room) }
+        ensures orders { self.new.order_room ≡ self.old.order_room }
     {
         if self.histories.reserve(1).is_err() {
             return Err(NoMemory);
@@ -29,6 +30,7 @@ impl Tables {
     pub fn reserve_order(&mut self, lines: u32) -> Result<(), NoMemory>
         ensures same { self.new.rows ≡ self.old.rows }
         ensures room { OnOk result (lines < self.new.order_room) }
+        ensures payments { self.new.payment_room ≡ self.old.payment_room }
     {
         if !self.are_open {
             let districts = self.districts.as_slice();
@@ -50,7 +52,8 @@ impl Tables {
     pub fn pay(&mut self, history: HistoryRow, information: Option<Text<500>>)
         requires room { 0 < self.old.payment_room }
         requires payment { IsPayment self.old.rows history information }
-        ensures { self.new.rows ≡ with_payment self.old.rows history information }
+        ensures rows { self.new.rows ≡ with_payment self.old.rows history information }
+        ensures orders { self.new.order_room ≡ self.old.order_room }
     {
         place::pay_warehouse(&mut self.warehouses, history.warehouse, history.amount);
         place::pay_district(
@@ -78,7 +81,8 @@ impl Tables {
     pub fn append_order(&mut self, order: OrderRow, lines: &[OrderLineRow])
         requires room { length lines.now < self.old.order_room }
         requires order { IsOrder self.old.rows order lines.now }
-        ensures { self.new.rows ≡ with_entered_order self.old.rows order lines.now }
+        ensures rows { self.new.rows ≡ with_entered_order self.old.rows order lines.now }
+        ensures payments { self.new.payment_room ≡ self.old.payment_room }
     {
         place::raise_next_order(&mut self.districts, order.warehouse, order.district);
         supply::supply(&mut self.stocks, order.warehouse, lines);
@@ -108,8 +112,9 @@ impl Tables {
         requires oldest { oldest_new_order self.old.rows warehouse district ≡ Some order }
         requires carrier { is_carrier carrier ≡ true }
         requires accepted { district_refusal self.old.rows warehouse district (Some order) ≡ None }
-        ensures { self.new.rows
+        ensures rows { self.new.rows
             ≡ after_delivery self.old.rows warehouse district order carrier moment }
+        ensures payments { self.new.payment_room ≡ self.old.payment_room }
     {
         let _seconds = moment.seconds();
         let lines = self.order_lines.lines_of(warehouse, district, order);

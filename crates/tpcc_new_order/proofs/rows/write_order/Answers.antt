@@ -35,4 +35,4 @@ returns-clause-rows c =
     written_is rows o c.order_row.result c.as_slice.result.now c.requires.stocked c.requires.accepted c.requires.entered moment
     (c.order_row.ensures ∙ (λ i. order_row_from (number_shown rows o c.show_order-shown.result c.show_order-shown.ensures.reply i) o))
     (c.as_slice.ensures.items ∙ c.show_order-shown.ensures.rows) in
-    c.append_order.ensures ∙ order_is rows c.order_row.result c.as_slice.result.now o written
+    c.append_order.ensures.rows ∙ order_is rows c.order_row.result c.as_slice.result.now o written

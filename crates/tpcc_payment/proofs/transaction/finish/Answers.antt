@@ -25,7 +25,7 @@ pay-requires-clause-payment c = (
 
 pub returns-clause-rows : goal.returns-clause-rows
 returns-clause-rows c =
-    c.pay.ensures
+    c.pay.ensures.rows
     ∙ payment_is c.args.tables.now.rows c.history_row-history.result c.information_after-information.result c.args.payment.now c.well_keyed.ensures.keyed
     (writes_of c.args.tables.now.rows c.args.payment.now c.named_rows-named.result c.history_row-history.result c.information_after-information.result c.named_rows-named.ensures
     (is_in 0 4102444799 c.args.payment.now.moment (omega arith) (omega (arith, c.seconds-moment.ensures.range))) c.history_row-history.ensures c.information_after-information.ensures)

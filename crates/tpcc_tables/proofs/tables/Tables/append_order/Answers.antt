@@ -46,8 +46,8 @@ invariant_of-self c =
       payments = c.self.invariant.payments;
     }
 
-pub returns : goal.returns
-returns c =
+pub returns-clause-rows : goal.returns-clause-rows
+returns-clause-rows c =
     written_rows (rows_of c.self.inside) c.args.order c.args.lines.now c.args.lines.now c.raise_next_order.new.rows.items c.append-2.new.self.rows c.append_all.new.self.rows c.append.new.self.rows c.supply.new.rows.items
     refl c.raise_next_order.ensures c.append-2.ensures.rows c.append_all.ensures.rows c.append.ensures.rows c.supply.ensures
     ∙ ap (λ (t : Held). with_entered_order t.rows c.args.order c.args.lines.now) c.self.view_is

@@ -50,8 +50,8 @@ invariant_of-self c =
       payments = c.self.invariant.payments;
     }
 
-pub returns : goal.returns
-returns c =
+pub returns-clause-rows : goal.returns-clause-rows
+returns-clause-rows c =
     delivered_rows (rows_of c.self.inside) c.args.warehouse c.args.district c.args.order c.args.carrier c.args.moment c.customer_of-customer.result c.amount-amount.result c.remove_new_order.new.rows.rows c.carry.new.rows.rows c.stamp.new.self.rows c.charge.new.rows.items
     c.customer_of-customer.ensures
     (c.amount-amount.ensures ∙ ap (total (λ l. l.amount)) c.lines_of-lines.ensures)

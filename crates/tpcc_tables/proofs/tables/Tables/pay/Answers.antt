@@ -48,9 +48,9 @@ invariant_of-self c =
       payments = search rules;
     }
 
-pub returns : goal.returns
+pub returns-clause-rows : goal.returns-clause-rows
 unfolding with_payment
-returns c =
+returns-clause-rows c =
     rw (c.pay_warehouse.ensures, c.pay_district.ensures, c.pay_customer.ensures, c.append_history.ensures, ← c.self.view_is) refl
 
 pub pay-requires : goal.pay-requires
