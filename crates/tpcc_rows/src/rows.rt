@@ -223,7 +223,7 @@ pub struct ItemRow {
     pub information: Text<50>,
 }
 
-/// STOCK: one item in one warehouse.
+/// STOCK: one item in one warehouse. What each order line reads and writes stands together, in front of S_DIST.
 #[derive(Clone, Copy, PartialEq, Eq)]
 pub struct StockRow {
     /// S_I_ID, 1 to 100,000.
@@ -232,8 +232,6 @@ pub struct StockRow {
     pub warehouse: u32,
     /// S_QUANTITY, 10 to 100.
     pub quantity: u32,
-    /// S_DIST_01 to S_DIST_10, each exactly 24 bytes.
-    pub district_information: [Text<24>; 10],
     /// S_YTD: rises by the quantity of each order line that it supplies, at most 99,999,999.
     pub ytd: u32,
     /// S_ORDER_CNT: rises by one with each order line that it supplies, at most 999,999,999.
@@ -242,4 +240,6 @@ pub struct StockRow {
     pub remote_count: u32,
     /// S_DATA.
     pub information: Text<50>,
+    /// S_DIST_01 to S_DIST_10, each exactly 24 bytes.
+    pub district_information: [Text<24>; 10],
 }
