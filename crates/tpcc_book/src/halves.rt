@@ -15,9 +15,9 @@ use tpcc_tables::Tables;
 #[derive(Clone, Copy)]
 pub enum Prepared {
     /// Whether its rows are written or it is rolled back.
-    NewOrder(tpcc_new_order::Prepared),
+    NewOrder(tpcc_new_order::PreparedOrder),
     /// The key of the paying customer.
-    Payment(tpcc_payment::Prepared),
+    Payment(tpcc_payment::PreparedPayment),
     /// Nothing: the reply is long, and is made in the second half.
     Status,
     /// The whole answer, which is short.

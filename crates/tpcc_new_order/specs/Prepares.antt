@@ -16,16 +16,16 @@ use Rattle.tpcc_rows.specs.declared.replies.AcceptedOrder.{AcceptedOrder}
 use Rattle.tpcc_rows.specs.declared.replies.RolledBackOrder.{RolledBackOrder}
 use Rattle.tpcc_rows.specs.Tables.{Rows}
 use Rattle.tpcc_rows.specs.NewOrder.{brand_of, district_information_of, is_rolled_back, stock_after}
-use Rattle.tpcc_new_order.specs.declared.transaction.Prepared.{Prepared}
-use Rattle.tpcc_new_order.specs.declared.transaction.Prepared.TheVariants.{Enter, RollBack}
+use Rattle.tpcc_new_order.specs.declared.transaction.PreparedOrder.{PreparedOrder}
+use Rattle.tpcc_new_order.specs.declared.transaction.PreparedOrder.TheVariants.{Enter, RollBack}
 
 -- an order is entered unless an unused item rolls it back
-abbrev pub IsPrepared : Rows → Order → Prepared → Type 0
+abbrev pub IsPrepared : Rows → Order → PreparedOrder → Type 0
 IsPrepared rows order Enter = is_rolled_back rows order ≡ false
 IsPrepared rows order RollBack = is_rolled_back rows order ≡ true
 
 -- there is room for the rows, if there are any
-abbrev pub HasRoom : ℕ → Order → Prepared → Type 0
+abbrev pub HasRoom : ℕ → Order → PreparedOrder → Type 0
 HasRoom room order Enter = length order.lines < room
 HasRoom room order RollBack = Unit {0}
 

@@ -13,4 +13,4 @@ mod supply;
 mod transaction;
 
 pub use tpcc_rows::{Entered, Line, Order};
-pub use transaction::{Prepared, enter, finish, prepare};
+pub use transaction::{PreparedOrder, enter, finish, prepare};

@@ -16,7 +16,7 @@ use tpcc_tables::Tables;
 
 /// What is left to do for an order that nothing refuses.
 #[derive(Clone, Copy)]
-pub enum Prepared {
+pub enum PreparedOrder {
     /// Its rows are written (2.4.2.2).
     Enter,
     /// It has an unused item, so no row changes (2.4.2.3).
@@ -24,7 +24,7 @@ pub enum Prepared {
 }
 
 /// The first refusal of an order, or what is left to do for it.
-fn judge(tables: &Tables, order: &Order) -> Result<Prepared, Refusal>
+fn judge(tables: &Tables, order: &Order) -> Result<PreparedOrder, Refusal>
     requires stocked { IsStocked tables.now.rows }
     ensures ok { IfOk result (IsPrepared tables.now.rows order.now) }
     ensures accepted { OnOk result (order_refusal tables.now.rows order.now ≡ None) }
@@ -33,23 +33,23 @@ fn judge(tables: &Tables, order: &Order) -> Result<Prepared, Refusal>
 {
     let named = rows_of_order(tables, order)?;
     if has_unused_item(tables, order.lines.as_slice()) {
-        return Ok(Prepared::RollBack);
+        return Ok(PreparedOrder::RollBack);
     }
     match range_refusal(tables, order, named.district.next_order) {
         Some(refusal) => Err(refusal),
-        None => Ok(Prepared::Enter),
+        None => Ok(PreparedOrder::Enter),
     }
 }
 
 /// Room for the rows of an order that is entered.
-fn make_room(tables: &mut Tables, order: &Order, prepared: Prepared) -> Result<(), NoMemory>
+fn make_room(tables: &mut Tables, order: &Order, prepared: PreparedOrder) -> Result<(), NoMemory>
     requires few { length order.now.lines ≤ 15 }
     ensures same { tables.new.rows ≡ tables.old.rows }
     ensures room { OnOk result (HasRoom tables.new.order_room order.now prepared) }
 {
     match prepared {
-        Prepared::Enter => tables.reserve_order(order.lines.as_slice().len() as u32),
-        Prepared::RollBack => Ok(()),
+        PreparedOrder::Enter => tables.reserve_order(order.lines.as_slice().len() as u32),
+        PreparedOrder::RollBack => Ok(()),
     }
 }
 
@@ -60,7 +60,7 @@ fn make_room(tables: &mut Tables, order: &Order, prepared: Prepared) -> Result<(
 /// unused item is rolled back (2.4.2.3). Any other is tested for its number and for its STOCK rows as they would be
 /// after it: `OrderNumbers`, `Count(StockOrders)`, `Count(RemoteOrders)`, `Total(StockYtd)`. Last comes `NoMemory`,
 /// where a growth is refused.
-pub fn prepare(tables: &mut Tables, order: &Order) -> Result<Prepared, Refusal>
+pub fn prepare(tables: &mut Tables, order: &Order) -> Result<PreparedOrder, Refusal>
     requires stocked { IsStocked tables.old.rows }
     ensures ok { IfOk result (IsPrepared tables.old.rows order.now) }
     ensures accepted { OnOk result (order_refusal tables.old.rows order.now ≡ None) }
@@ -77,7 +77,7 @@ pub fn prepare(tables: &mut Tables, order: &Order) -> Result<Prepared, Refusal>
 
 /// Writes an order that was prepared on the same rows (2.4.2.2), or nothing where it is rolled back, and gives its
 /// reply; takes no memory.
-pub fn finish(tables: &mut Tables, order: &Order, prepared: Prepared) -> Entered
+pub fn finish(tables: &mut Tables, order: &Order, prepared: PreparedOrder) -> Entered
     requires stocked { IsStocked tables.old.rows }
     requires accepted { order_refusal tables.old.rows order.now ≡ None }
     requires prepared { IsPrepared tables.old.rows order.now prepared }
@@ -86,8 +86,8 @@ pub fn finish(tables: &mut Tables, order: &Order, prepared: Prepared) -> Entered
     ensures reply { result ≡ order_reply tables.old.rows order.now }
 {
     match prepared {
-        Prepared::Enter => Entered::Accepted(write_order(tables, order)),
-        Prepared::RollBack => Entered::RolledBack(show_rollback(tables, order)),
+        PreparedOrder::Enter => Entered::Accepted(write_order(tables, order)),
+        PreparedOrder::RollBack => Entered::RolledBack(show_rollback(tables, order)),
     }
 }
 

@@ -14,7 +14,7 @@ use Rattle.tpcc_rows.specs.Tables.{Rows, find_warehouse, find_district, find_cus
 use Rattle.tpcc_rows.specs.ChosenCustomer.{chosen_customer}
 use Rattle.tpcc_rows.specs.Payment.{payment_refusal, paying_customer, payment_note, has_bad_credit}
 use Rattle.tpcc_payment.specs.declared.named_rows.NamedRows.{NamedRows}
-use Rattle.tpcc_payment.specs.declared.transaction.Prepared.{Prepared}
+use Rattle.tpcc_payment.specs.declared.transaction.PreparedPayment.{PreparedPayment}
 
 -- the three rows of a payment that nothing refuses
 pub record IsNamed (rows : Rows) (payment : Payment) (named : NamedRows) : Type 0 where
@@ -39,7 +39,7 @@ abbrev pub new_information : Payment → CustomerRow → Option (List ℕ)
 new_information p c = if has_bad_credit c then Some (take 500 (payment_note p c ++ c.information)) else None
 
 -- the key that was found is the paying customer's
-abbrev pub IsPrepared : Rows → Payment → Prepared → Type 0
+abbrev pub IsPrepared : Rows → Payment → PreparedPayment → Type 0
 IsPrepared rows payment prepared =
     find_customer rows prepared.customer.warehouse prepared.customer.district prepared.customer.customer ≡ Some (paying_customer rows payment)
 

@@ -13,13 +13,13 @@ use tpcc_tables::Tables;
 
 /// What was found out of a payment that nothing refuses.
 #[derive(Clone, Copy)]
-pub struct Prepared {
+pub struct PreparedPayment {
     /// The key of the customer whom the payment names by number or by last name (2.5.2.2).
     pub customer: CustomerKey,
 }
 
 /// The first refusal of a payment's rows and ranges, or its customer.
-fn judge(tables: &Tables, payment: &Payment) -> Result<Prepared, Refusal>
+fn judge(tables: &Tables, payment: &Payment) -> Result<PreparedPayment, Refusal>
     ensures ok { IfOk result (IsPrepared tables.now.rows payment.now) }
     ensures accepted { OnOk result (payment_refusal tables.now.rows payment.now ≡ None) }
     ensures err { IfErr result (λ refusal.
@@ -32,11 +32,11 @@ fn judge(tables: &Tables, payment: &Payment) -> Result<Prepared, Refusal>
         district: named.customer.district,
         customer: named.customer.id,
     };
-    Ok(Prepared { customer })
+    Ok(PreparedPayment { customer })
 }
 
 /// Tells every refusal and makes every growth; no row changes.
-pub fn prepare(tables: &mut Tables, payment: &Payment) -> Result<Prepared, Refusal>
+pub fn prepare(tables: &mut Tables, payment: &Payment) -> Result<PreparedPayment, Refusal>
     ensures ok { IfOk result (IsPrepared tables.old.rows payment.now) }
     ensures accepted { OnOk result (payment_refusal tables.old.rows payment.now ≡ None) }
     ensures room { OnOk result (0 < tables.new.payment_room) }
@@ -51,7 +51,7 @@ pub fn prepare(tables: &mut Tables, payment: &Payment) -> Result<Prepared, Refus
 }
 
 /// Writes a payment that was prepared on the same rows and gives its reply; takes no memory.
-pub fn finish(tables: &mut Tables, payment: &Payment, prepared: Prepared) -> Paid
+pub fn finish(tables: &mut Tables, payment: &Payment, prepared: PreparedPayment) -> Paid
     requires accepted { payment_refusal tables.old.rows payment.now ≡ None }
     requires prepared { IsPrepared tables.old.rows payment.now prepared }
     requires room { 0 < tables.old.payment_room }

@@ -10,6 +10,6 @@ mod usage;
 
 pub use fault::ProgramFault;
 pub use options::{Asked, Asking, Task, read_words};
-pub use progress::{Counting, Line, Progress};
+pub use progress::{Counting, Progress, ProgressLine};
 pub use timing::{Opened, Served, Times, Timing};
 pub use usage::tell_usage;

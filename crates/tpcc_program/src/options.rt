@@ -15,7 +15,7 @@ use tpcc_money::Moment;
 use tpcc_population::{Opening, Scale};
 use tpcc_rows::Table;
 use tpcc_run::{Plan, Service};
-use tpcc_show::{Parts, part_named};
+use tpcc_show::{ShownParts, part_named};
 
 /// How many times `--show` is taken.
 const MOST_SHOWS: usize = 16;
@@ -91,7 +91,7 @@ pub struct Asked {
     /// Whether `--seeded` is among the words: else the opening is plain and has neither seed nor moment.
     pub seeded: bool,
     /// What each `--show` of a script or a run asks for, in their order; none where there is none.
-    pub shows: Parts,
+    pub shows: ShownParts,
     /// Whether a script or a run tells how long it took.
     pub timed: bool,
 }
@@ -337,7 +337,7 @@ fn read_asking(matches: &ArgMatches<'_>) -> Result<Asking, ProgramFault>
 }
 
 // Adds a part where there is room for one more.
-fn add_show(shows: &mut Parts, word: &str) -> Result<(), ProgramFault> {
+fn add_show(shows: &mut ShownParts, word: &str) -> Result<(), ProgramFault> {
     match part_named(word.as_bytes()) {
         Some(part) if shows.len() < MOST_SHOWS => {
             shows.push(part);
@@ -347,8 +347,8 @@ fn add_show(shows: &mut Parts, word: &str) -> Result<(), ProgramFault> {
     }
 }
 
-fn read_shows(matches: &ArgMatches<'_>) -> Result<Parts, ProgramFault> {
-    let mut shows = Parts::empty();
+fn read_shows(matches: &ArgMatches<'_>) -> Result<ShownParts, ProgramFault> {
+    let mut shows = ShownParts::empty();
     if let Some(words) = matches.get_strs("show") {
         for word in words {
             add_show(&mut shows, word)?;

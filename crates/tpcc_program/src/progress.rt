@@ -65,11 +65,11 @@ impl Progress {
     }
 
     /// How far the run has come. What empties the queue of deliveries at the end is asked beyond the plan.
-    pub fn line(&self) -> Line
+    pub fn line(&self) -> ProgressLine
         ensures most { result.done ≤ result.asked }
     {
         let done = self.done.load(Ordering::SeqCst);
-        Line {
+        ProgressLine {
             done,
             asked: self.asked.max(done),
         }
@@ -86,14 +86,14 @@ impl Progress {
 
 /// A line of progress, such as `120 of 4600 requests`.
 #[derive(Clone, Copy, Debug, PartialEq, Eq)]
-pub struct Line {
+pub struct ProgressLine {
     /// How many requests were served, refused ones among them.
     pub done: u64,
     /// How many are asked in all.
     pub asked: u64,
 }
 
-impl Display for Line {
+impl Display for ProgressLine {
     fn fmt<W: fmt::Write>(&self, f: &mut Formatter<W>) -> fmt::Result {
         write!(f, "{} of {} requests", self.done, self.asked)
     }
@@ -105,7 +105,7 @@ struct Told {
     /// Whether a line was told before, whose place it takes.
     again: bool,
     /// What is told.
-    line: Line,
+    line: ProgressLine,
 }
 
 impl Display for Told {

@@ -7,7 +7,7 @@ mod requests;
 mod screens;
 mod showing;
 
-pub use parts::{Part, Parts, part_named};
+pub use parts::{Part, ShownParts, part_named};
 pub use requests::put_requests;
 pub use screens::{check_screen, results_screen};
 pub use showing::{show, show_served};

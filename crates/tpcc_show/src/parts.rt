@@ -26,7 +26,7 @@ pub enum Part {
 }
 
 /// Parts in the order in which they are shown.
-pub type Parts = Few<Part, 16>;
+pub type ShownParts = Few<Part, 16>;
 
 impl Blank for Part {
     ghost use Rattle.tpcc_show.specs.declared.parts.Part.TheVariants as parts;

@@ -199,7 +199,7 @@ fn runs_pass_over_a_gap_of_new_orders(rt: HostRuntime) {
 /// What goes from the first half of a transaction to the second: the sizes of docs/architecture.md.
 #[test]
 fn little_is_prepared(rt: HostRuntime) {
-    let order = size_of::<tpcc_new_order::Prepared>();
+    let order = size_of::<tpcc_new_order::PreparedOrder>();
     // A key of three numbers.
-    assert!(rt; (order, size_of::<tpcc_payment::Prepared>()) == (1, 3 * 4));
+    assert!(rt; (order, size_of::<tpcc_payment::PreparedPayment>()) == (1, 3 * 4));
 }

@@ -9,7 +9,7 @@ use std::time::{Clock, Duration};
 use tpcc_book::Register;
 use tpcc_money::Moment;
 use tpcc_population::{Opening, Scale};
-use tpcc_program::{Line, Progress};
+use tpcc_program::{Progress, ProgressLine};
 use tpcc_rows::{Request, StockQuery};
 use tpcc_run::{Plan, Service};
 use tpcc_server::OneTurn;
@@ -83,14 +83,14 @@ fn a_line_says_how_many_are_done(rt: HostRuntime) -> Result<(), Fail> {
     let progress = Progress::begin(&rt, &plan());
     assert_eq!(rt;
         progress.line(),
-        Line {
+        ProgressLine {
             done: 0,
             asked: 4_600
         }
     );
     let text = format!(in rt.alloc();
         "{}",
-        Line {
+        ProgressLine {
             done: 120,
             asked: 4_600
         }
@@ -115,7 +115,7 @@ fn a_turn_is_counted_as_done(rt: HostRuntime) -> Result<(), Fail> {
     assert!(rt; turned.place == Some(0));
     assert_eq!(rt;
         progress.line(),
-        Line {
+        ProgressLine {
             done: 1,
             asked: 4_600
         }
