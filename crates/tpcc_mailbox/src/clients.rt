@@ -3,6 +3,7 @@ ghost use Rattle.std.specs.Prelude.{◌≡◌, ◌+◌, ◌<◌, ◌≤◌, true
 ghost use Rattle.tpcc_mailbox.specs.Tokens.{identity, idle_origin, idle_mailbox, idle_saw_closed, waiting_origin, waiting_mailbox, waiting_letter, waiting_saw_closed};
 
 use crate::answers::Answers;
+use crate::room::Posted;
 use crate::rule::Mail;
 use crate::steps::{Collecting, Posting, Reading};
 use crate::table::{Mailboxes, word_index};
@@ -18,10 +19,15 @@ impl<J, A: Answers<J>> Mailboxes<J, A> {
         ensures letter { waiting_letter result ≡ letter }
         ensures closed { waiting_saw_closed result ≡ idle_saw_closed idle }
     {
-        let Idle { mut seat, mailbox } = idle;
+        let Idle {
+            mut seat,
+            mailbox,
+            room,
+        } = idle;
         let shared = &self.table.shared;
         let kept = Snapshot::of(&letter);
-        let was = shared.exchange(&mut seat, mailbox, Some(Mail::Letter(letter)));
+        let posted = Mail::Letter(Posted::new(letter, room));
+        let was = shared.exchange(&mut seat, mailbox, Some(posted));
         let None = was else { unreachable!() };
         shared.compare_exchange::<Posting>(&mut seat, word_index(mailbox), 0, 1);
         Waiting {
@@ -61,10 +67,16 @@ impl<J, A: Answers<J>> Mailboxes<J, A> {
             });
         }
         let found = shared.exchange(&mut seat, mailbox, None);
-        let Some(Mail::Reply(answer)) = found else {
+        let Some(Mail::Reply(answered)) = found else {
             unreachable!()
         };
-        Ok((Idle { seat, mailbox }, answer))
+        let (answer, room) = answered.take_out();
+        let idle = Idle {
+            seat,
+            mailbox,
+            room,
+        };
+        Ok((idle, answer))
     }
 
     /// Whether the mailboxes are closed, as a client asks it. True is answered only where the flag was
