@@ -1,4 +1,5 @@
 -- What a register is seen as, and what every register keeps.
+use Rattle.tpcc_book.specs.declared.ready.TheConstants.{MOST_ENTRIES}
 use Rattle.std.specs.Prelude.{ℕ, ◌≡◌, ◌*◌, ◌≤◌, ◌<◌, List, [], length, ℤ, pos, ◌≤ℤ◌, ◌+ℤ◌}
 use Rattle.tpcc_money.specs.Amounts.{total}
 use Rattle.tpcc_rows.specs.declared.entry.Entry.{Entry}
@@ -24,7 +25,7 @@ abbrev pub rise_of : Past → ℤ
 rise_of p = rise (opening_rows p.opening) p.state.rows
 
 abbrev pub most_entries : ℕ
-most_entries = 1000000000
+most_entries = MOST_ENTRIES
 
 -- the rows are sound, and are the opening's followed by the journal one transaction at a time; each
 -- entry is what its request gave at its place; the rise is the sum of the payments

@@ -1,4 +1,5 @@
 -- What a purse is seen as, and what purses have together.
+use Rattle.tpcc_book.specs.declared.purse.TheConstants.{MOST_PURSES}
 use Rattle.std.specs.Prelude.{ℕ, ◌+◌, ℤ, pos, ◌+ℤ◌}
 
 -- the terminal, how many entries it made, what it paid, and how many purses it can still split off
@@ -20,7 +21,7 @@ pool_of p = record { parts = p.room + 1; entries = p.entries; paid = p.paid }
 
 -- how many purses can be split off the first purse of a book
 abbrev pub most_purses : ℕ
-most_purses = 10000
+most_purses = MOST_PURSES
 
 -- the parts of a book: the first purse is one, and so is each that can be split off it
 abbrev pub all_parts : ℕ

@@ -121,7 +121,7 @@ impl<N: Naming> Purse<N> {
     )
         requires entries { entries.old.total < 2 ^ 63 }
         requires least { pos 0 ≤ℤ amount }
-        requires cents { (pos cents.old.total +ℤ amount) ≤ℤ pos 9223372036854775807 }
+        requires cents { (pos cents.old.total +ℤ amount) ≤ℤ pos (2 ^ 63 - 1) }
         ensures purse { self.new ≡ purse_after self.old amount }
         ensures entries { entries.new.total ≡ entries.old.total + 1 }
         ensures cents { pos cents.new.total ≡ pos cents.old.total +ℤ amount }

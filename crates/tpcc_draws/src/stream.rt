@@ -4,6 +4,8 @@ ghost use Rattle.std.specs.List.{list_all, range_with_len};
 ghost use Rattle.tpcc_rows.specs.Printable.{is_printable};
 ghost use Rattle.tpcc_draws.specs.Draws.{answers, generator_of, between, permutation, nurand, a_string, n_string, drawn_text};
 ghost use Rattle.tpcc_draws.specs.Cards.{cards, deck};
+ghost use Rattle.tpcc_draws.specs.declared.stream.TheConstants.{GREATEST_DRAW};
+ghost use Rattle.tpcc_rows.specs.declared.limits.TheConstants.{MOST_PLACES};
 
 use crate::cards::{Card, all_cards};
 use rand::RngExt;
@@ -13,6 +15,9 @@ use std::alloc::{AllocError, Allocator};
 use std::marker::Model;
 use tpcc_money::NoMemory;
 use tpcc_rows::Text;
+
+/// The greatest number that is drawn, and how many are drawn into an order at most.
+pub const GREATEST_DRAW: u32 = 1_000_000;
 
 /// The draws of one row, in the order of its columns. A call that is refused memory has drawn
 /// nothing; a permutation alone takes any.
@@ -46,7 +51,7 @@ impl Stream {
     #[tactic(auto, unfolding(crate::specs::Draws::between))]
     pub fn between(&mut self, low: u32, high: u32) -> u32
         requires order { low ≤ high }
-        requires small { high ≤ 1000000 }
+        requires small { high ≤ GREATEST_DRAW }
         ensures least { low ≤ result }
         ensures most { result ≤ high }
         ensures drawn { (result, answers self.new) ≡ between low high (answers self.old) }
@@ -58,9 +63,9 @@ impl Stream {
     /// (2.1.6): `reach` is the standard's A, `constant` its C.
     pub fn nurand(&mut self, reach: u32, constant: u32, low: u32, high: u32) -> u32
         requires order { low ≤ high }
-        requires small { high ≤ 1000000 }
-        requires reach { reach ≤ 1000000 }
-        requires constant { constant ≤ 1000000 }
+        requires small { high ≤ GREATEST_DRAW }
+        requires reach { reach ≤ GREATEST_DRAW }
+        requires constant { constant ≤ GREATEST_DRAW }
         ensures least { low ≤ result }
         ensures most { result ≤ high }
         ensures drawn { (result, answers self.new)
@@ -77,7 +82,7 @@ impl Stream {
     pub fn a_string<const N: usize>(&mut self, least: u32, most: u32) -> Text<N>
         requires order { least ≤ most }
         requires fits { most ≤ N }
-        requires short { N ≤ 65535 }
+        requires short { N ≤ MOST_PLACES }
         ensures drawn { (result, answers self.new) ≡ a_string least most (answers self.old) }
         ensures least { least ≤ length result }
         ensures most { length result ≤ most }
@@ -93,7 +98,7 @@ impl Stream {
     pub fn n_string<const N: usize>(&mut self, least: u32, most: u32) -> Text<N>
         requires order { least ≤ most }
         requires fits { most ≤ N }
-        requires short { N ≤ 65535 }
+        requires short { N ≤ MOST_PLACES }
         ensures drawn { (result, answers self.new) ≡ n_string least most (answers self.old) }
         ensures least { least ≤ length result }
         ensures most { length result ≤ most }
@@ -104,9 +109,9 @@ impl Stream {
     fn text<const N: usize>(&mut self, alphabet: &[u8], least: u32, most: u32) -> Text<N>
         requires order { least ≤ most }
         requires fits { most ≤ N }
-        requires short { N ≤ 65535 }
+        requires short { N ≤ MOST_PLACES }
         requires some { 0 < length alphabet.now }
-        requires few { length alphabet.now ≤ 1000 }
+        requires few { length alphabet.now ≤ GREATEST_DRAW }
         requires printable { list_all is_printable alphabet.now ≡ true }
         ensures drawn { (result, answers self.new)
             ≡ drawn_text alphabet.now least most (answers self.old) }
@@ -126,7 +131,7 @@ impl Stream {
     /// The numbers 1 to n in a drawn order. Refused only for want of memory.
     #[tactic(auto, unfolding(crate::specs::Draws::permutation))]
     pub fn permutation<A: Allocator>(&mut self, alloc: A, n: u32) -> Result<Vec<u32, A>, NoMemory>
-        requires small { n ≤ 1000000 }
+        requires small { n ≤ GREATEST_DRAW }
         ensures drawn { IfOk result
             (λ v. (v.items, answers self.new) ≡ permutation n (answers self.old)) }
         ensures order { IfOk result (λ v. IsPermutation (range_with_len 1 n) v.items) }
@@ -151,7 +156,7 @@ impl Stream {
 }
 
 fn numbers_up_to<A: Allocator>(alloc: A, n: u32) -> Result<Vec<u32, A>, AllocError>
-    requires small { n ≤ 1000000 }
+    requires small { n ≤ GREATEST_DRAW }
     ensures { IfOk result (λ v. v.items ≡ range_with_len 1 n) }
 {
     (1..n + 1).collect(alloc)

@@ -10,6 +10,7 @@ ghost use Rattle.tpcc_rows.specs.SoundState.{IsSoundState};
 ghost use Rattle.tpcc_rows.specs.Tables.{Rows, State};
 ghost use Rattle.tpcc_rows.specs.Turn.{refusal, state_after};
 ghost use Rattle.tpcc_rows.specs.WellKeyed.{IsWellKeyed};
+ghost use Rattle.tpcc_rows.specs.declared.limits.TheConstants.{GREATEST_PAYMENT};
 
 /// A request that nothing refuses, with its moment in range, keeps keys, references and ranges,
 /// the queue's ranges, that each item is stocked, and conditions 1 to 10 and 12 (3.3.2).
@@ -27,7 +28,7 @@ pub fn turn_pays()
     ensures least { (s : State) (request : Request)
         → refusal s request ≡ None → pos 0 ≤ℤ paid_by_request request }
     ensures most { (s : State) (request : Request)
-        → refusal s request ≡ None → paid_by_request request ≤ℤ pos 500000 }
+        → refusal s request ≡ None → paid_by_request request ≤ℤ GREATEST_PAYMENT }
 {}
 
 /// One more entry is one more transaction, and a journal stays faithful by an entry that is what

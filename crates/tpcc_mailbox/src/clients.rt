@@ -4,7 +4,7 @@ ghost use Rattle.tpcc_mailbox.specs.Tokens.{identity, idle_origin, idle_mailbox,
 
 use crate::answers::Answers;
 use crate::room::Posted;
-use crate::rule::Mail;
+use crate::rule::{ANSWERED, CLOSED, FREE, Mail, POSTED};
 use crate::steps::{Collecting, Posting, Reading};
 use crate::table::{Mailboxes, word_index};
 use crate::tokens::{Idle, Waiting};
@@ -29,7 +29,7 @@ impl<J, A: Answers<J>> Mailboxes<J, A> {
         let posted = Mail::Letter(Posted::new(letter, room));
         let was = shared.exchange(&mut seat, mailbox, Some(posted));
         let None = was else { unreachable!() };
-        shared.compare_exchange::<Posting>(&mut seat, word_index(mailbox), 0, 1);
+        shared.compare_exchange::<Posting>(&mut seat, word_index(mailbox), FREE, POSTED);
         Waiting {
             seat,
             mailbox,
@@ -51,7 +51,7 @@ impl<J, A: Answers<J>> Mailboxes<J, A> {
         let shared = &self.table.shared;
         // A plain load first: a failed exchange would take the cache line from the server at work.
         let word = word_index(waiting.mailbox);
-        if shared.peek(word) != 3 {
+        if shared.peek(word) != ANSWERED {
             return Err(waiting);
         }
         let Waiting {
@@ -59,7 +59,7 @@ impl<J, A: Answers<J>> Mailboxes<J, A> {
             mailbox,
             letter,
         } = waiting;
-        if shared.compare_exchange::<Collecting>(&mut seat, word, 3, 0) != 3 {
+        if shared.compare_exchange::<Collecting>(&mut seat, word, ANSWERED, FREE) != ANSWERED {
             return Err(Waiting {
                 seat,
                 mailbox,
@@ -92,6 +92,6 @@ impl<J, A: Answers<J>> Mailboxes<J, A> {
         self.table
             .shared
             .load::<Reading>(&mut waiting.seat, word_index(self.count))
-            == 1
+            == CLOSED
     }
 }

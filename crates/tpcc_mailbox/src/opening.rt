@@ -1,9 +1,11 @@
 //! Mailboxes that are made.
 ghost use Rattle.std.specs.Prelude.{◌≡◌, ◌+◌, ◌<◌, ◌≤◌, false, [], vec_len, All, IfOk, None};
+ghost use Rattle.tpcc_mailbox.specs.declared.table.TheConstants.{MOST_MAILBOXES};
 ghost use Rattle.tpcc_mailbox.specs.Tokens.{identity, mailbox_count, AreNewIdles, idle_origin, serving_origin, serving_hand, serving_splits, serving_answered, serving_saw_closed};
 
 use crate::answers::Answers;
 use crate::room::Room;
+use crate::rule::{ANSWERED, FREE, OPEN};
 use crate::steps::{FirstCollecting, MakingClient, MakingServer};
 use crate::table::{MailboxSeat, MailboxTable, Mailboxes, word_count, word_index};
 use crate::tokens::{Idle, Serving};
@@ -23,13 +25,13 @@ fn make_rooms<A: Drop>(alloc: Global, count: usize) -> Result<Vec<Room<A>>, Allo
 }
 
 impl<J, A: Answers<J> + Drop> Mailboxes<J, A> {
-    /// Makes `n` free mailboxes, 1 to 1,000, with the token of each in order and the first server.
+    /// Makes `n` free mailboxes, 1 to [`MOST_MAILBOXES`](crate::MOST_MAILBOXES), with the token of each in order and the first server.
     /// Nothing of it is left where memory is refused, which is the only error.
     pub fn new(
         alloc: Global,
         n: usize,
     ) -> Result<(Mailboxes<J, A>, Vec<Idle<J, A>>, Serving<J, A>), NoMemory>
-        requires count { (1 ≤ n) × (n ≤ 1000) }
+        requires count { (1 ≤ n) × (n ≤ MOST_MAILBOXES) }
         ensures count { IfOk result (λ r. mailbox_count r.0 ≡ n) }
         ensures one_each { IfOk result (λ r. vec_len r.1 ≡ n) }
         ensures idles { IfOk result (λ r. All (λ x. idle_origin x ≡ identity r.0) r.1.items) }
@@ -42,8 +44,8 @@ impl<J, A: Answers<J> + Drop> Mailboxes<J, A> {
         ensures open { IfOk result (λ r. serving_saw_closed r.2 ≡ false) }
     {
         // Each mailbox starts as answered with an empty slot, which its client then collects.
-        let mut words = Vec::from_elem(alloc, 3u64, word_count(n))?;
-        words[word_index(n)] = 0;
+        let mut words = Vec::from_elem(alloc, ANSWERED, word_count(n))?;
+        words[word_index(n)] = OPEN;
         let mut idles = Vec::with_capacity(alloc, n)?;
         let mut rooms = make_rooms(alloc, n)?;
         let opened: Result<(MailboxTable<J, A>, MailboxSeat<J, A>), AllocError> = Table::vacant(
@@ -57,7 +59,7 @@ impl<J, A: Answers<J> + Drop> Mailboxes<J, A> {
             let mut seat = table.shared.split_seat::<MakingClient>(&mut first);
             table
                 .shared
-                .compare_exchange::<FirstCollecting>(&mut seat, word_index(k), 3, 0);
+                .compare_exchange::<FirstCollecting>(&mut seat, word_index(k), ANSWERED, FREE);
             let Some(room) = rooms.pop() else {
                 unreachable!()
             };

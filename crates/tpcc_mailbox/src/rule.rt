@@ -1,7 +1,6 @@
 //! The rule of the table that clients and servers share.
 //!
-//! Each mailbox has a word, its state: 0 free, 1 posted, 2 taken, 3 answered. One more word is 1 once the
-//! mailboxes are closed, before that 0. Where they stand `word_of` of `specs/Rule.antt` says; the words
+//! Each mailbox has a word, its state, and one more word tells whether the mailboxes are closed. Where they stand `word_of` of `specs/Rule.antt` says; the words
 //! between them are used by nobody. Slot k holds what lies in mailbox k. The slot of a free mailbox is
 //! with the seat of its client, that of a taken one with the seat of the server that took the letter.
 
@@ -10,6 +9,24 @@ use crate::room::{Answered, Posted};
 use atomic_table::TableRule;
 use std::collections::LinkedList;
 use std::marker::PhantomData;
+
+/// The word of a mailbox that is free.
+pub(crate) const FREE: u64 = 0;
+
+/// That of one in which a letter was posted.
+pub(crate) const POSTED: u64 = 1;
+
+/// That of one whose letter a server took.
+pub(crate) const TAKEN: u64 = 2;
+
+/// That of one whose letter was answered.
+pub(crate) const ANSWERED: u64 = 3;
+
+/// The closed flag before the first `close`.
+pub(crate) const OPEN: u64 = 0;
+
+/// The closed flag from the first `close` on.
+pub(crate) const CLOSED: u64 = 1;
 
 /// What lies in the slot of a mailbox.
 #[derive(Drop)]

@@ -3,7 +3,7 @@ ghost use Rattle.std.specs.Prelude.{◌≡◌, ◌+◌, ◌<◌, ◌≤◌, [], 
 ghost use Rattle.tpcc_mailbox.specs.Tokens.{identity, mailbox_count, serving_origin, serving_hand, serving_splits, serving_answered, serving_saw_closed, taken_mailbox, taken_letter};
 
 use crate::answers::Answers;
-use crate::rule::Mail;
+use crate::rule::{ANSWERED, CLOSED, Mail, POSTED, TAKEN};
 use crate::steps::{Answering, Closing, Reading, SplittingServer, Taking};
 use crate::table::{Mailboxes, word_index};
 use crate::tokens::{Serving, Taken};
@@ -30,10 +30,10 @@ impl<J, A: Answers<J>> Mailboxes<J, A> {
         let shared = &self.table.shared;
         // A plain load first: a failed exchange would take the cache line from the client or the server there.
         let word = word_index(k);
-        if shared.peek(word) != 1 {
+        if shared.peek(word) != POSTED {
             return None;
         }
-        if shared.compare_exchange::<Taking>(&mut serving.seat, word, 1, 2) != 1 {
+        if shared.compare_exchange::<Taking>(&mut serving.seat, word, POSTED, TAKEN) != POSTED {
             return None;
         }
         let found = shared.exchange(&mut serving.seat, k, None);
@@ -71,7 +71,7 @@ impl<J, A: Answers<J>> Mailboxes<J, A> {
         let shared = &self.table.shared;
         let was = shared.exchange(&mut serving.seat, mailbox, Some(answered));
         let None = was else { unreachable!() };
-        shared.compare_exchange::<Answering>(&mut serving.seat, word_index(mailbox), 2, 3);
+        shared.compare_exchange::<Answering>(&mut serving.seat, word_index(mailbox), TAKEN, ANSWERED);
     }
 
     /// Closes the mailboxes, which may be closed already. It raises a flag and stops nothing: letters
@@ -86,7 +86,7 @@ impl<J, A: Answers<J>> Mailboxes<J, A> {
     {
         self.table
             .shared
-            .store::<Closing>(&mut serving.seat, word_index(self.count), 1);
+            .store::<Closing>(&mut serving.seat, word_index(self.count), CLOSED);
     }
 
     /// Whether the mailboxes are closed. True is answered only where the flag was read as up, and always
@@ -103,7 +103,7 @@ impl<J, A: Answers<J>> Mailboxes<J, A> {
         self.table
             .shared
             .load::<Reading>(&mut serving.seat, word_index(self.count))
-            == 1
+            == CLOSED
     }
 }
 

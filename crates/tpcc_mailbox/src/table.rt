@@ -1,5 +1,6 @@
 //! The mailboxes as threads share them.
 ghost use Rattle.std.specs.Prelude.{◌≡◌, ◌≤◌};
+ghost use Rattle.tpcc_mailbox.specs.declared.table.TheConstants.{MOST_MAILBOXES};
 ghost use Rattle.tpcc_mailbox.specs.Rule.{word_of, words_of};
 
 use crate::answers::Answers;
@@ -14,6 +15,9 @@ pub(crate) type SharedTable<J, A> = Shared<Option<Mail<J, A>>, View<J>, (), Mail
 /// A seat at the table, inside each token.
 pub type MailboxSeat<J, A> = Seat<Option<Mail<J, A>>, View<J>>;
 
+/// How many mailboxes there are at most.
+pub const MOST_MAILBOXES: usize = 1_000;
+
 /// Mailboxes for letters `J` and answers `A`, numbered from 0. Threads share them by reference.
 #[derive(Drop)]
 pub struct Mailboxes<J, A: Answers<J>> {
@@ -26,7 +30,7 @@ pub struct Mailboxes<J, A: Answers<J>> {
     /// Words and slots are as many as so many mailboxes take.
     ghost sized: { (table.shared.table_id.slots ≡ count)
         × (table.shared.table_id.words ≡ words_of count)
-        × (count ≤ 1000) },
+        × (count ≤ MOST_MAILBOXES) },
 }
 
 // One word in so many is used, so that threads at different mailboxes share no cache line.
@@ -34,7 +38,7 @@ const APART: usize = 16;
 
 // Where the word of a mailbox stands, and behind the last mailbox the closed flag.
 pub(crate) fn word_index(mailbox: usize) -> usize
-    requires { mailbox ≤ 1000 }
+    requires { mailbox ≤ MOST_MAILBOXES }
     ensures { result ≡ word_of mailbox }
 {
     APART * mailbox + APART / 2
@@ -42,7 +46,7 @@ pub(crate) fn word_index(mailbox: usize) -> usize
 
 // How many words so many mailboxes take.
 pub(crate) fn word_count(mailboxes: usize) -> usize
-    requires { mailboxes ≤ 1000 }
+    requires { mailboxes ≤ MOST_MAILBOXES }
     ensures { result ≡ words_of mailboxes }
 {
     APART * (mailboxes + 1)

@@ -2,6 +2,7 @@
 use Rattle.std.proofs.Common.{◌≡◌, ◌∙◌, sym, ap, refl, append_assoc, ℕ, zero, suc, ◌+◌, ◌*◌, ◌-◌, ◌/◌, ◌%◌, ◌<◌, ◌≤◌, ◌++◌, ◌∷◌, Bool, true, false, cond, nat_lt, arith}
 use Rattle.std.specs.Prelude.{List, pos, ◌+ℤ◌, unsigned_abs}
 use Rattle.std.proofs.lemmas.Bool.Decides.{nat_tests}
+use Rattle.tpcc_money.specs.declared.moment.TheConstants.Moment.{LAST_SECOND}
 use Rattle.jiff_core.specs.Calendar.{days_in_month, days_in_year, day_count}
 use Rattle.jiff_core.specs.Date.{epoch_day}
 use Rattle.jiff_core.specs.DateTime.{civil_nanos}
@@ -118,7 +119,7 @@ text_by civil year month day seconds y mo d h mi s =
     rw (y, mo, d, h, mi, s) (parts_regroup (padded_number 4 year) (padded_number 2 month) (padded_number 2 day) (padded_number 2 (seconds / 3600)) (padded_number 2 (seconds / 60 % 60)) (padded_number 2 (seconds % 60)))
 
 -- and the text of that moment
-pub text_is : (civil : DateTime) (s : ℕ) → s < 4102444800 → civil_nanos civil ≡ pos (s * 1000000000) → civil_text civil ≡ moment_text s
+pub text_is : (civil : DateTime) (s : ℕ) → s ≤ LAST_SECOND → civil_nanos civil ≡ pos (s * 1000000000) → civil_text civil ≡ moment_text s
 unfolding moment_text
 text_is civil s small e =
     let parts = civil_nanos-parts civil in

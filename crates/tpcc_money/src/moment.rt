@@ -1,7 +1,8 @@
 //! Points in time.
-ghost use Rattle.std.specs.Prelude.{◌≡◌, ◌<◌, ◌*◌, pos, nat_le, if◌then◌else◌, IfOk, Some, None};
+ghost use Rattle.std.specs.Prelude.{◌≡◌, ◌≤◌, ◌*◌, pos, nat_le, if◌then◌else◌, IfOk, Some, None};
 ghost use Rattle.jiff_core.specs.DateTime.{civil_nanos};
 ghost use Rattle.tpcc_money.specs.Texts.{moment_text};
+ghost use Rattle.tpcc_money.specs.declared.moment.TheConstants.Moment.{LAST_SECOND};
 
 use crate::memory::NoMemory;
 use jiff_core::civil::DateTime;
@@ -14,7 +15,8 @@ use std::marker::Model;
 pub struct Moment(u32);
 
 impl Model for Moment {
-    ghost use Rattle.std.specs.Prelude.{ℕ, ◌<◌};
+    ghost use Rattle.std.specs.Prelude.{ℕ, ◌≤◌};
+    ghost use Rattle.tpcc_money.specs.declared.moment.TheConstants.Moment.{LAST_SECOND};
 
     ghost Value = { ℕ };
 
@@ -22,7 +24,7 @@ impl Model for Moment {
 
     ghost inverse = { λ n. record { 0 = n } };
 
-    ghost invariant = { λ m. m.0 < 4102444800 };
+    ghost invariant = { λ m. m.0 ≤ LAST_SECOND };
 }
 
 impl Moment {
@@ -31,7 +33,7 @@ impl Moment {
 
     /// So many seconds after the start of 1970, if that is before the year 2100.
     pub fn try_new(seconds: u32) -> Option<Self>
-        ensures { result ≡ (if nat_le seconds 4102444799 then Some seconds else None) }
+        ensures { result ≡ (if nat_le seconds LAST_SECOND then Some seconds else None) }
     {
         if seconds <= Moment::LAST_SECOND {
             Some(Moment::new(seconds))
@@ -42,7 +44,7 @@ impl Moment {
 
     /// So many seconds after the start of 1970.
     pub fn new(seconds: u32) -> Self
-        requires { seconds < 4102444800 }
+        requires { seconds ≤ LAST_SECOND }
         ensures { result ≡ seconds }
     {
         Moment(seconds)
@@ -51,7 +53,7 @@ impl Moment {
     /// The seconds since the start of 1970.
     pub fn seconds(self) -> u32
         ensures value { result ≡ self }
-        ensures range { self < 4102444800 }
+        ensures range { self ≤ LAST_SECOND }
     {
         self.0
     }
@@ -66,7 +68,7 @@ impl Moment {
 
     fn civil(self) -> DateTime
         ensures instant { civil_nanos result ≡ pos (self * 1000000000) }
-        ensures range { self < 4102444800 }
+        ensures range { self ≤ LAST_SECOND }
     {
         DateTime::from_nanosecond_in_range(i128::from(self.seconds()) * 1_000_000_000)
     }

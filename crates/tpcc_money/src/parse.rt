@@ -89,7 +89,7 @@ pub fn parse_number(bytes: &[u8], most: u64) -> Option<u64>
     }
 }
 
-const GREATEST_AMOUNT: u64 = 999_999_999_999;
+pub const GREATEST_AMOUNT: u64 = 999_999_999_999;
 
 fn amount_of_parts(whole: &[u8], cents: &[u8]) -> Result<Cents, AmountFault>
     ensures { result ≡ amount_of_parts whole.now cents.now }

@@ -1,5 +1,6 @@
 //! Taxes and discounts.
 ghost use Rattle.std.specs.Prelude.{◌≡◌, ◌<◌};
+ghost use Rattle.tpcc_money.specs.declared.rate.TheConstants.Rate.{WHOLE};
 
 use std::fmt;
 use std::marker::Model;
@@ -10,6 +11,7 @@ pub struct Rate(u16);
 
 impl Model for Rate {
     ghost use Rattle.std.specs.Prelude.{ℕ, ◌<◌};
+    ghost use Rattle.tpcc_money.specs.declared.rate.TheConstants.Rate.{WHOLE};
 
     ghost Value = { ℕ };
 
@@ -17,13 +19,16 @@ impl Model for Rate {
 
     ghost inverse = { λ n. record { 0 = n } };
 
-    ghost invariant = { λ r. r.0 < 10000 };
+    ghost invariant = { λ r. r.0 < WHOLE };
 }
 
 impl Rate {
+    /// How many ten-thousandths make the rate 1, which is none.
+    pub const WHOLE: u16 = 10_000;
+
     /// So many ten-thousandths.
     pub fn new(ten_thousandths: u16) -> Self
-        requires { ten_thousandths < 10000 }
+        requires { ten_thousandths < WHOLE }
         ensures { result ≡ ten_thousandths }
     {
         Rate(ten_thousandths)
@@ -32,7 +37,7 @@ impl Rate {
     /// The number of ten-thousandths.
     pub fn value(self) -> u16
         ensures value { result ≡ self }
-        ensures range { self < 10000 }
+        ensures range { self < WHOLE }
     {
         self.0
     }

@@ -6,6 +6,8 @@ ghost use Rattle.tpcc_rows.specs.Ranges.{is_within, is_item_row, is_stock_row};
 ghost use Rattle.tpcc_rows.specs.NewOrder.{amount_of, district_information_of, entered_line, order_line_rows, order_number};
 ghost use Rattle.tpcc_new_order.specs.Supplied.{IsServable};
 ghost use Rattle.tpcc_new_order.specs.Prepares.{entered_line_from, order_line_from};
+ghost use Rattle.tpcc_rows.specs.declared.limits.TheConstants.{GREATEST_LINE_AMOUNT};
+ghost use Rattle.tpcc_money.specs.declared.amounts.TheConstants.{GREATEST_SUM};
 
 use crate::amounts::amount;
 use crate::brand::brand;
@@ -62,7 +64,7 @@ fn entered_line(
     requires stock { is_stock_row stock.now ≡ true }
     ensures shown { result ≡ entered_line_from order.now number line.now item.now stock.now }
     ensures low { pos 0 ≤ℤ result.amount }
-    ensures high { result.amount ≤ℤ pos 999999 }
+    ensures high { result.amount ≤ℤ GREATEST_LINE_AMOUNT }
 {
     let taken = &order.lines.as_slice()[..number as usize];
     EnteredLine {
@@ -100,7 +102,7 @@ pub fn add_lines(
         (enumerate_from 1 order.now.lines) }
     ensures sum { result ≡ total (amount_of tables.now.rows) order.now.lines }
     ensures low { pos 0 ≤ℤ result }
-    ensures high { result ≤ℤ pos 15000000 }
+    ensures high { result ≤ℤ GREATEST_SUM }
 {
     let mut sum = Cents::new(0);
     for (index, line) in lines.iter().enumerate() {

@@ -1,4 +1,5 @@
 -- What a prepared payment is, and what is made of the rows that it names.
+use Rattle.tpcc_rows.specs.declared.limits.TheConstants.{LEAST_PAYMENT, GREATEST_PAYMENT}
 use Rattle.std.specs.Prelude.{◌≡◌, ◌+◌, ◌+ℤ◌, ◌-ℤ◌, ℤ, pos, Bool, not, [], ◌∷◌, List, ℕ, ◌++◌, take, Option, Some, None, if◌then◌else◌, codes, option_map}
 use Rattle.tpcc_rows.specs.declared.rows.HistoryRow.{HistoryRow}
 use Rattle.tpcc_rows.specs.declared.replies.Paid.{Paid}
@@ -26,7 +27,7 @@ pub record IsNamed (rows : Rows) (payment : Payment) (named : NamedRows) : Type 
 -- the tests of amounts and counts, of the rows themselves
 unfoldable pub range_tests : WarehouseRow → DistrictRow → CustomerRow → ℤ → List (Bool × Refusal)
 range_tests w d c amount =
-    (not (is_amount_within (pos 100) (pos 500000) amount), Amount)
+    (not (is_amount_within LEAST_PAYMENT GREATEST_PAYMENT amount), Amount)
     ∷ (not (is_count (c.payment_count + 1)), Count PaymentCount)
     ∷ (not (is_total (w.ytd +ℤ amount)), Total WarehouseYtd)
     ∷ (not (is_total (d.ytd +ℤ amount)), Total DistrictYtd)

@@ -4,6 +4,7 @@ ghost use Rattle.std.specs.Fmt.{decimal};
 ghost use Rattle.tpcc_money.specs.Texts.{amount_text};
 ghost use Rattle.tpcc_rows.specs.Payment.{payment_note, has_bad_credit};
 ghost use Rattle.tpcc_payment.specs.Prepares.{new_information};
+ghost use Rattle.tpcc_rows.specs.declared.limits.TheConstants.{GREATEST_PAYMENT};
 
 use tpcc_money::Cents;
 use tpcc_rows::{CustomerRow, Payment, Text};
@@ -28,7 +29,7 @@ fn add_number(text: &mut Text<500>, number: u32)
 fn add_amount(text: &mut Text<500>, amount: Cents)
     requires room { length text.old ≤ 400 }
     requires least { pos 0 ≤ℤ amount }
-    requires most { amount ≤ℤ pos 500000 }
+    requires most { amount ≤ℤ GREATEST_PAYMENT }
     ensures written { text.new ≡ text.old ++ amount_text amount ++ codes " " }
 {
     let cents = amount.value() as u32;
@@ -41,7 +42,7 @@ fn add_amount(text: &mut Text<500>, amount: Cents)
 /// The note of a payment at the left of C_DATA.
 fn note(payment: &Payment, customer: &CustomerRow) -> Text<500>
     requires least { pos 0 ≤ℤ payment.now.amount }
-    requires most { payment.now.amount ≤ℤ pos 500000 }
+    requires most { payment.now.amount ≤ℤ GREATEST_PAYMENT }
     ensures { result ≡ payment_note payment.now customer.now }
 {
     let mut note = Text::empty();
@@ -57,7 +58,7 @@ fn note(payment: &Payment, customer: &CustomerRow) -> Text<500>
 /// The note and what stood before in C_DATA, cut to 500 bytes.
 fn put_note_before(payment: &Payment, customer: &CustomerRow) -> Text<500>
     requires least { pos 0 ≤ℤ payment.now.amount }
-    requires most { payment.now.amount ≤ℤ pos 500000 }
+    requires most { payment.now.amount ≤ℤ GREATEST_PAYMENT }
     ensures { result
         ≡ take 500 (payment_note payment.now customer.now ++ customer.now.information) }
 {
@@ -69,7 +70,7 @@ fn put_note_before(payment: &Payment, customer: &CustomerRow) -> Text<500>
 /// The new C_DATA of a customer with bad credit; of another none, and no bytes are moved.
 pub fn information_after(payment: &Payment, customer: &CustomerRow) -> Option<Text<500>>
     requires least { pos 0 ≤ℤ payment.now.amount }
-    requires most { payment.now.amount ≤ℤ pos 500000 }
+    requires most { payment.now.amount ≤ℤ GREATEST_PAYMENT }
     ensures { result ≡ new_information payment.now customer.now }
 {
     if is_bad_credit(customer) {

@@ -3,6 +3,7 @@ ghost use Rattle.std.specs.Prelude.{◌≡◌, ◌+◌, ◌+ℤ◌, ◌-ℤ◌, 
 ghost use Rattle.tpcc_rows.specs.Lists.{first_finding};
 ghost use Rattle.tpcc_rows.specs.Ranges.{is_amount_within, is_total, is_balance, is_count};
 ghost use Rattle.tpcc_payment.specs.Prepares.{range_tests};
+ghost use Rattle.tpcc_rows.specs.declared.limits.TheConstants.{LEAST_PAYMENT, GREATEST_PAYMENT};
 
 use crate::named_rows::NamedRows;
 use tpcc_money::Cents;
@@ -33,7 +34,7 @@ fn is_count_after(count: u32) -> bool
 }
 
 fn is_payable(amount: Cents) -> bool
-    ensures { result ≡ is_amount_within (pos 100) (pos 500000) amount }
+    ensures { result ≡ is_amount_within LEAST_PAYMENT GREATEST_PAYMENT amount }
 {
     LEAST_PAYMENT <= amount.value() && amount.value() <= GREATEST_PAYMENT
 }

@@ -1,6 +1,7 @@
 //! Tables filled number by number, in the order of their keys.
 ghost use Rattle.std.specs.Prelude.{◌≡◌, ◌+◌, ◌++◌, ◌∷◌, [], ◌≤◌, ℕ, List, IfOk};
 ghost use Rattle.tpcc_rows.specs.Layout.{each};
+ghost use Rattle.tpcc_rows.specs.declared.limits.TheConstants.{GREATEST_WAREHOUSE, GREATEST_DISTRICT, GREATEST_ITEM, GREATEST_ORDER};
 
 use std::alloc::Global;
 use tpcc_money::NoMemory;
@@ -23,9 +24,9 @@ pub(crate) trait TableRows {
         number: u32,
     ) -> Result<(), NoMemory>
         requires warehouse_least { 1 ≤ warehouse }
-        requires warehouse_most { warehouse ≤ 100 }
+        requires warehouse_most { warehouse ≤ GREATEST_WAREHOUSE }
         requires district_least { 1 ≤ district }
-        requires district_most { district ≤ 10 }
+        requires district_most { district ≤ GREATEST_DISTRICT }
         requires least { 1 ≤ number }
         requires most { number ≤ most }
         ensures { IfOk result (λ _. rows.new.items
@@ -50,11 +51,11 @@ fn append_each<T: TableRows>(
     count: u32,
 ) -> Result<(), NoMemory>
     requires warehouse_least { 1 ≤ warehouse }
-    requires warehouse_most { warehouse ≤ 100 }
+    requires warehouse_most { warehouse ≤ GREATEST_WAREHOUSE }
     requires district_least { 1 ≤ district }
-    requires district_most { district ≤ 10 }
+    requires district_most { district ≤ GREATEST_DISTRICT }
     requires least { 1 ≤ low }
-    requires small { low + count ≤ 1000000 }
+    requires small { low + count ≤ GREATEST_ORDER }
     requires most { low + count ≤ T.most + 1 }
     ensures { IfOk result (λ _. rows.new.items
         ≡ rows.old.items ++ each low count (T.rows_of table.now warehouse district)) }
@@ -71,7 +72,7 @@ pub(crate) fn fill_by_number<T: TableRows>(
     table: &T,
     count: u32,
 ) -> Result<Vec<T::Row>, NoMemory>
-    requires small { count ≤ 100000 }
+    requires small { count ≤ GREATEST_ITEM }
     requires most { count ≤ T.most }
     ensures { IfOk result (λ v. v.items ≡ each 1 count (T.rows_of table.now 1 1)) }
 {
@@ -87,8 +88,8 @@ pub(crate) fn fill_by_warehouse<T: TableRows>(
     warehouses: u32,
     count: u32,
 ) -> Result<Vec<T::Row>, NoMemory>
-    requires warehouses { warehouses ≤ 100 }
-    requires small { count ≤ 100000 }
+    requires warehouses { warehouses ≤ GREATEST_WAREHOUSE }
+    requires small { count ≤ GREATEST_ITEM }
     requires most { count ≤ T.most }
     ensures { IfOk result
         (λ v. v.items ≡ each 1 warehouses (λ w. each 1 count (T.rows_of table.now w 1))) }
@@ -109,9 +110,9 @@ fn append_districts<T: TableRows>(
     count: u32,
 ) -> Result<(), NoMemory>
     requires warehouse_least { 1 ≤ warehouse }
-    requires warehouse_most { warehouse ≤ 100 }
+    requires warehouse_most { warehouse ≤ GREATEST_WAREHOUSE }
     requires least { 1 ≤ low }
-    requires small { low + count ≤ 1000000 }
+    requires small { low + count ≤ GREATEST_ORDER }
     requires most { low + count ≤ T.most + 1 }
     ensures { IfOk result (λ _. rows.new.items
         ≡ rows.old.items ++ each 1 10 (λ d. each low count (T.rows_of table.now warehouse d))) }
@@ -130,9 +131,9 @@ pub(crate) fn fill_by_district<T: TableRows>(
     low: u32,
     count: u32,
 ) -> Result<Vec<T::Row>, NoMemory>
-    requires warehouses { warehouses ≤ 100 }
+    requires warehouses { warehouses ≤ GREATEST_WAREHOUSE }
     requires least { 1 ≤ low }
-    requires small { low + count ≤ 1000000 }
+    requires small { low + count ≤ GREATEST_ORDER }
     requires most { low + count ≤ T.most + 1 }
     ensures { IfOk result (λ v. v.items
         ≡ each 1 warehouses (λ w. each 1 10 (λ d. each low count (T.rows_of table.now w d)))) }

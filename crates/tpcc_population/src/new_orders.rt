@@ -1,6 +1,7 @@
 //! NEW-ORDER, the same in both openings.
 ghost use Rattle.std.specs.Prelude.{◌≡◌, ◌∷◌, []};
 ghost use Rattle.tpcc_rows.specs.Opening.{plain_new_order};
+ghost use Rattle.tpcc_rows.specs.declared.limits.TheConstants.{GREATEST_CUSTOMER};
 
 use crate::layout::{TableRows, push};
 use tpcc_money::NoMemory;
@@ -15,7 +16,7 @@ impl TableRows for NewOrders {
 
     ghost rows_of = { λ table warehouse district number. plain_new_order warehouse district number ∷ [] };
 
-    ghost most = { 3000 };
+    ghost most = { GREATEST_CUSTOMER };
 
     fn append(
         &self,

@@ -3,9 +3,18 @@ ghost use Rattle.std.specs.Prelude.{◌≡◌, ◌≤◌, ◌↔◌, IfOk, IsErr
 ghost use Rattle.tpcc_population.specs.Regular.{IsScale, are_customers};
 ghost use Rattle.tpcc_rows.specs.Layout.{delivered_orders, is_delivered};
 ghost use Rattle.tpcc_rows.specs.Ranges.{is_within};
+ghost use Rattle.tpcc_rows.specs.declared.limits.TheConstants.{GREATEST_ITEM, GREATEST_WAREHOUSE};
+ghost use Rattle.tpcc_population.specs.declared.scale.TheConstants.{LEAST_ITEMS};
 
 use std::marker::Model;
+use tpcc_rows::limits::{GREATEST_CUSTOMER, GREATEST_ITEM, GREATEST_WAREHOUSE};
 use thiserror::Error;
+
+/// The fewest customers of a district; their number is a multiple of 10.
+pub const LEAST_CUSTOMERS: u32 = 10;
+
+/// The fewest items.
+pub const LEAST_ITEMS: u32 = 100;
 
 /// Why there is no such scale. The text is the program's line on standard error.
 #[derive(Clone, Copy, Debug, PartialEq, Eq, Error)]
@@ -51,19 +60,19 @@ impl Scale {
         ensures ok { IfOk result (λ s. s
             ≡ record { warehouses = warehouses; customers = customers; items = items }) }
         ensures warehouses { IsErrOf result ScaleFault.Warehouses
-            ↔ (is_within 1 100 warehouses ≡ false) }
+            ↔ (is_within 1 GREATEST_WAREHOUSE warehouses ≡ false) }
         ensures customers { IsErrOf result ScaleFault.Customers
-            ↔ ((is_within 1 100 warehouses ≡ true) × (are_customers customers ≡ false)) }
-        ensures items { IsErrOf result ScaleFault.Items ↔ ((is_within 1 100 warehouses ≡ true)
-            × (are_customers customers ≡ true) × (is_within 100 100000 items ≡ false)) }
+            ↔ ((is_within 1 GREATEST_WAREHOUSE warehouses ≡ true) × (are_customers customers ≡ false)) }
+        ensures items { IsErrOf result ScaleFault.Items ↔ ((is_within 1 GREATEST_WAREHOUSE warehouses ≡ true)
+            × (are_customers customers ≡ true) × (is_within LEAST_ITEMS GREATEST_ITEM items ≡ false)) }
     {
-        if warehouses < 1 || warehouses > 100 {
+        if warehouses < 1 || warehouses > GREATEST_WAREHOUSE {
             return Err(ScaleFault::Warehouses);
         }
-        if customers < 10 || customers > 3000 || customers % 10 != 0 {
+        if customers < LEAST_CUSTOMERS || customers > GREATEST_CUSTOMER || customers % 10 != 0 {
             return Err(ScaleFault::Customers);
         }
-        if items < 100 || items > 100_000 {
+        if items < LEAST_ITEMS || items > GREATEST_ITEM {
             return Err(ScaleFault::Items);
         }
         Ok(Scale {

@@ -4,6 +4,7 @@ ghost use Rattle.std.specs.List.{list_all};
 ghost use Rattle.tpcc_money.specs.Texts.{padded_number};
 ghost use Rattle.tpcc_rows.specs.Opening.{plain_district_information};
 ghost use Rattle.tpcc_rows.specs.Printable.{is_printable};
+ghost use Rattle.tpcc_rows.specs.declared.limits.TheConstants.{MOST_PLACES};
 
 use tpcc_rows::Text;
 
@@ -14,7 +15,7 @@ pub(crate) fn numbered_text<const N: usize>(prefix: &[u8], places: usize, number
     requires few { places ≤ 16 }
     requires small { number < 10 ^ places }
     requires room { length prefix.now + places ≤ N }
-    requires short { N ≤ 65535 }
+    requires short { N ≤ MOST_PLACES }
     ensures text { result ≡ prefix.now ++ padded_number places number }
 {
     let mut text = Text::of(prefix);

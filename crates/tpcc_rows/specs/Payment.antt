@@ -1,4 +1,5 @@
 -- 2.5: Payment.
+use Rattle.tpcc_rows.specs.declared.limits.TheConstants.{LEAST_PAYMENT, GREATEST_PAYMENT}
 use Rattle.std.specs.Prelude.{ℕ, ◌+◌, Bool, not, ◌||◌, List, [], ◌∷◌, ◌++◌, take, pos, ◌+ℤ◌, ◌-ℤ◌, is_none, Option, Some, None, unwrap_or, if◌then◌else◌, codes, decimal}
 use Rattle.std.specs.Str.{bytes_eq}
 use Rattle.tpcc_money.specs.Texts.{amount_text}
@@ -111,7 +112,7 @@ payment_tests rows p =
     (is_none (find_warehouse rows p.warehouse) || is_none (find_warehouse rows p.customer_warehouse), NoWarehouse)
     ∷ (is_none (find_district rows p.warehouse p.district) || is_none (find_district rows p.customer_warehouse p.customer_district), NoDistrict)
     ∷ (is_none (chosen_customer rows p.customer_warehouse p.customer_district p.who), NoCustomer)
-    ∷ (not (is_amount_within (pos 100) (pos 500000) p.amount), Amount)
+    ∷ (not (is_amount_within LEAST_PAYMENT GREATEST_PAYMENT p.amount), Amount)
     ∷ (not (is_count c.payment_count), Count PaymentCount)
     ∷ (not (is_total w.ytd), Total WarehouseYtd)
     ∷ (not (is_total d.ytd), Total DistrictYtd)

@@ -1,6 +1,7 @@
 //! Short lists, which lie in the value itself.
 ghost use Rattle.std.specs.Prelude.{◌≡◌, ◌<◌, ◌≤◌, ◌++◌, ◌∷◌, [], length};
 ghost use Rattle.std.specs.Cmp.Lexicographic.{pointwise, lists_equiv, lists_per};
+ghost use Rattle.tpcc_rows.specs.declared.limits.TheConstants.{MOST_PLACES};
 
 use std::alloc::AllocError;
 use std::marker::Model;
@@ -73,7 +74,7 @@ impl<T: Blank, const N: usize> Few<T, N> {
 
     /// One more at the end.
     pub fn push(&mut self, item: T)
-        requires short { N ≤ 65535 }
+        requires short { N ≤ MOST_PLACES }
         requires room { length self.old < N }
         ensures pushed { self.new ≡ self.old ++ item ∷ [] }
     {

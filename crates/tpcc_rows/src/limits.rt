@@ -1,4 +1,4 @@
-//! The limits of the columns (1.3, 4.2.2), each once; `specs/Ranges.antt` has the same numbers for the clauses.
+//! The limits of the columns (1.3, 4.2.2), each once; the clauses and `specs/Ranges.antt` cite them.
 
 /// W_ID.
 pub const GREATEST_WAREHOUSE: u32 = 100;
@@ -32,3 +32,9 @@ pub const LEAST_PAYMENT: i64 = 100;
 
 /// See [`LEAST_PAYMENT`].
 pub const GREATEST_PAYMENT: i64 = 500_000;
+
+/// OL_AMOUNT and a row's H_AMOUNT, in cents: 9,999.99.
+pub const GREATEST_LINE_AMOUNT: i64 = 999_999;
+
+/// The greatest N of a `Text<N>` and of a `Few<T, N>`, whose lengths take 16 bits.
+pub const MOST_PLACES: usize = 65_535;

@@ -5,6 +5,7 @@ ghost use Rattle.std.specs.Cmp.Lexicographic.{pointwise};
 ghost use Rattle.std.specs.Cmp.Rules.{comparing};
 ghost use Rattle.std.proofs.Common.{rules};
 ghost use Rattle.tpcc_rows.specs.Printable.{is_printable};
+ghost use Rattle.tpcc_rows.specs.declared.limits.TheConstants.{MOST_PLACES};
 
 use std::marker::Model;
 use thiserror::Error;
@@ -71,7 +72,7 @@ fn write_at(cells: &mut [u8], start: usize, bytes: &[u8])
 impl<const N: usize> Text<N> {
     /// A copy of the bytes as a text.
     pub fn new(bytes: &[u8]) -> Result<Text<N>, TextFault>
-        requires short { N ≤ 65535 }
+        requires short { N ≤ MOST_PLACES }
         ensures ok { IfOk result (λ t. t ≡ bytes.now) }
         ensures too_long { IsErrOf result TextFault.TooLong ↔ (N < length bytes.now) }
         ensures not_ascii { IsErrOf result TextFault.NotAscii
@@ -88,7 +89,7 @@ impl<const N: usize> Text<N> {
 
     /// The text of at most `N` bytes that are all 32 to 126.
     pub fn of(bytes: &[u8]) -> Text<N>
-        requires short { N ≤ 65535 }
+        requires short { N ≤ MOST_PLACES }
         requires fits { length bytes.now ≤ N }
         requires printable { list_all is_printable bytes.now ≡ true }
         ensures text { result ≡ bytes.now }
@@ -113,7 +114,7 @@ impl<const N: usize> Text<N> {
 
     /// More bytes of 32 to 126 at the end.
     pub fn extend(&mut self, bytes: &[u8])
-        requires short { N ≤ 65535 }
+        requires short { N ≤ MOST_PLACES }
         requires room { length self.old + length bytes.now ≤ N }
         requires printable { list_all is_printable bytes.now ≡ true }
         ensures extended { self.new ≡ self.old ++ bytes.now }
@@ -124,7 +125,7 @@ impl<const N: usize> Text<N> {
 
     /// One more byte of 32 to 126 at the end.
     pub fn push(&mut self, byte: u8)
-        requires short { N ≤ 65535 }
+        requires short { N ≤ MOST_PLACES }
         requires room { length self.old < N }
         requires printable { is_printable byte ≡ true }
         ensures pushed { self.new ≡ self.old ++ byte ∷ [] }
@@ -134,7 +135,7 @@ impl<const N: usize> Text<N> {
 
     /// More bytes of 32 to 126 at the end, as many of them as there is room for.
     pub fn fill(&mut self, bytes: &[u8])
-        requires short { N ≤ 65535 }
+        requires short { N ≤ MOST_PLACES }
         requires printable { list_all is_printable bytes.now ≡ true }
         ensures filled { self.new ≡ take N (self.old ++ bytes.now) }
     {

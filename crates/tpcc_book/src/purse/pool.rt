@@ -1,5 +1,5 @@
 //! The shares of purses, put together.
-ghost use Rattle.std.specs.Prelude.{◌≡◌, ◌<◌, pos};
+ghost use Rattle.std.specs.Prelude.{◌≡◌, ◌<◌, ◌^◌, pos};
 ghost use Rattle.tpcc_book.specs.Purses.{all_parts, pool_of, pool_with};
 
 use crate::naming::{Entries, Naming, PaidCents};
@@ -92,8 +92,8 @@ impl<N: Naming> Pool<N> {
         cents: &mut LedgerBook<PaidCents<N>>,
     ) -> (u64, Cents)
         requires all { self.parts ≡ all_parts }
-        requires entries { entries.old.total < 9223372036854775808 }
-        requires cents { cents.old.total < 9223372036854775808 }
+        requires entries { entries.old.total < 2 ^ 63 }
+        requires cents { cents.old.total < 2 ^ 63 }
         ensures entries { (entries.new.total ≡ entries.old.total) × (result.0 ≡ self.entries)
             × (result.0 ≡ entries.old.total) }
         ensures cents { (cents.new.total ≡ cents.old.total) × (result.1 ≡ self.paid)

@@ -1,6 +1,7 @@
 //! CUSTOMER and HISTORY of the plain opening.
 ghost use Rattle.std.specs.Prelude.{◌≡◌, ◌∷◌, [], ◌≤◌};
 ghost use Rattle.tpcc_rows.specs.Opening.{plain_customer, plain_history};
+ghost use Rattle.tpcc_rows.specs.declared.limits.TheConstants.{GREATEST_CUSTOMER};
 
 use super::address::plain_address;
 use crate::layout::{TableRows, push};
@@ -11,7 +12,7 @@ use tpcc_rows::{CustomerRow, HistoryRow, Text};
 
 fn plain_customer(warehouse: u32, district: u32, number: u32) -> CustomerRow
     requires least { 1 ≤ number }
-    requires most { number ≤ 3000 }
+    requires most { number ≤ GREATEST_CUSTOMER }
     ensures { result ≡ plain_customer warehouse district number }
 {
     CustomerRow {
@@ -59,7 +60,7 @@ impl TableRows for PlainCustomers {
 
     ghost rows_of = { λ table warehouse district number. plain_customer warehouse district number ∷ [] };
 
-    ghost most = { 3000 };
+    ghost most = { GREATEST_CUSTOMER };
 
     fn append(
         &self,
@@ -81,7 +82,7 @@ impl TableRows for PlainHistories {
 
     ghost rows_of = { λ table warehouse district number. plain_history warehouse district number ∷ [] };
 
-    ghost most = { 3000 };
+    ghost most = { GREATEST_CUSTOMER };
 
     fn append(
         &self,

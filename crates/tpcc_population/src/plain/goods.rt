@@ -2,6 +2,7 @@
 ghost use Rattle.std.specs.Prelude.{◌≡◌, ◌∷◌, [], ◌≤◌, map};
 ghost use Rattle.std.specs.List.{range_with_len};
 ghost use Rattle.tpcc_rows.specs.Opening.{plain_item, plain_stock, plain_district_information};
+ghost use Rattle.tpcc_rows.specs.declared.limits.TheConstants.{GREATEST_ITEM};
 
 use crate::layout::{TableRows, push};
 use crate::texts::{district_information, numbered_text};
@@ -10,7 +11,7 @@ use tpcc_rows::{ItemRow, StockRow, Text};
 
 fn plain_item(number: u32) -> ItemRow
     requires least { 1 ≤ number }
-    requires most { number ≤ 100000 }
+    requires most { number ≤ GREATEST_ITEM }
     ensures { result ≡ plain_item number }
 {
     ItemRow {
@@ -71,7 +72,7 @@ impl TableRows for PlainItems {
 
     ghost rows_of = { λ table warehouse district number. plain_item number ∷ [] };
 
-    ghost most = { 100000 };
+    ghost most = { GREATEST_ITEM };
 
     fn append(
         &self,
@@ -93,7 +94,7 @@ impl TableRows for PlainStocks {
 
     ghost rows_of = { λ table warehouse district number. plain_stock warehouse number ∷ [] };
 
-    ghost most = { 100000 };
+    ghost most = { GREATEST_ITEM };
 
     fn append(
         &self,

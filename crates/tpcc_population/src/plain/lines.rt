@@ -2,6 +2,7 @@
 ghost use Rattle.std.specs.Prelude.{◌≡◌, ◌++◌, ◌≤◌, IfOk};
 ghost use Rattle.tpcc_rows.specs.Layout.{one_each};
 ghost use Rattle.tpcc_rows.specs.Opening.{plain_order_line};
+ghost use Rattle.tpcc_rows.specs.declared.limits.TheConstants.{GREATEST_CUSTOMER};
 
 use crate::layout::{TableRows, push};
 use crate::scale::Scale;
@@ -18,7 +19,7 @@ fn plain_order_line(
 ) -> OrderLineRow
     requires district { district ≤ 10 }
     requires order { 1 ≤ order }
-    requires orders { order ≤ 3000 }
+    requires orders { order ≤ GREATEST_CUSTOMER }
     requires least { 1 ≤ number }
     requires most { number ≤ 15 }
     ensures { result ≡ plain_order_line scale.now warehouse district order number }
@@ -55,7 +56,7 @@ fn append_lines(
 ) -> Result<(), NoMemory>
     requires district { district ≤ 10 }
     requires order { 1 ≤ order }
-    requires orders { order ≤ 3000 }
+    requires orders { order ≤ GREATEST_CUSTOMER }
     ensures { IfOk result (λ _. rows.new.items
         ≡ rows.old.items ++ one_each 1 5 (plain_order_line scale.now warehouse district order)) }
 {
@@ -80,7 +81,7 @@ impl TableRows for PlainOrderLines {
 
     ghost rows_of = { λ table warehouse district number. one_each 1 5 (plain_order_line table.scale warehouse district number) };
 
-    ghost most = { 3000 };
+    ghost most = { GREATEST_CUSTOMER };
 
     fn append(
         &self,

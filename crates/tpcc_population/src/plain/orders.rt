@@ -1,6 +1,7 @@
 //! ORDER of the plain opening.
 ghost use Rattle.std.specs.Prelude.{◌≡◌, ◌∷◌, [], ◌≤◌};
 ghost use Rattle.tpcc_rows.specs.Opening.{plain_order};
+ghost use Rattle.tpcc_rows.specs.declared.limits.TheConstants.{GREATEST_CUSTOMER};
 
 use crate::layout::{TableRows, push};
 use crate::scale::Scale;
@@ -39,7 +40,7 @@ impl TableRows for PlainOrders {
 
     ghost rows_of = { λ table warehouse district number. plain_order table.scale warehouse district number ∷ [] };
 
-    ghost most = { 3000 };
+    ghost most = { GREATEST_CUSTOMER };
 
     fn append(
         &self,

@@ -2,6 +2,7 @@
 ghost use Rattle.std.specs.Prelude.{◌≡◌, ◌∷◌, [], ◌≤◌};
 ghost use Rattle.tpcc_draws.specs.Draws.{answers};
 ghost use Rattle.tpcc_population.specs.Seeded.{drawn_last, seeded_customer, seeded_history};
+ghost use Rattle.tpcc_rows.specs.declared.limits.TheConstants.{GREATEST_CUSTOMER};
 
 use super::Seed;
 use super::address::drawn_address;
@@ -15,7 +16,7 @@ use tpcc_rows::{CustomerRow, HistoryRow, Text};
 #[tactic(auto, unfolding(crate::specs::Seeded::drawn_last))]
 fn drawn_last(stream: &mut Stream, number: u32) -> Text<16>
     requires least { 1 ≤ number }
-    requires most { number ≤ 3000 }
+    requires most { number ≤ GREATEST_CUSTOMER }
     ensures drawn { (result, answers stream.new) ≡ drawn_last number (answers stream.old) }
 {
     if number <= 1000 {
@@ -31,7 +32,7 @@ fn seeded_customer(seed: &Seed, warehouse: u32, district: u32, number: u32) -> C
     requires district_least { 1 ≤ district }
     requires district { district ≤ 10 }
     requires least { 1 ≤ number }
-    requires most { number ≤ 3000 }
+    requires most { number ≤ GREATEST_CUSTOMER }
     ensures { result ≡ seeded_customer seed.now warehouse district number }
 {
     let row = number_in_districts(&seed.scale, warehouse, district, number);
@@ -70,7 +71,7 @@ fn seeded_history(seed: &Seed, warehouse: u32, district: u32, customer: u32) -> 
     requires district_least { 1 ≤ district }
     requires district { district ≤ 10 }
     requires least { 1 ≤ customer }
-    requires most { customer ≤ 3000 }
+    requires most { customer ≤ GREATEST_CUSTOMER }
     ensures { result ≡ seeded_history seed.now warehouse district customer }
 {
     let row = number_in_districts(&seed.scale, warehouse, district, customer);
@@ -100,7 +101,7 @@ impl TableRows for SeededCustomers {
 
     ghost rows_of = { λ table warehouse district number. seeded_customer table.seed warehouse district number ∷ [] };
 
-    ghost most = { 3000 };
+    ghost most = { GREATEST_CUSTOMER };
 
     fn append(
         &self,
@@ -126,7 +127,7 @@ impl TableRows for SeededHistories {
 
     ghost rows_of = { λ table warehouse district number. seeded_history table.seed warehouse district number ∷ [] };
 
-    ghost most = { 3000 };
+    ghost most = { GREATEST_CUSTOMER };
 
     fn append(
         &self,

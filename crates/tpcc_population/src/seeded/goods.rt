@@ -2,6 +2,7 @@
 ghost use Rattle.std.specs.Prelude.{◌≡◌, ◌+◌, ◌≤◌, ◌∷◌, [], length};
 ghost use Rattle.tpcc_draws.specs.Draws.{answers};
 ghost use Rattle.tpcc_population.specs.Seeded.{drawn_information, drawn_texts, seeded_item, seeded_stock, with_original};
+ghost use Rattle.tpcc_rows.specs.declared.limits.TheConstants.{GREATEST_ITEM};
 
 use super::Seed;
 use super::numbers::stock_number;
@@ -72,7 +73,7 @@ fn drawn_texts(stream: &mut Stream) -> [Text<24>; 10]
 fn seeded_stock(seed: &Seed, warehouse: u32, item: u32) -> StockRow
     requires least { 1 ≤ warehouse }
     requires warehouse { warehouse ≤ 100 }
-    requires item { item ≤ 100000 }
+    requires item { item ≤ GREATEST_ITEM }
     ensures { result ≡ seeded_stock seed.now warehouse item }
 {
     let row = stock_number(&seed.scale, warehouse, item);
@@ -104,7 +105,7 @@ impl TableRows for SeededItems {
 
     ghost rows_of = { λ table warehouse district number. seeded_item table.seed number ∷ [] };
 
-    ghost most = { 100000 };
+    ghost most = { GREATEST_ITEM };
 
     fn append(
         &self,
@@ -130,7 +131,7 @@ impl TableRows for SeededStocks {
 
     ghost rows_of = { λ table warehouse district number. seeded_stock table.seed warehouse number ∷ [] };
 
-    ghost most = { 100000 };
+    ghost most = { GREATEST_ITEM };
 
     fn append(
         &self,

@@ -3,6 +3,7 @@ ghost use Rattle.std.specs.Prelude.{◌≡◌, ◌-◌, ◌≤◌, ◌++◌, IfO
 ghost use Rattle.tpcc_rows.specs.Layout.{one_each};
 ghost use Rattle.tpcc_draws.specs.Draws.{answers};
 ghost use Rattle.tpcc_population.specs.Seeded.{drawn_amount, seeded_order, seeded_order_line};
+ghost use Rattle.tpcc_rows.specs.declared.limits.TheConstants.{GREATEST_CUSTOMER};
 
 use super::Seed;
 use super::numbers::number_in_districts;
@@ -36,7 +37,7 @@ fn seeded_order_line(
     requires district_least { 1 ≤ district }
     requires district { district ≤ 10 }
     requires order { 1 ≤ order }
-    requires orders { order ≤ 3000 }
+    requires orders { order ≤ GREATEST_CUSTOMER }
     requires most { number ≤ 15 }
     ensures { result ≡ seeded_order_line seed.now warehouse district order number }
 {
@@ -77,7 +78,7 @@ fn append_lines(
     requires district_least { 1 ≤ district }
     requires district { district ≤ 10 }
     requires order { 1 ≤ order }
-    requires orders { order ≤ 3000 }
+    requires orders { order ≤ GREATEST_CUSTOMER }
     ensures { IfOk result (λ _. rows.new.items
         ≡ rows.old.items ++ one_each 1 (seeded_order seed.now warehouse district order).line_count
         (seeded_order_line seed.now warehouse district order)) }
@@ -102,7 +103,7 @@ impl TableRows for SeededOrderLines {
 
     ghost rows_of = { λ table warehouse district number. one_each 1 (seeded_order table.seed warehouse district number).line_count (seeded_order_line table.seed warehouse district number) };
 
-    ghost most = { 3000 };
+    ghost most = { GREATEST_CUSTOMER };
 
     fn append(
         &self,

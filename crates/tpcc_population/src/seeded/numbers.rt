@@ -1,16 +1,21 @@
 //! The number of a row among all of its table, from 1: with it the row's stream is known.
-ghost use Rattle.std.specs.Prelude.{◌≡◌, ◌*◌, ◌≤◌};
+ghost use Rattle.std.specs.Prelude.{◌≡◌, ◌+◌, ◌*◌, ◌≤◌};
 ghost use Rattle.tpcc_population.specs.Seeded.{district_number, number_in_districts, stock_number};
+ghost use Rattle.tpcc_rows.specs.declared.limits.TheConstants.{GREATEST_WAREHOUSE, GREATEST_DISTRICT, GREATEST_CUSTOMER, GREATEST_ITEM};
+ghost use Rattle.tpcc_population.specs.declared.seeded.numbers.TheConstants.{MOST_DISTRICTS};
 
 use crate::scale::Scale;
+
+/// The districts of all warehouses.
+const MOST_DISTRICTS: u32 = 1_000;
 
 // The number of a district among all, from 1.
 pub(super) fn district_number(warehouse: u32, district: u32) -> u64
     requires least { 1 ≤ warehouse }
-    requires warehouse { warehouse ≤ 100 }
-    requires district { district ≤ 10 }
+    requires warehouse { warehouse ≤ GREATEST_WAREHOUSE }
+    requires district { district ≤ GREATEST_DISTRICT }
     ensures number { result ≡ district_number warehouse district }
-    ensures small { result ≤ 1000 }
+    ensures small { result ≤ MOST_DISTRICTS }
 {
     u64::from((warehouse - 1) * 10 + district)
 }
@@ -18,14 +23,14 @@ pub(super) fn district_number(warehouse: u32, district: u32) -> u64
 // The number of a row of CUSTOMER, HISTORY or ORDER among all of its table, from 1.
 pub(super) fn number_in_districts(scale: &Scale, warehouse: u32, district: u32, number: u32) -> u64
     requires warehouse_least { 1 ≤ warehouse }
-    requires warehouse { warehouse ≤ 100 }
+    requires warehouse { warehouse ≤ GREATEST_WAREHOUSE }
     requires district_least { 1 ≤ district }
-    requires district { district ≤ 10 }
+    requires district { district ≤ GREATEST_DISTRICT }
     requires least { 1 ≤ number }
-    requires most { number ≤ 3000 }
+    requires most { number ≤ GREATEST_CUSTOMER }
     ensures number { result ≡ number_in_districts scale.now warehouse district number }
     ensures least { 1 ≤ result }
-    ensures small { result ≤ 3003000 }
+    ensures small { result ≤ (MOST_DISTRICTS + 1) * GREATEST_CUSTOMER }
 {
     let before = district_number(warehouse, district) - 1;
     rows_before(before, scale.customers()) + u64::from(number)
@@ -33,10 +38,10 @@ pub(super) fn number_in_districts(scale: &Scale, warehouse: u32, district: u32, 
 
 #[tactic(auto, using(crate::proofs::RangeLemmas::small_product))]
 fn rows_before(districts: u64, customers: u32) -> u64
-    requires districts { districts ≤ 1000 }
-    requires customers { customers ≤ 3000 }
+    requires districts { districts ≤ MOST_DISTRICTS }
+    requires customers { customers ≤ GREATEST_CUSTOMER }
     ensures product { result ≡ districts * customers }
-    ensures small { result ≤ 3000000 }
+    ensures small { result ≤ MOST_DISTRICTS * GREATEST_CUSTOMER }
 {
     districts * u64::from(customers)
 }
@@ -44,10 +49,10 @@ fn rows_before(districts: u64, customers: u32) -> u64
 // The number of a STOCK row among all, from 1.
 pub(super) fn stock_number(scale: &Scale, warehouse: u32, item: u32) -> u64
     requires least { 1 ≤ warehouse }
-    requires warehouse { warehouse ≤ 100 }
-    requires item { item ≤ 100000 }
+    requires warehouse { warehouse ≤ GREATEST_WAREHOUSE }
+    requires item { item ≤ GREATEST_ITEM }
     ensures number { result ≡ stock_number scale.now warehouse item }
-    ensures small { result ≤ 10000000 }
+    ensures small { result ≤ GREATEST_WAREHOUSE * GREATEST_ITEM }
 {
     u64::from((warehouse - 1) * scale.items() + item)
 }

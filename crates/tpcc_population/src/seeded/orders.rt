@@ -3,6 +3,7 @@ ghost use Rattle.std.specs.Prelude.{◌≡◌, ◌-◌, ◌<◌, ◌≤◌, ◌+
 ghost use Rattle.tpcc_rows.specs.Layout.{one_each};
 ghost use Rattle.tpcc_draws.specs.Draws.{answers};
 ghost use Rattle.tpcc_population.specs.Seeded.{drawn_carrier, drawn_customers, seeded_order};
+ghost use Rattle.tpcc_rows.specs.declared.limits.TheConstants.{GREATEST_CUSTOMER};
 
 use super::Seed;
 use super::numbers::{district_number, number_in_districts};
@@ -36,7 +37,7 @@ pub(super) fn carrier_and_lines(
     requires district_least { 1 ≤ district }
     requires district { district ≤ 10 }
     requires least { 1 ≤ order }
-    requires most { order ≤ 3000 }
+    requires most { order ≤ GREATEST_CUSTOMER }
     ensures carrier { result.0 ≡ (seeded_order seed.now warehouse district order).carrier }
     ensures lines { result.1 ≡ (seeded_order seed.now warehouse district order).line_count }
     ensures few { result.1 ≤ 15 }
@@ -78,7 +79,7 @@ fn seeded_order(
     requires district_least { 1 ≤ district }
     requires district { district ≤ 10 }
     requires least { 1 ≤ number }
-    requires most { number ≤ 3000 }
+    requires most { number ≤ GREATEST_CUSTOMER }
     requires customers { customers.now ≡ drawn_customers seed.now warehouse district }
     requires inside { number ≤ length customers.now }
     ensures { result ≡ seeded_order seed.now warehouse district number }
