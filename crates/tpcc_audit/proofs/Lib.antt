@@ -1,4 +1,4 @@
-mod RowLemmas
+mod Row
 mod ReadBack
 mod Seen
 pub mod Parts

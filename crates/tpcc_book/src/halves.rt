@@ -130,11 +130,11 @@ pub(crate) fn finish(
             finish_ticket(queue, *ticket);
             Reply::Queued(*ticket)
         }
-        Request::Deliver(_) => {
+        Request::Deliver(at) => {
             let Prepared::Run(run) = prepared else {
                 unreachable!()
             };
-            Reply::Delivery(finish_run(tables, queue, run))
+            Reply::Delivery(finish_run(tables, queue, *at, run))
         }
     }
 }

@@ -46,5 +46,6 @@ pub use book::Book;
 pub use naming::{Blanks, Entries, Naming, PaidCents};
 pub use outcome::Turned;
 pub use purse::{MOST_PURSES, Purse};
+pub use ready::MOST_ENTRIES;
 pub use register::Register;
 pub use turns::{HeldTurn, SeatedPurse, Seating, Turns, UnnamedTurns};

@@ -12,63 +12,8 @@ use tpcc_journal::Journal;
 use tpcc_rows::{Entry, Refusal, Request};
 use tpcc_tables::Tables;
 
-// At most so many entries are journaled.
-const MOST_ENTRIES: usize = 1_000_000_000;
-
-/// The first refusal of the journal: another number of entries than the terminal's, or no room for one more.
-fn journal_refusal(journal: &Journal, terminal: u32, number: u64) -> Option<Refusal>
-    ensures { result ≡ journal_refusal journal.now.entries terminal number }
-{
-    let seen = journal.count_of(terminal);
-    if seen != number {
-        return Some(Refusal::Stranger(seen));
-    }
-    if MOST_ENTRIES <= journal.len() {
-        return Some(Refusal::JournalFull);
-    }
-    None
-}
-
-/// The refusals 1 to 9 come before those of the journal, and these before all others.
-fn order_refusals(
-    journal: Option<Refusal>,
-    prepared: Result<Prepared, Refusal>,
-) -> Result<Prepared, Refusal>
-    ensures { result ≡ order_refusals journal prepared }
-{
-    match prepared {
-        Ok(prepared) => match journal {
-            Some(refusal) => Err(refusal),
-            None => Ok(prepared),
-        },
-        Err(refusal) if refusal.number() < 10 => Err(refusal),
-        Err(refusal) => Err(journal.unwrap_or(refusal)),
-    }
-}
-
-/// Tells the first refusal, and makes the growth of rows and tickets.
-fn decide(
-    tables: &mut Tables,
-    queue: &mut Queue,
-    journal: &Journal,
-    request: &Request,
-    terminal: u32,
-    number: u64,
-) -> Result<Prepared, Refusal>
-    requires stocked { IsStocked tables.old.rows }
-    ensures rows { tables.new.rows ≡ tables.old.rows }
-    ensures tickets { queue.new.tickets ≡ queue.old.tickets }
-    ensures ready { IfOk result
-        (CanFinish (state_of tables.old queue.old) journal.now.entries terminal number request.now
-        (room_in tables.new queue.new)) }
-    ensures refused { IfErr result (λ r.
-        option_or (turn_refusal
-        (state_of tables.old queue.old) journal.now.entries terminal number request.now)
-        (Some Refusal.NoMemory) ≡ Some r) }
-{
-    let prepared = prepare(tables, queue, request);
-    order_refusals(journal_refusal(journal, terminal, number), prepared)
-}
+/// How many entries a journal has at most.
+pub const MOST_ENTRIES: usize = 1_000_000_000;
 
 /// All that a turn needs so that it can't fail, with the copy of its request for the journal.
 #[derive(Drop)]
@@ -106,6 +51,61 @@ pub(crate) fn make_ready(
     let copy = request.duplicate()?;
     journal.reserve_entry()?;
     Ok(Ready { prepared, copy })
+}
+
+// Tells the first refusal, and makes the growth of rows and tickets.
+fn decide(
+    tables: &mut Tables,
+    queue: &mut Queue,
+    journal: &Journal,
+    request: &Request,
+    terminal: u32,
+    number: u64,
+) -> Result<Prepared, Refusal>
+    requires stocked { IsStocked tables.old.rows }
+    ensures rows { tables.new.rows ≡ tables.old.rows }
+    ensures tickets { queue.new.tickets ≡ queue.old.tickets }
+    ensures ready { IfOk result
+        (CanFinish (state_of tables.old queue.old) journal.now.entries terminal number request.now
+        (room_in tables.new queue.new)) }
+    ensures refused { IfErr result (λ r.
+        option_or (turn_refusal
+        (state_of tables.old queue.old) journal.now.entries terminal number request.now)
+        (Some Refusal.NoMemory) ≡ Some r) }
+{
+    let prepared = prepare(tables, queue, request);
+    order_refusals(journal_refusal(journal, terminal, number), prepared)
+}
+
+// The refusals 1 to 9 come before those of the journal, and these before all others.
+fn order_refusals(
+    journal: Option<Refusal>,
+    prepared: Result<Prepared, Refusal>,
+) -> Result<Prepared, Refusal>
+    ensures { result ≡ order_refusals journal prepared }
+{
+    match prepared {
+        Ok(prepared) => match journal {
+            Some(refusal) => Err(refusal),
+            None => Ok(prepared),
+        },
+        Err(refusal) if refusal.number() < 10 => Err(refusal),
+        Err(refusal) => Err(journal.unwrap_or(refusal)),
+    }
+}
+
+// The first refusal of the journal: another number of entries than the terminal's, or no room for one more.
+fn journal_refusal(journal: &Journal, terminal: u32, number: u64) -> Option<Refusal>
+    ensures { result ≡ journal_refusal journal.now.entries terminal number }
+{
+    let seen = journal.count_of(terminal);
+    if seen != number {
+        return Some(Refusal::Stranger(seen));
+    }
+    if MOST_ENTRIES <= journal.len() {
+        return Some(Refusal::JournalFull);
+    }
+    None
 }
 
 /// Makes a turn that is ready, and its entry; takes no memory.

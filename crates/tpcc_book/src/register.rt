@@ -111,7 +111,45 @@ impl Register {
         let rise = year_to_date(&self.tables) - self.opening_year_to_date;
         Cents::new(rise as i64)
     }
+}
 
+// The way of a request, from the book down to its transaction.
+impl Register {
+    // The turn of a call that makes one.
+    pub(crate) fn turn_by<F: FnOnce(&mut Register, Request, u32, u64) -> Turned>(
+        &mut self,
+        request: Request,
+        terminal: u32,
+        number: u64,
+        turn: F,
+    ) -> Turned
+        requires takes { TakesTurn (F.pre turn) }
+        requires turns { MakesTurn (F.post turn) }
+        ensures turn { IsTurn self.old terminal number request result self.new }
+        ensures rise { OnOk result.outcome (Rises self.old request self.new) }
+    {
+        let _opening = self.opening;
+        laws::turn_pays();
+        call_turn(self, request, terminal, number, turn)
+    }
+}
+
+// Called by itself, so that what is known of the turn alone comes out of the call.
+fn call_turn<F: FnOnce(&mut Register, Request, u32, u64) -> Turned>(
+    register: &mut Register,
+    request: Request,
+    terminal: u32,
+    number: u64,
+    turn: F,
+) -> Turned
+    requires takes { TakesTurn (F.pre turn) }
+    requires turns { MakesTurn (F.post turn) }
+    ensures turn { IsTurn register.old terminal number request result register.new }
+{
+    turn(register, request, terminal, number)
+}
+
+impl Register {
     /// Serves a request of a terminal that made `number` entries: one transaction and one entry, or
     /// the first refusal and nothing.
     pub fn turn(&mut self, request: Request, terminal: u32, number: u64) -> Turned
@@ -135,24 +173,6 @@ impl Register {
                 place: None,
             },
         }
-    }
-
-    // The turn of a call that makes one.
-    pub(crate) fn turn_by<F: FnOnce(&mut Register, Request, u32, u64) -> Turned>(
-        &mut self,
-        request: Request,
-        terminal: u32,
-        number: u64,
-        turn: F,
-    ) -> Turned
-        requires takes { TakesTurn (F.pre turn) }
-        requires turns { MakesTurn (F.post turn) }
-        ensures turn { IsTurn self.old terminal number request result self.new }
-        ensures rise { OnOk result.outcome (Rises self.old request self.new) }
-    {
-        let _opening = self.opening;
-        laws::turn_pays();
-        call_turn(self, request, terminal, number, turn)
     }
 
     // Makes the turn and its entry, or tells why not.
@@ -186,19 +206,4 @@ impl Register {
         laws::journal_grows();
         Ok(())
     }
-}
-
-// One call.
-fn call_turn<F: FnOnce(&mut Register, Request, u32, u64) -> Turned>(
-    register: &mut Register,
-    request: Request,
-    terminal: u32,
-    number: u64,
-    turn: F,
-) -> Turned
-    requires takes { TakesTurn (F.pre turn) }
-    requires turns { MakesTurn (F.post turn) }
-    ensures turn { IsTurn register.old terminal number request result register.new }
-{
-    turn(register, request, terminal, number)
 }

@@ -1,5 +1,5 @@
-mod NumberLemmas
-mod DistrictLemmas
-mod FirstLemmas
-mod StockedLemmas
-mod OpeningLemmas
+mod Number
+mod District
+mod First
+mod Stocked
+mod Opening

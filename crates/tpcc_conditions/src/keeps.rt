@@ -36,7 +36,7 @@ fn follows_orders(tables: &Tables, row: &DistrictRow) -> bool
 }
 
 /// Whether D_NEXT_O_ID follows the largest NO_O_ID, if there is one.
-#[tactic(auto, using(crate::proofs::NumberLemmas::none_largest))]
+#[tactic(auto, using(crate::proofs::Number::none_largest))]
 fn follows_new_orders(tables: &Tables, row: &DistrictRow) -> bool
     ensures { result ≡ ((length (new_order_numbers tables.now.rows row.now) == 0)
         || (row.now.next_order
@@ -66,7 +66,7 @@ fn is_span(tables: &Tables, row: &DistrictRow, oldest: u32, newest: u32) -> bool
 }
 
 /// Condition 3: the NO_O_IDs have no gap.
-#[tactic(auto, unfolding(tpcc_rows::specs::Conditions::keeps_3), using(crate::proofs::NumberLemmas::none_largest, crate::proofs::NumberLemmas::none_smallest))]
+#[tactic(auto, unfolding(tpcc_rows::specs::Conditions::keeps_3), using(crate::proofs::Number::none_largest, crate::proofs::Number::none_smallest))]
 pub fn no_gap(tables: &Tables, row: &DistrictRow) -> bool
     ensures { result ≡ keeps_3 tables.now.rows row.now }
 {
@@ -91,7 +91,7 @@ pub fn delivered_orders(tables: &Tables, row: &DistrictRow, customers: u32) -> b
 }
 
 /// Condition 4: the sum of O_OL_CNT is the number of ORDER-LINE rows.
-#[tactic(auto, unfolding(tpcc_rows::specs::Conditions::keeps_4), using(crate::proofs::NumberLemmas::pos_eq))]
+#[tactic(auto, unfolding(tpcc_rows::specs::Conditions::keeps_4), using(crate::proofs::Number::pos_eq))]
 pub fn lines_of_district(tables: &Tables, row: &DistrictRow) -> bool
     ensures { result ≡ keeps_4 tables.now.rows row.now }
 {

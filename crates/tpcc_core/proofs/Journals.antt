@@ -12,7 +12,7 @@ use Rattle.tpcc_rows.specs.declared.replies.Reply.{Reply}
 use Rattle.tpcc_rows.specs.declared.refusals.Refusal.{Refusal}
 use Rattle.tpcc_rows.specs.Replay.{count_of}
 use Rattle.tpcc_rows.specs.Turn.{reply_to}
-use Rattle.tpcc_laws.proofs.ListLemmas.{filter-append}
+use Rattle.tpcc_laws.proofs.List.{filter-append}
 use Rattle.tpcc_book.specs.Past.{Past}
 use Rattle.tpcc_book.specs.Purses.{PurseView}
 use Rattle.tpcc_book.specs.AnswerView.{AnswerView}

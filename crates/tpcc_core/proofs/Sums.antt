@@ -12,7 +12,7 @@ use Rattle.tpcc_rows.specs.declared.requests.Request.{Request}
 use Rattle.tpcc_rows.specs.declared.replies.Reply.{Reply}
 use Rattle.tpcc_rows.specs.declared.refusals.Refusal.{Refusal}
 use Rattle.tpcc_rows.specs.Replay.{paid_by_entries, paid_by_request}
-use Rattle.tpcc_laws.proofs.ListLemmas.{total-append}
+use Rattle.tpcc_laws.proofs.List.{total-append}
 use Rattle.tpcc_population.specs.declared.opening.Opening.{Opening}
 use Rattle.tpcc_book.specs.Past.{Past, IsKept}
 use Rattle.tpcc_book.specs.Purses.{PurseView, all_parts, most_purses}

@@ -11,7 +11,7 @@ ghost use Rattle.tpcc_core.specs.Events.{answer_place, is_ready, is_post, Steps,
 use crate::event::Event;
 use crate::fault::CoreFault;
 use crate::mailbox::Collected;
-use crate::opening;
+use crate::new_desk::{make_seats, make_servers};
 use crate::seat::{Seat, refuse};
 use crate::server::{Server, give_answer, serve_letter, take_letter};
 use std::alloc::Global;
@@ -96,8 +96,8 @@ impl<N: Naming> Desk<N> {
     {
         let (book, first) = Book::start(alloc, opening, blanks)?;
         let mut first = first;
-        let seats = opening::seats(alloc, &mut first, terminals)?;
-        let servers = opening::servers(alloc, servers)?;
+        let seats = make_seats(alloc, &mut first, terminals)?;
+        let servers = make_servers(alloc, servers)?;
         Ok(Desk {
             book,
             first,

@@ -6,7 +6,7 @@ mod event;
 mod fault;
 pub mod laws;
 mod mailbox;
-mod opening;
+mod new_desk;
 mod seat;
 mod server;
 

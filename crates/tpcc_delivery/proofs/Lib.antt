@@ -1,2 +1,2 @@
-mod QueueLemmas
-mod RunLemmas
+mod Queue
+mod Run

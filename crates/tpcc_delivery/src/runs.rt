@@ -1,5 +1,5 @@
 //! The runs of the queue (2.7.4): each delivers the next district of the first ticket.
-ghost use Rattle.std.specs.Prelude.{◌≡◌, ℕ, OnOk, OnErr, IfOk, IfErr, Some, None, true};
+ghost use Rattle.std.specs.Prelude.{◌≡◌, OnOk, OnErr, IfOk, IfErr, Some, None, true};
 ghost use Rattle.tpcc_rows.specs.Delivery.{district_refusal, oldest_new_order, rows_after_district, run_refusal, run_reply, state_after_run};
 ghost use Rattle.tpcc_rows.specs.Ranges.{is_carrier};
 ghost use Rattle.tpcc_delivery.specs.Runs.{IsPreparedRun};
@@ -49,17 +49,15 @@ pub fn prepare_run(tables: &Tables, queue: &Queue, at: Moment) -> Result<Prepare
     }
 }
 
-/// Does a run that was prepared (2.7.4.2); takes no memory.
+/// Does a run that was prepared for a moment (2.7.4.2); takes no memory.
 ///
 /// The district's oldest new order is delivered, if it has one, and the ticket stands at its next
 /// district, or leaves the queue after the tenth.
-pub fn finish_run(tables: &mut Tables, queue: &mut Queue, run: PreparedRun) -> Delivery
-    requires ready { (at : ℕ) × IsPreparedRun tables.old.rows queue.old.tickets at run }
-    ensures state { (at : ℕ) → IsPreparedRun tables.old.rows queue.old.tickets at run
-        → record { rows = tables.new.rows; queue = queue.new.tickets }
+pub fn finish_run(tables: &mut Tables, queue: &mut Queue, at: Moment, run: PreparedRun) -> Delivery
+    requires ready { IsPreparedRun tables.old.rows queue.old.tickets at run }
+    ensures state { record { rows = tables.new.rows; queue = queue.new.tickets }
         ≡ state_after_run tables.old.rows queue.old.tickets at }
-    ensures reply { (at : ℕ) → IsPreparedRun tables.old.rows queue.old.tickets at run
-        → result ≡ run_reply tables.old.rows queue.old.tickets at }
+    ensures reply { result ≡ run_reply tables.old.rows queue.old.tickets at }
 {
     let reply = run.reply;
     match reply {
@@ -67,7 +65,7 @@ pub fn finish_run(tables: &mut Tables, queue: &mut Queue, run: PreparedRun) -> D
         Delivery::District(delivery) => {
             queue.in_range();
             let done = delivery;
-            deliver_district(tables, delivery);
+            deliver_district(tables, at, delivery);
             queue.advance();
             Delivery::District(done)
         }
@@ -75,14 +73,14 @@ pub fn finish_run(tables: &mut Tables, queue: &mut Queue, run: PreparedRun) -> D
 }
 
 /// Delivers the order of a run, if it has one.
-fn deliver_district(tables: &mut Tables, delivery: DistrictDelivery)
+fn deliver_district(tables: &mut Tables, at: Moment, delivery: DistrictDelivery)
     requires oldest { oldest_new_order tables.old.rows delivery.ticket.warehouse delivery.district
         ≡ delivery.order }
     requires carrier { is_carrier delivery.ticket.carrier ≡ true }
     requires accepted { district_refusal
         tables.old.rows delivery.ticket.warehouse delivery.district delivery.order ≡ None }
     ensures rows { tables.new.rows ≡ rows_after_district tables.old.rows delivery.ticket.warehouse
-        delivery.district delivery.ticket.carrier delivery.at delivery.order }
+        delivery.district delivery.ticket.carrier at delivery.order }
 {
     if let Some(order) = delivery.order {
         tables.deliver(
@@ -90,7 +88,7 @@ fn deliver_district(tables: &mut Tables, delivery: DistrictDelivery)
             delivery.district,
             order,
             delivery.ticket.carrier,
-            delivery.at,
+            at,
         );
     }
 }
@@ -107,5 +105,5 @@ pub fn deliver_next(tables: &mut Tables, queue: &mut Queue, at: Moment) -> Resul
         ((tables.new.rows ≡ tables.old.rows) × (queue.new.tickets ≡ queue.old.tickets)) }
 {
     let run = prepare_run(tables, queue, at)?;
-    Ok(finish_run(tables, queue, run))
+    Ok(finish_run(tables, queue, at, run))
 }

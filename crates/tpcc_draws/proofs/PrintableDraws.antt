@@ -7,7 +7,7 @@ use Rattle.rand_core.specs.Stream.{Stream}
 use Rattle.rand_pcg.specs.Lcg.{Lcg}
 use Rattle.tpcc_draws.specs.Draws.{answers, a_string, n_string, letters, digits}
 use Rattle.tpcc_draws.specs.Within.{HasWords, IsTextBetween}
-use Rattle.tpcc_draws.proofs.DrawLemmas.{answers_are_words, text_is_drawn}
+use Rattle.tpcc_draws.proofs.Draw.{answers_are_words, text_is_drawn}
 use Rattle.tpcc_rows.specs.LastName.{syllables, syllable, last_name}
 use Rattle.tpcc_rows.specs.Printable.{is_printable}
 

@@ -1,3 +1,3 @@
 mod Elements
-mod LogLemmas
-pub mod TallyLemmas
+mod Log
+pub mod Tally

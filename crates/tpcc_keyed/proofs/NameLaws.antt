@@ -17,14 +17,14 @@ use Rattle.tpcc_rows.specs.declared.requests.Who.TheVariants.{Name}
 use Rattle.tpcc_rows.specs.Lists.{updated, inserted, sorted, is_ascending}
 use Rattle.tpcc_rows.specs.Tables.{Rows, customers_in, customer_key, find_customer}
 use Rattle.tpcc_rows.specs.ChosenCustomer.{chosen_customer, first_name_before}
-use Rattle.tpcc_laws.proofs.ListLemmas.{key-chosen}
-use Rattle.tpcc_laws.proofs.InsertLemmas.{length-inserted, list_all-inserted_all}
+use Rattle.tpcc_laws.proofs.List.{key-chosen}
+use Rattle.tpcc_laws.proofs.Insert.{length-inserted, list_all-inserted_all}
 use Rattle.tpcc_rows.proofs.Booleans.{split, both_true}
 use Rattle.tpcc_laws.proofs.ChosenRow.{chosen_row}
 use Rattle.tpcc_keyed.specs.declared.names.CustomerName.{CustomerName}
 use Rattle.tpcc_keyed.specs.Names.{name_before, name_of, names_of, is_in_order, is_named, middle_id}
-use Rattle.tpcc_keyed.proofs.OrderLemmas.{in_order-inserted, in_order-filter, in_order-sorted, one_order, sorted_is, count-sorted}
-use Rattle.tpcc_keyed.proofs.NameLemmas.{last_both, last_total, name_order, names_tied, equal_is_named}
+use Rattle.tpcc_keyed.proofs.Order.{in_order-inserted, in_order-filter, in_order-sorted, one_order, sorted_is, count-sorted}
+use Rattle.tpcc_keyed.proofs.Name.{last_both, last_total, name_order, names_tied, equal_is_named}
 
 -- ---- a table that is changed
 

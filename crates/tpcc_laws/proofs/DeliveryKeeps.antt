@@ -17,8 +17,8 @@ use Rattle.tpcc_rows.specs.Tables.{Rows, is_district, is_order, is_line_of, is_n
 use Rattle.tpcc_rows.specs.WellKeyed.{IsKeyed, HasParents, has_order}
 use Rattle.tpcc_rows.specs.Conditions.{IsConsistent, keeps_1, keeps_2, keeps_3, keeps_4, keeps_5, keeps_6, keeps_7, keeps_8, keeps_9, keeps_10, keeps_12, new_order_numbers, delivered_amount, delivered_to}
 use Rattle.tpcc_rows.specs.Delivery.{after_delivery, oldest_new_order, order_amount, delivered_customer}
-use Rattle.tpcc_laws.proofs.ListLemmas.{has_one, one_of_key, list_all-mono, list_all-updated, find-none, filter-none, total-updated_none, total-updated_same, then_taken, else_taken}
-use Rattle.tpcc_laws.proofs.RemoveLemmas.{found_passes, filter-removed_other, find-removed_other, find-removed, find-updated_other, find-updated_self, length-updated_same, sum_by-updated_same, map-updated_same, total-updated_all, total-changed_one, is_rising, above-smallest, filter-above, rising-span}
+use Rattle.tpcc_laws.proofs.List.{has_one, one_of_key, list_all-mono, list_all-updated, find-none, filter-none, total-updated_none, total-updated_same, then_taken, else_taken}
+use Rattle.tpcc_laws.proofs.Remove.{found_passes, filter-removed_other, find-removed_other, find-removed, find-updated_other, find-updated_self, length-updated_same, sum_by-updated_same, map-updated_same, total-updated_all, total-changed_one, is_rising, above-smallest, filter-above, rising-span}
 use Rattle.tpcc_laws.proofs.OrderKeeps.{test_2, test_3, all_equal, both_equal, by_contradiction, true_is_false, first, second}
 use Rattle.tpcc_laws.proofs.PaymentKeeps.{equal, as_equal}
 

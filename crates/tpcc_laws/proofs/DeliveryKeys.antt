@@ -6,7 +6,7 @@ use Rattle.tpcc_rows.specs.Lists.{key_before, is_ascending}
 use Rattle.tpcc_rows.specs.Tables.{Rows, order_key, order_line_key, new_order_key, customer_key, is_order, is_line_of, is_new_order, is_customer, order_at, find_customer, find_district, find_order, find_stock}
 use Rattle.tpcc_rows.specs.WellKeyed.{IsKeyed, HasParents, has_district, has_payer, has_customer, has_order, has_order_and_stock, is_numbered_below_next}
 use Rattle.tpcc_rows.specs.Delivery.{after_delivery, delivered_customer, order_amount}
-use Rattle.tpcc_laws.proofs.ListLemmas.{ascending-updated, found-updated, list_all-mono, list_all-updated}
+use Rattle.tpcc_laws.proofs.List.{ascending-updated, found-updated, list_all-mono, list_all-updated}
 use Rattle.tpcc_laws.proofs.DeliveryKeeps.{with_carrier, with_delivery_date}
 
 pub list_all-filter : {X : Type 0} (test q : X → Bool) (xs : List X) → list_all test xs ≡ true → list_all test (filter q xs) ≡ true

@@ -14,10 +14,10 @@ use Rattle.tpcc_rows.specs.Ranges.{is_order_row, is_order_line_row, is_customer_
 use Rattle.tpcc_rows.specs.Tables.{Rows, is_order, is_line_of, is_customer, is_new_order, order_at, customer_at, no_customer}
 use Rattle.tpcc_rows.specs.WellKeyed.{IsKeyed, IsInRange, IsQueueInRange}
 use Rattle.tpcc_rows.specs.Delivery.{after_delivery, delivered_customer, order_amount, rows_after_district, state_after_run, delivery_tests, district_refusal, run_refusal, oldest_new_order, queue_with, ticket_refusal, ticket_tests}
-use Rattle.tpcc_laws.proofs.ListLemmas.{has_one, list_all-updated, list_all-updated_found, updated_absent}
+use Rattle.tpcc_laws.proofs.List.{has_one, list_all-updated, list_all-updated_found, updated_absent}
 use Rattle.tpcc_laws.proofs.DeliveryKeys.{list_all-filter}
 use Rattle.tpcc_laws.proofs.DeliveryKeeps.{with_carrier, with_delivery_date}
-use Rattle.tpcc_laws.proofs.RemoveLemmas.{found_passes}
+use Rattle.tpcc_laws.proofs.Remove.{found_passes}
 use Rattle.tpcc_rows.proofs.Booleans.{split, both_true}
 use Rattle.tpcc_laws.proofs.TurnKeeps.{all_false}
 use Rattle.tpcc_laws.proofs.Numbers.{not_false, within, is_in}

@@ -16,9 +16,9 @@ use Rattle.tpcc_rows.specs.Ranges.{is_within, is_warehouse_row, is_district_row,
 use Rattle.tpcc_rows.specs.Tables.{Rows, order_key, order_line_key, new_order_key, is_warehouse, is_district, is_customer, is_item, is_stock, find_warehouse, find_district, find_customer, find_item, find_stock, stock_at, no_district, no_item, no_stock}
 use Rattle.tpcc_rows.specs.WellKeyed.{IsKeyed, IsInRange, IsStocked}
 use Rattle.tpcc_rows.specs.NewOrder.{after_order, is_rolled_back, order_refusal, order_refusal_by_input, order_refusal_by_range, order_input_tests, order_range_tests, order_number, order_row, order_line_row, order_line_rows, new_order_row, with_next_order, stock_after}
-use Rattle.tpcc_laws.proofs.ListLemmas.{list_all-updated_found, list_all_both}
-use Rattle.tpcc_laws.proofs.InsertLemmas.{list_all-inserted, list_all-inserted_all}
-use Rattle.tpcc_laws.proofs.RemoveLemmas.{found_passes}
+use Rattle.tpcc_laws.proofs.List.{list_all-updated_found, list_all_both}
+use Rattle.tpcc_laws.proofs.Insert.{list_all-inserted, list_all-inserted_all}
+use Rattle.tpcc_laws.proofs.Remove.{found_passes}
 use Rattle.tpcc_rows.proofs.Booleans.{split, both_true}
 use Rattle.tpcc_laws.proofs.DeliveryKeeps.{some_of}
 use Rattle.tpcc_laws.proofs.TurnKeeps.{all_false, some_if, first_none}

@@ -17,9 +17,9 @@ use Rattle.tpcc_rows.specs.Lists.{updated, inserted, inserted_all, by_key, large
 use Rattle.tpcc_rows.specs.Tables.{Rows, order_line_key, districts_of, order_lines_in, lines_of, orders_of, is_order, is_line_of, is_new_order, is_order_of, find_order, find_stock, find_new_order, district_at, orders_in, is_district, no_district, no_order, paid_by, order_key, new_order_key}
 use Rattle.tpcc_rows.specs.Conditions.{IsConsistent, keeps_1, keeps_2, keeps_3, keeps_4, keeps_5, keeps_6, keeps_7, keeps_8, keeps_9, keeps_10, keeps_12, delivered_amount, delivered_to, new_order_numbers}
 use Rattle.tpcc_rows.specs.NewOrder.{after_order, order_line_row, order_line_rows, order_row, new_order_row, order_number, with_next_order}
-use Rattle.tpcc_laws.proofs.ListLemmas.{has_one, list_all-updated_one, list_all_both, then_taken, else_taken, list_all-mono, list_all-updated, total-updated_same, length-filter-map_all, filter-map_none, filter-none, list_any-none, list_all-map, find-none, total-same}
+use Rattle.tpcc_laws.proofs.List.{has_one, list_all-updated_one, list_all_both, then_taken, else_taken, list_all-mono, list_all-updated, total-updated_same, length-filter-map_all, filter-map_none, filter-none, list_any-none, list_all-map, find-none, total-same}
 use Rattle.tpcc_laws.proofs.PaymentKeeps.{same_district, stays}
-use Rattle.tpcc_laws.proofs.InsertLemmas.{largest-inserted, smallest-inserted, length-inserted, sum_by-inserted, length-inserted_all, list_all-inserted, list_all-inserted_all, find-inserted_other, find-inserted_new, found-inserted_new, total-inserted, total-inserted_all}
+use Rattle.tpcc_laws.proofs.Insert.{largest-inserted, smallest-inserted, length-inserted, sum_by-inserted, length-inserted_all, list_all-inserted, list_all-inserted_all, find-inserted_other, find-inserted_new, found-inserted_new, total-inserted, total-inserted_all}
 
 larger_is_max : (n : ℕ) (o : Option ℕ) → larger n o ≡ max n (unwrap_or o 0)
 larger_is_max n None = omega arith

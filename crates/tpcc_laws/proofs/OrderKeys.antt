@@ -10,8 +10,8 @@ use Rattle.tpcc_rows.specs.Lists.{inserted, inserted_all, by_key, key_before, is
 use Rattle.tpcc_rows.specs.Tables.{Rows, district_key, order_key, order_line_key, new_order_key, stock_key, is_district}
 use Rattle.tpcc_rows.specs.WellKeyed.{IsKeyed, HasParents, is_numbered_below_next, has_order, has_order_and_stock}
 use Rattle.tpcc_rows.specs.NewOrder.{after_order, order_row, order_line_row, order_line_rows, new_order_row, order_number, with_next_order, stock_after, stock_after_line, lines_from}
-use Rattle.tpcc_laws.proofs.ListLemmas.{ascending-updated, list_all-mono, list_all_both}
-use Rattle.tpcc_laws.proofs.InsertLemmas.{list_all-inserted}
+use Rattle.tpcc_laws.proofs.List.{ascending-updated, list_all-mono, list_all_both}
+use Rattle.tpcc_laws.proofs.Insert.{list_all-inserted}
 use Rattle.tpcc_laws.proofs.OrderKeeps.{not_order, not_line, no_old_order}
 use Rattle.tpcc_laws.proofs.DeliveryKeeps.{not_new_order}
 

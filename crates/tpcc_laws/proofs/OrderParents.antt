@@ -12,8 +12,8 @@ use Rattle.tpcc_rows.specs.Lists.{inserted, by_key, updated}
 use Rattle.tpcc_rows.specs.Tables.{Rows, order_key, order_line_key, new_order_key, is_order, is_stock, is_district, find_warehouse, find_district, find_customer, find_item, find_stock, no_district}
 use Rattle.tpcc_rows.specs.WellKeyed.{HasParents, has_warehouse, has_district, has_payer, has_customer, has_order, has_order_and_stock, has_warehouse_and_item, is_numbered_below_next}
 use Rattle.tpcc_rows.specs.NewOrder.{after_order, order_row, order_line_row, order_line_rows, new_order_row, order_number, with_next_order, stock_after, stock_after_line, lines_from}
-use Rattle.tpcc_laws.proofs.ListLemmas.{found-updated, list_all-mono, list_all-updated}
-use Rattle.tpcc_laws.proofs.InsertLemmas.{list_all-inserted, list_all-inserted_all, found-inserted_new}
+use Rattle.tpcc_laws.proofs.List.{found-updated, list_all-mono, list_all-updated}
+use Rattle.tpcc_laws.proofs.Insert.{list_all-inserted, list_all-inserted_all, found-inserted_new}
 use Rattle.tpcc_rows.proofs.Booleans.{split, both_true}
 use Rattle.tpcc_laws.proofs.OrderKeeps.{itself}
 

@@ -12,7 +12,7 @@ use Rattle.tpcc_rows.specs.declared.requests.Payment.{Payment}
 use Rattle.tpcc_rows.specs.Tables.{Rows, is_warehouse, is_district, is_customer, is_paid_by}
 use Rattle.tpcc_rows.specs.Conditions.{IsConsistent, keeps_1, keeps_2, keeps_3, keeps_4, keeps_5, keeps_6, keeps_7, keeps_8, keeps_9, keeps_10, keeps_12, delivered_to}
 use Rattle.tpcc_rows.specs.Payment.{after_payment, paid_warehouse, paid_district, paid_customer, payment_history, paying_customer}
-use Rattle.tpcc_laws.proofs.ListLemmas.{has_one, list_all-updated, total-updated_none, total-updated_one, total-push}
+use Rattle.tpcc_laws.proofs.List.{has_one, list_all-updated, total-updated_none, total-updated_one, total-push}
 
 pub equal : (x y : ℤ) → int_eq x y ≡ true → x ≡ y
 equal x y h = (Decides-int_eq x y).0 h

@@ -8,7 +8,7 @@ use Rattle.tpcc_rows.specs.Lists.{updated}
 use Rattle.tpcc_rows.specs.Tables.{Rows, is_warehouse, is_district, is_customer, warehouse_key, district_key, customer_key, find_warehouse, find_item, find_customer, find_district, no_district, district_at}
 use Rattle.tpcc_rows.specs.WellKeyed.{IsKeyed, HasParents, has_warehouse, has_district, has_payer, has_customer, has_warehouse_and_item, is_numbered_below_next}
 use Rattle.tpcc_rows.specs.Payment.{after_payment, paid_warehouse, paid_district, paid_customer, payment_history, paying_customer}
-use Rattle.tpcc_laws.proofs.ListLemmas.{ascending-updated, found-updated, list_all-mono, list_all-updated}
+use Rattle.tpcc_laws.proofs.List.{ascending-updated, found-updated, list_all-mono, list_all-updated}
 
 -- a column that an update leaves, of the row that a key names
 pub column-updated : {X C : Type 0} (column : X → C) (q passes : X → Bool) (change : X → X) (none : X) → ((x : X) → (q (change x) ≡ q x) × (column (change x) ≡ column x)) → (xs : List X) → column (unwrap_or (find q (updated passes change xs)) none) ≡ column (unwrap_or (find q xs) none)

@@ -15,8 +15,8 @@ use Rattle.tpcc_rows.specs.Ranges.{is_warehouse_row, is_district_row, is_custome
 use Rattle.tpcc_rows.specs.Tables.{Rows, warehouse_key, district_key, customer_key, is_warehouse, is_district, is_customer, warehouse_at, district_at, no_warehouse, no_district}
 use Rattle.tpcc_rows.specs.WellKeyed.{IsKeyed, IsInRange}
 use Rattle.tpcc_rows.specs.Payment.{payment_refusal, after_payment, paid_warehouse, paid_district, paid_customer, payment_history, payment_note, information_after, paying_customer, has_bad_credit}
-use Rattle.tpcc_laws.proofs.ListLemmas.{has_one, one_of_key, list_all-updated_found}
-use Rattle.tpcc_laws.proofs.RemoveLemmas.{found_passes}
+use Rattle.tpcc_laws.proofs.List.{has_one, one_of_key, list_all-updated_found}
+use Rattle.tpcc_laws.proofs.Remove.{found_passes}
 use Rattle.tpcc_rows.proofs.Booleans.{split, both_true}
 use Rattle.tpcc_laws.proofs.Numbers.{amount_within, is_amount, within}
 use Rattle.tpcc_rows.proofs.PrintableTexts.{are_printable, append_is_printable, decimal_printable}

@@ -16,7 +16,7 @@ use Rattle.tpcc_rows.specs.NewOrder.{is_rolled_back, after_order, rows_after_ord
 use Rattle.tpcc_rows.specs.Payment.{payment_refusal, payment_tests, after_payment}
 use Rattle.tpcc_rows.specs.Delivery.{oldest_new_order, rows_after_district, state_after_run}
 use Rattle.tpcc_rows.specs.Turn.{refusal, state_after}
-use Rattle.tpcc_laws.proofs.ListLemmas.{has_one, one_of_key}
+use Rattle.tpcc_laws.proofs.List.{has_one, one_of_key}
 use Rattle.tpcc_laws.proofs.PaymentKeeps.{payment_is_consistent}
 use Rattle.tpcc_laws.proofs.OrderKeeps.{order_is_consistent}
 use Rattle.tpcc_laws.proofs.DeliveryKeeps.{delivery_is_consistent}

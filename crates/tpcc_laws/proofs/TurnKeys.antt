@@ -16,9 +16,9 @@ use Rattle.tpcc_rows.specs.NewOrder.{is_rolled_back, after_order, order_refusal,
 use Rattle.tpcc_rows.specs.Payment.{payment_refusal, payment_tests, after_payment, paying_customer, paid_warehouse}
 use Rattle.tpcc_rows.specs.Delivery.{oldest_new_order, rows_after_district, after_delivery, state_after_run}
 use Rattle.tpcc_rows.specs.Turn.{refusal, state_after}
-use Rattle.tpcc_laws.proofs.ListLemmas.{list_all-mono, list_all-updated}
-use Rattle.tpcc_laws.proofs.RemoveLemmas.{found_passes}
-use Rattle.tpcc_laws.proofs.ChosenLemmas.{chosen_is_found}
+use Rattle.tpcc_laws.proofs.List.{list_all-mono, list_all-updated}
+use Rattle.tpcc_laws.proofs.Remove.{found_passes}
+use Rattle.tpcc_laws.proofs.Chosen.{chosen_is_found}
 use Rattle.tpcc_laws.proofs.PaymentParents.{payment_is_keyed, payment_has_parents}
 use Rattle.tpcc_laws.proofs.OrderKeys.{order_is_keyed}
 use Rattle.tpcc_laws.proofs.OrderParents.{order_has_parents, found_stock}

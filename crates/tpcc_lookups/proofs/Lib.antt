@@ -1,1 +1,1 @@
-mod LowLemmas
+mod Low

@@ -25,7 +25,7 @@ fn show_order(tables: &Tables, warehouse: u32, district: u32, order: u32) -> Las
 }
 
 /// A customer's last order, if there is one.
-#[tactic(auto, using(crate::proofs::LowLemmas::last_is_there))]
+#[tactic(auto, using(crate::proofs::Low::last_is_there))]
 fn last_order(tables: &Tables, warehouse: u32, district: u32, customer: u32) -> Option<LastOrder>
     ensures { result ≡ option_map (shown_order tables.now.rows warehouse district)
         (last_order_number tables.now.rows warehouse district customer) }

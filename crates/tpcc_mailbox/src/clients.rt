@@ -3,9 +3,9 @@ ghost use Rattle.std.specs.Prelude.{◌≡◌, ◌+◌, ◌<◌, ◌≤◌, true
 ghost use Rattle.tpcc_mailbox.specs.Tokens.{identity, idle_origin, idle_mailbox, idle_saw_closed, waiting_origin, waiting_mailbox, waiting_letter, waiting_saw_closed};
 
 use crate::answers::Answers;
+use crate::plays::{Collecting, Posting, Reading};
 use crate::room::Posted;
 use crate::rule::{ANSWERED, CLOSED, FREE, Mail, POSTED};
-use crate::steps::{Collecting, Posting, Reading};
 use crate::table::{Mailboxes, word_index};
 use crate::tokens::{Idle, Waiting};
 use std::snapshot::Snapshot;

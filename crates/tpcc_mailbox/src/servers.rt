@@ -3,8 +3,8 @@ ghost use Rattle.std.specs.Prelude.{◌≡◌, ◌+◌, ◌<◌, ◌≤◌, [], 
 ghost use Rattle.tpcc_mailbox.specs.Tokens.{identity, mailbox_count, serving_origin, serving_hand, serving_splits, serving_answered, serving_saw_closed, taken_mailbox, taken_letter};
 
 use crate::answers::Answers;
+use crate::plays::{Answering, Closing, Reading, SplittingServer, Taking};
 use crate::rule::{ANSWERED, CLOSED, Mail, POSTED, TAKEN};
-use crate::steps::{Answering, Closing, Reading, SplittingServer, Taking};
 use crate::table::{Mailboxes, word_index};
 use crate::tokens::{Serving, Taken};
 use std::snapshot::Snapshot;
@@ -71,7 +71,12 @@ impl<J, A: Answers<J>> Mailboxes<J, A> {
         let shared = &self.table.shared;
         let was = shared.exchange(&mut serving.seat, mailbox, Some(answered));
         let None = was else { unreachable!() };
-        shared.compare_exchange::<Answering>(&mut serving.seat, word_index(mailbox), TAKEN, ANSWERED);
+        shared.compare_exchange::<Answering>(
+            &mut serving.seat,
+            word_index(mailbox),
+            TAKEN,
+            ANSWERED,
+        );
     }
 
     /// Closes the mailboxes, which may be closed already. It raises a flag and stops nothing: letters

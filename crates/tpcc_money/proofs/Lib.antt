@@ -1,5 +1,5 @@
 mod Worked
 pub mod Values
-pub mod DigitLemmas
-pub mod TotalLemmas
-pub mod MomentLemmas
+pub mod Digit
+pub mod Total
+pub mod Moment

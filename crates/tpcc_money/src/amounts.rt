@@ -24,7 +24,7 @@ pub fn line_amount(price: Cents, quantity: u32) -> Cents
 
 /// The total of an order whose lines add up to 0.00 to 150,000.00: the sum, less the customer's
 /// discount, with the taxes of warehouse and district (2.4.2.2), rounded half up to a cent.
-#[tactic(auto, using(crate::proofs::TotalLemmas::scaled_fits, crate::proofs::TotalLemmas::rounds))]
+#[tactic(auto, using(crate::proofs::Total::scaled_fits, crate::proofs::Total::rounds))]
 pub fn order_total(sum: Cents, discount: Rate, warehouse_tax: Rate, district_tax: Rate) -> Cents
     requires { (pos 0 ≤ℤ sum) × (sum ≤ℤ GREATEST_SUM) }
     ensures { result ≡ amounts.order_total sum discount warehouse_tax district_tax }

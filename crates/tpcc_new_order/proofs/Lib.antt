@@ -1,5 +1,5 @@
-pub mod BrandLemmas
-pub mod SupplyLemmas
-pub mod RefusalLemmas
-pub mod LineLemmas
-pub mod PrepareLemmas
+pub mod Brand
+pub mod Supply
+pub mod Refusal
+pub mod Line
+pub mod Prepare

@@ -7,8 +7,8 @@ use Rattle.rand_core.specs.Stream.{Stream}
 use Rattle.tpcc_draws.specs.Draws.{stream_at, generator_of, between, nurand, a_string, n_string, permutation}
 use Rattle.tpcc_rows.specs.LastName.{last_name}
 use Rattle.tpcc_draws.specs.Within.{HasWords}
-use Rattle.tpcc_draws.proofs.DrawLemmas.{answers_are_words, between_is_between}
-use Rattle.tpcc_draws.proofs.OrderLemmas.{permutation_is_within}
+use Rattle.tpcc_draws.proofs.Draw.{answers_are_words, between_is_between}
+use Rattle.tpcc_draws.proofs.Order.{permutation_is_within}
 use Rattle.tpcc_draws.proofs.PrintableDraws.{a_text, n_text}
 use Rattle.tpcc_rows.specs.declared.rows.Address.{Address}
 use Rattle.tpcc_rows.specs.Printable.{is_printable}
@@ -16,7 +16,7 @@ use Rattle.tpcc_rows.specs.Ranges.{is_amount_within, is_text, is_exact_text, is_
 use Rattle.tpcc_rows.specs.Layout.{is_delivered}
 use Rattle.tpcc_population.specs.Regular.{IsScale, RefersInside, HasRowsInRange}
 use Rattle.tpcc_population.specs.Seeded.{Seeding, seeded_rules, drawn_zip, drawn_address, drawn_last, drawn_information, drawn_texts, drawn_carrier, drawn_amount, with_original, district_number, number_in_districts, line_number, stock_number, seeded_warehouse, seeded_district, seeded_customer, seeded_history, seeded_order, seeded_order_line, seeded_item, seeded_stock}
-use Rattle.tpcc_population.proofs.RangeLemmas.{within, amount_within, text_ok, exact_ok, last_name_ok}
+use Rattle.tpcc_population.proofs.Range.{within, amount_within, text_ok, exact_ok, last_name_ok}
 use Rattle.tpcc_population.proofs.PlainRanges.{text_where, moment_where, new_order_ok}
 
 words_at : (seed table row : ℕ) → HasWords (stream_at seed table row)

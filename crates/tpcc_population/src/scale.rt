@@ -7,8 +7,8 @@ ghost use Rattle.tpcc_rows.specs.declared.limits.TheConstants.{GREATEST_ITEM, GR
 ghost use Rattle.tpcc_population.specs.declared.scale.TheConstants.{LEAST_ITEMS};
 
 use std::marker::Model;
-use tpcc_rows::limits::{GREATEST_CUSTOMER, GREATEST_ITEM, GREATEST_WAREHOUSE};
 use thiserror::Error;
+use tpcc_rows::limits::{GREATEST_CUSTOMER, GREATEST_ITEM, GREATEST_WAREHOUSE};
 
 /// The fewest customers of a district; their number is a multiple of 10.
 pub const LEAST_CUSTOMERS: u32 = 10;

@@ -12,7 +12,7 @@ use Rattle.tpcc_rows.specs.declared.requests.Who.{Who}
 use Rattle.tpcc_rows.specs.declared.requests.Who.TheVariants.{Number, Name}
 use Rattle.tpcc_rows.specs.declared.requests.Line.{Line}
 use Rattle.tpcc_rows.proofs.Booleans.{split, both_true}
-use Rattle.tpcc_laws.proofs.ListLemmas.{list_all-mono}
+use Rattle.tpcc_laws.proofs.List.{list_all-mono}
 use Rattle.tpcc_terminal.specs.RequestLines.{customer_word, order_line_word}
 use Rattle.tpcc_script.specs.Script.{is_capital, is_last_name, number_of, moment_of, cents_of, customer_of, order_line_of, order_line_of_parts, parts_of}
 use Rattle.tpcc_script.specs.Sayable.{is_number, is_moment, is_amount, is_customer_word, is_order_line}

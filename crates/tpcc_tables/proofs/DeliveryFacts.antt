@@ -17,11 +17,11 @@ use Rattle.tpcc_rows.specs.Delivery.{order_amount, district_refusal, delivery_te
 use Rattle.tpcc_laws.proofs.DeliveryKeeps.{with_carrier, with_delivery_date}
 use Rattle.tpcc_laws.proofs.DeliveryKeys.{delivery_is_keyed, delivery_has_parents}
 use Rattle.tpcc_laws.proofs.DeliveryRanges.{delivery_in_range}
-use Rattle.tpcc_laws.proofs.ListLemmas.{list_all-mono}
-use Rattle.tpcc_tables.proofs.LineLemmas.{few_lines}
+use Rattle.tpcc_laws.proofs.List.{list_all-mono}
+use Rattle.tpcc_tables.proofs.Line.{few_lines}
 use Rattle.tpcc_laws.proofs.Numbers.{amount_within, balance_fits, count_fits, not_false}
 use Rattle.tpcc_rows.proofs.Booleans.{split}
-use Rattle.tpcc_laws.proofs.RemoveLemmas.{found_passes}
+use Rattle.tpcc_laws.proofs.Remove.{found_passes}
 use Rattle.tpcc_laws.proofs.TurnKeeps.{all_false}
 
 abbrev pub is_paid : OrderLineRow → Bool

@@ -12,12 +12,12 @@ use Rattle.tpcc_rows.specs.Ranges.{is_order_row}
 use Rattle.tpcc_rows.specs.Tables.{Rows, is_line_of, lines_of}
 use Rattle.tpcc_rows.specs.WellKeyed.{IsWellKeyed}
 use Rattle.tpcc_rows.specs.Conditions.{delivered_amount}
-use Rattle.tpcc_keyed.proofs.SearchLemmas.{all_at}
+use Rattle.tpcc_keyed.proofs.Search.{all_at}
 use Rattle.tpcc_tables.specs.declared.lists.Lists.{Lists}
 use Rattle.tpcc_tables.specs.declared.sums.Sums.{Sums}
 use Rattle.tpcc_tables.specs.Listed.{listed}
 use Rattle.tpcc_tables.specs.Sums.{AreSums, first_rows, HasPaid, HasEntered, CanGrow}
-use Rattle.tpcc_tables.proofs.FilterLemmas.{filter-same, filter-twice}
+use Rattle.tpcc_tables.proofs.Filter.{filter-same, filter-twice}
 use Rattle.tpcc_tables.proofs.SumChanges.{paid, entered}
 use Rattle.tpcc_tables.proofs.SumRanges.{summable, summable_first, can_grow, order_lines_most}
 

@@ -23,13 +23,13 @@ use Rattle.tpcc_rows.proofs.PrintableTexts.{list_all-take}
 use Rattle.tpcc_laws.proofs.Numbers.{amount_within, is_amount, within}
 use Rattle.tpcc_tables.specs.declared.sums.Sums.{Sums}
 use Rattle.tpcc_tables.specs.Sums.{warehouse_sums_key, district_sums_key, customer_sums_key, warehouse_sums, district_sums, customer_sums, AreSums, first_rows, is_payments_sum, is_order_amount, is_delivered_sum, is_lines_sum, CanGrow}
-use Rattle.tpcc_tables.proofs.FilterLemmas.{filter-twice}
-use Rattle.tpcc_tables.proofs.LineLemmas.{few_lines}
+use Rattle.tpcc_tables.proofs.Filter.{filter-twice}
+use Rattle.tpcc_tables.proofs.Line.{few_lines}
 use Rattle.tpcc_tables.proofs.DeliveryFacts.{line_is_paid}
 use Rattle.tpcc_tables.specs.declared.tables.Tables.TheInside.{Inside}
 use Rattle.tpcc_tables.specs.View.{rows_of, IsHeld}
-use Rattle.tpcc_tables.proofs.SumLemmas.{in_order, each_value}
-use Rattle.tpcc_tables.proofs.RisingLemmas.{rising, rising_count, order_rises, in_district}
+use Rattle.tpcc_tables.proofs.Sum.{in_order, each_value}
+use Rattle.tpcc_tables.proofs.Rising.{rising, rising_count, order_rises, in_district}
 
 -- ---- sums of numbers in a range
 

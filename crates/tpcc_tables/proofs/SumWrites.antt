@@ -18,20 +18,20 @@ use Rattle.tpcc_rows.specs.Conditions.{delivered_amount}
 use Rattle.tpcc_rows.specs.NewOrder.{order_line_row, with_next_order}
 use Rattle.tpcc_rows.specs.Delivery.{after_delivery, oldest_new_order, order_amount, delivered_customer}
 use Rattle.tpcc_rows.proofs.Booleans.{split}
-use Rattle.tpcc_laws.proofs.ListLemmas.{has_one, one_of_key, filter-none, filter-map_none, total-updated_none, total-updated_same}
-use Rattle.tpcc_laws.proofs.InsertLemmas.{list_all-inserted, total-inserted, total-inserted_all}
-use Rattle.tpcc_laws.proofs.RemoveLemmas.{is_rising, sum_by-updated_same, map-updated_same, total-updated_all}
+use Rattle.tpcc_laws.proofs.List.{has_one, one_of_key, filter-none, filter-map_none, total-updated_none, total-updated_same}
+use Rattle.tpcc_laws.proofs.Insert.{list_all-inserted, total-inserted, total-inserted_all}
+use Rattle.tpcc_laws.proofs.Remove.{is_rising, sum_by-updated_same, map-updated_same, total-updated_all}
 use Rattle.tpcc_laws.proofs.OrderKeeps.{both_equal, all_equal, by_contradiction, true_is_false, no_old_order}
 use Rattle.tpcc_laws.proofs.DeliveryKeeps.{with_carrier, with_delivery_date}
 use Rattle.tpcc_tables.specs.declared.sums.Sums.{Sums}
 use Rattle.tpcc_tables.specs.Loads.{with_history, with_order, with_order_line}
 use Rattle.tpcc_tables.specs.Sums.{warehouse_sums, district_sums, customer_sums, AreSums, HasEntered, HasDelivered}
 use Rattle.tpcc_tables.specs.Writes.{with_payment, with_entered_order, richer_warehouse, richer_district, charged_customer, IsOrder}
-use Rattle.tpcc_tables.proofs.FilterLemmas.{filter-twice}
+use Rattle.tpcc_tables.proofs.Filter.{filter-twice}
 use Rattle.tpcc_tables.proofs.KeyTests.{orders_apart}
-use Rattle.tpcc_tables.proofs.SumLemmas as sum
-use Rattle.tpcc_tables.proofs.EnterLemmas.{entered_is_well_keyed}
-use Rattle.tpcc_tables.proofs.RisingLemmas.{rising, first_number, waits_in, new_order_rises}
+use Rattle.tpcc_tables.proofs.Sum as sum
+use Rattle.tpcc_tables.proofs.Enter.{entered_is_well_keyed}
+use Rattle.tpcc_tables.proofs.Rising.{rising, first_number, waits_in, new_order_rises}
 use Rattle.tpcc_tables.proofs.SumChanges.{with_lines, entered, as_delivered, IsMoreOf, more_delivered}
 use Rattle.tpcc_tables.proofs.SumRanges.{all-filter, order_lines_most}
 

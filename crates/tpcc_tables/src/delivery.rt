@@ -12,7 +12,7 @@ ghost use Rattle.tpcc_rows.specs.Delivery.{delivered_customer};
 ghost use Rattle.tpcc_tables.specs.Sums.{is_order_amount};
 
 use crate::find;
-use crate::place::place_of_customer;
+use crate::places::place_of_customer;
 use tpcc_keyed::Parts;
 use tpcc_money::Cents;
 use tpcc_rows::{CustomerRow, NewOrderKey, NewOrderRow, OrderKey, OrderLineRow, OrderRow};

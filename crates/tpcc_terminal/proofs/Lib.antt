@@ -1,6 +1,6 @@
 pub mod WorkedScreens
 pub mod Chains
-mod RequestLemmas
+mod Request
 pub mod Decks
 pub mod Districts
 pub mod Drawn

@@ -36,7 +36,7 @@ pub(super) fn number_in_districts(scale: &Scale, warehouse: u32, district: u32, 
     rows_before(before, scale.customers()) + u64::from(number)
 }
 
-#[tactic(auto, using(crate::proofs::RangeLemmas::small_product))]
+#[tactic(auto, using(crate::proofs::Range::small_product))]
 fn rows_before(districts: u64, customers: u32) -> u64
     requires districts { districts ≤ MOST_DISTRICTS }
     requires customers { customers ≤ GREATEST_CUSTOMER }

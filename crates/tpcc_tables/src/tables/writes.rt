@@ -5,7 +5,8 @@ ghost use Rattle.tpcc_rows.specs.Ranges.{is_carrier};
 ghost use Rattle.tpcc_tables.specs.Writes.{with_payment, IsPayment, with_entered_order, IsOrder};
 
 use super::Tables;
-use crate::{delivery, place, rooms, supply};
+use crate::order_number::raise_next_order;
+use crate::{delivery, payment, rooms, supply};
 use tpcc_money::{Cents, Moment, NoMemory};
 use tpcc_rows::{HistoryRow, NewOrderRow, OrderLineRow, OrderRow, Text};
 
@@ -55,14 +56,14 @@ impl Tables {
         ensures rows { self.new.rows ≡ with_payment self.old.rows history information }
         ensures orders { self.new.order_room ≡ self.old.order_room }
     {
-        place::pay_warehouse(&mut self.warehouses, history.warehouse, history.amount);
-        place::pay_district(
+        payment::pay_warehouse(&mut self.warehouses, history.warehouse, history.amount);
+        payment::pay_district(
             &mut self.districts,
             history.warehouse,
             history.district,
             history.amount,
         );
-        place::pay_customer(
+        payment::pay_customer(
             &mut self.customers,
             history.customer_warehouse,
             history.customer_district,
@@ -71,7 +72,7 @@ impl Tables {
             information,
         );
         self.sums.pay(&history);
-        place::append_history(&mut self.histories, history);
+        payment::append_history(&mut self.histories, history);
         self.payment_room = 0;
     }
 
@@ -84,7 +85,7 @@ impl Tables {
         ensures rows { self.new.rows ≡ with_entered_order self.old.rows order lines.now }
         ensures payments { self.new.payment_room ≡ self.old.payment_room }
     {
-        place::raise_next_order(&mut self.districts, order.warehouse, order.district);
+        raise_next_order(&mut self.districts, order.warehouse, order.district);
         supply::supply(&mut self.stocks, order.warehouse, lines);
         self.order_lines.append_all(lines);
         let waiting = NewOrderRow {

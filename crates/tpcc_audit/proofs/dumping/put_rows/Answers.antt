@@ -1,7 +1,7 @@
 use Rattle.std.proofs.Common.{arith, ◌∙◌, ◌++◌}
 use Rattle.tpcc_audit.specs.Part.{AppendsPart}
 use Rattle.tpcc_audit.proofs.Parts.{at_fault}
-use Rattle.tpcc_audit.proofs.RowLemmas.{all_text, put_more, put_whole, cut_before, cut_within}
+use Rattle.tpcc_audit.proofs.Row.{all_text, put_more, put_whole, cut_before, cut_within}
 use Rattle.tpcc_audit.proofs.dumping.put_rows.Goals as goal
 
 pub returns-in_err-bytes-clause-part : goal.returns-in_err-bytes-clause-part

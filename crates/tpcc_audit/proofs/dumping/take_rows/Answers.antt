@@ -3,7 +3,7 @@ use Rattle.std.specs.Prelude.{None}
 use Rattle.tpcc_tables.specs.Positions.{row_at, lent_row}
 use Rattle.tpcc_audit.specs.Dump.{records_text, records_from}
 use Rattle.tpcc_audit.specs.Output.{HasTaken}
-use Rattle.tpcc_audit.proofs.RowLemmas.{one_record, no_record}
+use Rattle.tpcc_audit.proofs.Row.{one_record, no_record}
 use Rattle.tpcc_audit.proofs.dumping.take_rows.Goals.{in-Some+in_ok-put_row+in_ok-put, in_default}
 use Rattle.tpcc_audit.proofs.dumping.take_rows.Goals as goal
 

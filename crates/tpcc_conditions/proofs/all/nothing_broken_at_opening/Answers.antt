@@ -1,4 +1,4 @@
-use Rattle.tpcc_conditions.proofs.OpeningLemmas.{nothing_broken_there, none_broken_there}
+use Rattle.tpcc_conditions.proofs.Opening.{nothing_broken_there, none_broken_there}
 use Rattle.tpcc_conditions.proofs.all.nothing_broken_at_opening.Goals as goal
 
 pub returns : goal.returns

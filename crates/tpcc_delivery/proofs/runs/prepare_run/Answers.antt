@@ -1,6 +1,6 @@
 use Rattle.std.proofs.Common.{◌∙◌, sym, ap}
 use Rattle.tpcc_rows.specs.Delivery.{district_refusal}
-use Rattle.tpcc_delivery.proofs.RunLemmas.{none_refused, none_ready, refusal_of_first, first_ready}
+use Rattle.tpcc_delivery.proofs.Run.{none_refused, none_ready, refusal_of_first, first_ready}
 use Rattle.tpcc_delivery.proofs.runs.prepare_run.Goals as goal
 
 pub returns-in_default-clause-accepted : goal.returns-in_default-clause-accepted

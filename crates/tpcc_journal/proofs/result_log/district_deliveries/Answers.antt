@@ -1,6 +1,6 @@
 use Rattle.std.proofs.Common.{◌∙◌, ◌++◌, sym}
 use Rattle.std.specs.Option.{option_to_list}
-use Rattle.tpcc_journal.proofs.LogLemmas.{one_more_run}
+use Rattle.tpcc_journal.proofs.Log.{one_more_run}
 use Rattle.tpcc_journal.proofs.result_log.district_deliveries.Goals as goal
 
 pub loop-entry-preserved : goal.loop-entry-preserved

@@ -1,5 +1,5 @@
 use Rattle.std.proofs.Common.{◌≡◌}
-use Rattle.tpcc_journal.proofs.LogLemmas.{lines_of}
+use Rattle.tpcc_journal.proofs.Log.{lines_of}
 use Rattle.tpcc_journal.proofs.result_log.results.Given as goal
 
 abbrev pub invariant-loop-ten : goal.invariant-loop-ten

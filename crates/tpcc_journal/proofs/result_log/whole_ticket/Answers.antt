@@ -1,4 +1,4 @@
-use Rattle.tpcc_journal.proofs.LogLemmas.{ten_runs}
+use Rattle.tpcc_journal.proofs.Log.{ten_runs}
 use Rattle.tpcc_journal.proofs.result_log.whole_ticket.Goals as goal
 
 pub returns : goal.returns

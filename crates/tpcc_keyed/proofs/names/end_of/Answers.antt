@@ -1,7 +1,7 @@
 use Rattle.std.proofs.Common.{rules}
 use Rattle.std.proofs.lemmas.List.Sorted.{IsPartitionPoint-from_clause}
-use Rattle.tpcc_keyed.proofs.SearchLemmas.{place_is_prefix}
-use Rattle.tpcc_keyed.proofs.NameLemmas.{name_not_after, not_after_front}
+use Rattle.tpcc_keyed.proofs.Search.{place_is_prefix}
+use Rattle.tpcc_keyed.proofs.Name.{name_not_after, not_after_front}
 use Rattle.tpcc_keyed.proofs.names.end_of.Goals as goal
 
 pub returns-clause-end : goal.returns-clause-end

@@ -1,10 +1,10 @@
 use Rattle.std.proofs.Common.{◌∙◌, ap, not, insert, arith}
 use Rattle.std.specs.List.{prefix_len}
 use Rattle.std.proofs.lemmas.List.Sums.{prefix_len-le-length}
-use Rattle.tpcc_laws.proofs.BodyLemmas.{insert_is_inserted}
+use Rattle.tpcc_laws.proofs.Body.{insert_is_inserted}
 use Rattle.tpcc_keyed.specs.Names.{name_before, is_in_order}
-use Rattle.tpcc_keyed.proofs.OrderLemmas.{in_order-inserted}
-use Rattle.tpcc_keyed.proofs.NameLemmas.{name_order}
+use Rattle.tpcc_keyed.proofs.Order.{in_order-inserted}
+use Rattle.tpcc_keyed.proofs.Name.{name_order}
 use Rattle.tpcc_keyed.proofs.names.insert.Goals as goal
 
 pub insert-requires : goal.insert-requires

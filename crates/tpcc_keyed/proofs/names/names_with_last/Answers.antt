@@ -1,5 +1,5 @@
 use Rattle.std.proofs.Common.{◌∙◌, ◌-◌, take, drop}
-use Rattle.tpcc_keyed.proofs.NameLemmas.{named_are}
+use Rattle.tpcc_keyed.proofs.Name.{named_are}
 use Rattle.tpcc_keyed.proofs.names.names_with_last.Goals as goal
 
 pub returns : goal.returns

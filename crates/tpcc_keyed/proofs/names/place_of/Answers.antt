@@ -1,5 +1,5 @@
 use Rattle.std.proofs.Common.{arith}
-use Rattle.tpcc_keyed.proofs.NameLemmas.{named_from_start}
+use Rattle.tpcc_keyed.proofs.Name.{named_from_start}
 use Rattle.tpcc_keyed.proofs.names.place_of.Goals as goal
 
 pub returns-clause-order : goal.returns-clause-order

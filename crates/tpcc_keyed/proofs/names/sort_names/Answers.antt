@@ -1,8 +1,8 @@
 use Rattle.std.proofs.Common.{rules, ◌∙◌, ap}
 use Rattle.tpcc_rows.specs.Lists.{sorted}
 use Rattle.tpcc_keyed.specs.Names.{name_cmp, name_before}
-use Rattle.tpcc_keyed.proofs.OrderLemmas.{in_order-from_sort_by, count_moved, sorted_is}
-use Rattle.tpcc_keyed.proofs.NameLemmas.{name_total, name_order, names_tied}
+use Rattle.tpcc_keyed.proofs.Order.{in_order-from_sort_by, count_moved, sorted_is}
+use Rattle.tpcc_keyed.proofs.Name.{name_total, name_order, names_tied}
 use Rattle.tpcc_keyed.proofs.names.sort_names.Goals as goal
 
 pub returns-clause-names : goal.returns-clause-names

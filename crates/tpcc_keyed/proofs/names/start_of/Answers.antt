@@ -1,7 +1,7 @@
 use Rattle.std.proofs.Common.{rules}
 use Rattle.std.proofs.lemmas.List.Sorted.{IsPartitionPoint-from_clause}
-use Rattle.tpcc_keyed.proofs.SearchLemmas.{place_is_prefix}
-use Rattle.tpcc_keyed.proofs.NameLemmas.{name_is_before, before_front}
+use Rattle.tpcc_keyed.proofs.Search.{place_is_prefix}
+use Rattle.tpcc_keyed.proofs.Name.{name_is_before, before_front}
 use Rattle.tpcc_keyed.proofs.names.start_of.Goals as goal
 
 pub returns-clause-start : goal.returns-clause-start

@@ -1,8 +1,8 @@
 use Rattle.std.proofs.Common.{rules, [], ◌∷◌}
 use Rattle.std.proofs.lemmas.List.Sorted.{IsPartitionPoint-from_clause}
 use Rattle.tpcc_rows.specs.Tables.{order_line_key}
-use Rattle.tpcc_keyed.proofs.SearchLemmas.{place_is_prefix, not_after}
-use Rattle.tpcc_keyed.proofs.RunLemmas.{line_not_after}
+use Rattle.tpcc_keyed.proofs.Search.{place_is_prefix, not_after}
+use Rattle.tpcc_keyed.proofs.Run.{line_not_after}
 use Rattle.tpcc_keyed.proofs.runs.end_of.Goals as goal
 
 pub returns-clause-end : goal.returns-clause-end

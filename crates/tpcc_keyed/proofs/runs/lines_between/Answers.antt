@@ -1,5 +1,5 @@
 use Rattle.std.proofs.Common.{◌∙◌, ◌-◌, take, drop}
-use Rattle.tpcc_keyed.proofs.RunLemmas.{lines_between_are}
+use Rattle.tpcc_keyed.proofs.Run.{lines_between_are}
 use Rattle.tpcc_keyed.proofs.runs.lines_between.Goals as goal
 
 pub returns : goal.returns

@@ -1,5 +1,5 @@
 use Rattle.std.proofs.Common.{◌∙◌, ◌-◌, take, drop}
-use Rattle.tpcc_keyed.proofs.RunLemmas.{lines_are}
+use Rattle.tpcc_keyed.proofs.Run.{lines_are}
 use Rattle.tpcc_keyed.proofs.runs.lines_of.Goals as goal
 
 pub returns : goal.returns

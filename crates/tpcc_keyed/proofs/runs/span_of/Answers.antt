@@ -1,6 +1,6 @@
 use Rattle.std.proofs.Common.{arith}
-use Rattle.tpcc_keyed.proofs.StretchLemmas.{front_within}
-use Rattle.tpcc_keyed.proofs.RunLemmas.{line_before, before_later}
+use Rattle.tpcc_keyed.proofs.Stretch.{front_within}
+use Rattle.tpcc_keyed.proofs.Run.{line_before, before_later}
 use Rattle.tpcc_keyed.proofs.runs.span_of.Goals as goal
 
 pub returns-clause-order : goal.returns-clause-order

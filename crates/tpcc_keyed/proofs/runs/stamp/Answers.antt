@@ -1,7 +1,7 @@
 use Rattle.std.proofs.Common.{◌∙◌, ◌-◌, ◌++◌, take, drop}
 use Rattle.tpcc_laws.proofs.DeliveryKeeps.{with_delivery_date}
-use Rattle.tpcc_keyed.proofs.StretchLemmas.{changed}
-use Rattle.tpcc_keyed.proofs.RunLemmas.{lines_changed}
+use Rattle.tpcc_keyed.proofs.Stretch.{changed}
+use Rattle.tpcc_keyed.proofs.Run.{lines_changed}
 use Rattle.tpcc_keyed.proofs.runs.stamp.Goals as goal
 
 pub returns : goal.returns

@@ -1,6 +1,6 @@
 use Rattle.std.proofs.Common.{◌∙◌, arith}
 use Rattle.tpcc_laws.proofs.DeliveryKeeps.{with_delivery_date}
-use Rattle.tpcc_keyed.proofs.StretchLemmas.{mapped_more, mapped_all}
+use Rattle.tpcc_keyed.proofs.Stretch.{mapped_more, mapped_all}
 use Rattle.tpcc_keyed.proofs.runs.stamp_all.Goals as goal
 
 pub loop-line-preserved : goal.loop-line-preserved

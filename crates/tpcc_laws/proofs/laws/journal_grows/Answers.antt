@@ -1,4 +1,4 @@
-use Rattle.tpcc_laws.proofs.ReplayLemmas.{replay-push, faithful_push}
+use Rattle.tpcc_laws.proofs.Replay.{replay-push, faithful_push}
 use Rattle.tpcc_laws.proofs.laws.journal_grows.Goals as goal
 
 pub returns : goal.returns

@@ -1,4 +1,4 @@
-use Rattle.tpcc_laws.proofs.CheckLemmas.{nothing_broken, none_broken}
+use Rattle.tpcc_laws.proofs.Check.{nothing_broken, none_broken}
 use Rattle.tpcc_laws.proofs.laws.nothing_broken.Goals as goal
 
 pub returns : goal.returns

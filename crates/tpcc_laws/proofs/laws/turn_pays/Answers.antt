@@ -1,4 +1,4 @@
-use Rattle.tpcc_laws.proofs.PaidLemmas.{turn_pays, paid_within}
+use Rattle.tpcc_laws.proofs.Paid.{turn_pays, paid_within}
 use Rattle.tpcc_laws.proofs.laws.turn_pays.Goals as goal
 
 pub returns : goal.returns

@@ -1,6 +1,6 @@
 use Rattle.std.proofs.Common.{ap}
 use Rattle.tpcc_rows.specs.Lookups.{stock_reply}
-use Rattle.tpcc_lookups.proofs.LowLemmas.{level_is}
+use Rattle.tpcc_lookups.proofs.Low.{level_is}
 use Rattle.tpcc_lookups.proofs.stocks.stock_level.Goals as goal
 
 pub returns-clause-reply : goal.returns-clause-reply

@@ -1,6 +1,6 @@
 use Rattle.tpcc_rows.specs.NewOrder.{order_refusal_by_input}
 use Rattle.tpcc_laws.proofs.TurnKeeps.{first_none}
-use Rattle.tpcc_new_order.proofs.RefusalLemmas.{copy_is_some, there, rows_there}
+use Rattle.tpcc_new_order.proofs.Refusal.{copy_is_some, there, rows_there}
 use Rattle.tpcc_new_order.proofs.named_rows.named_rows.Goals as goal
 
 pub unwrap-requires : goal.unwrap-requires

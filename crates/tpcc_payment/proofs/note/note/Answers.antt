@@ -1,7 +1,7 @@
 use Rattle.std.proofs.Common.{ap, ◌∙◌, ◌++◌, codes}
 use Rattle.std.specs.Fmt.{decimal}
 use Rattle.tpcc_money.specs.Texts.{amount_text}
-use Rattle.tpcc_payment.proofs.TextLemmas.{note_is}
+use Rattle.tpcc_payment.proofs.Text.{note_is}
 use Rattle.tpcc_payment.proofs.note.note.Goals as goal
 
 pub returns : goal.returns

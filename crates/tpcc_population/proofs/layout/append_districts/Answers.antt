@@ -1,6 +1,6 @@
 use Rattle.std.proofs.Common.{◌≡◌, ◌-◌, ℕ, ◌∙◌, ◌++◌, arith}
 use Rattle.tpcc_rows.specs.Layout.{each}
-use Rattle.tpcc_population.proofs.EachLemmas.{each-next_behind}
+use Rattle.tpcc_population.proofs.Each.{each-next_behind}
 use Rattle.tpcc_population.proofs.layout.append_districts.Goals as goal
 
 pub loop-district-preserved : goal.loop-district-preserved

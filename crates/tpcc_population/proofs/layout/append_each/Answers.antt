@@ -1,5 +1,5 @@
 use Rattle.std.proofs.Common.{◌∙◌, ◌++◌, arith}
-use Rattle.tpcc_population.proofs.EachLemmas.{each-next_behind}
+use Rattle.tpcc_population.proofs.Each.{each-next_behind}
 use Rattle.tpcc_population.proofs.layout.append_each.Goals as goal
 
 pub loop-number-preserved : goal.loop-number-preserved

@@ -1,6 +1,6 @@
 use Rattle.std.proofs.Common.{ℕ, ◌∙◌, ◌++◌, arith}
 use Rattle.tpcc_rows.specs.Layout.{each}
-use Rattle.tpcc_population.proofs.EachLemmas.{each-next}
+use Rattle.tpcc_population.proofs.Each.{each-next}
 use Rattle.tpcc_population.proofs.layout.fill_by_warehouse.Goals as goal
 
 pub loop-warehouse-preserved : goal.loop-warehouse-preserved

@@ -2,7 +2,7 @@ use Rattle.std.proofs.Common.{◌∙◌, ◌+◌, sym, ap, subst}
 use Rattle.std.specs.Prelude.{ℤ, ◌+ℤ◌, FitsSigned}
 use Rattle.std.specs.Int.{w64}
 use Rattle.tpcc_rows.specs.declared.rows.OrderLineRow.{OrderLineRow}
-use Rattle.tpcc_tables.proofs.DeliverLemmas.{total_more}
+use Rattle.tpcc_tables.proofs.Deliver.{total_more}
 use Rattle.tpcc_tables.proofs.delivery.amount.Goals as goal
 
 pub plus-sum-requires : goal.plus-sum-requires

@@ -2,7 +2,7 @@ use Rattle.std.proofs.Common.{◌+ℤ◌, sym, ap, ◌∙◌, arith}
 use Rattle.std.proofs.lemmas.Int.{ints}
 use Rattle.std.proofs.lemmas.List.{take_all}
 use Rattle.tpcc_money.specs.Amounts.{total}
-use Rattle.tpcc_tables.proofs.DeliverLemmas.{total_more}
+use Rattle.tpcc_tables.proofs.Deliver.{total_more}
 use Rattle.tpcc_tables.proofs.SumLines.{amount_of, amount_at, amounts_chosen}
 use Rattle.tpcc_tables.proofs.delivery.amount_where.Goals as goal
 

@@ -2,7 +2,7 @@ use Rattle.std.proofs.Common.{sym, ap, ◌∙◌}
 use Rattle.std.specs.Prelude.{position}
 use Rattle.tpcc_rows.specs.Tables.{is_customer, customer_key}
 use Rattle.tpcc_rows.specs.Delivery.{delivered_customer}
-use Rattle.tpcc_keyed.proofs.PlaceLemmas.{found_row, written_row, unwritten}
+use Rattle.tpcc_keyed.proofs.Place.{found_row, written_row, unwritten}
 use Rattle.tpcc_tables.proofs.KeyTests.{customers_apart}
 use Rattle.tpcc_tables.proofs.delivery.charge.Goals as goal
 

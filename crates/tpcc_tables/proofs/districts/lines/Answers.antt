@@ -1,8 +1,8 @@
 use Rattle.std.proofs.Common.{◌∙◌}
 use Rattle.tpcc_rows.specs.Tables.{order_line_key}
 use Rattle.tpcc_keyed.specs.Parts.{is_of}
-use Rattle.tpcc_keyed.proofs.ChangeLemmas.{same_filter}
-use Rattle.tpcc_tables.proofs.RisingLemmas.{lies_in, line_is_of}
+use Rattle.tpcc_keyed.proofs.Change.{same_filter}
+use Rattle.tpcc_tables.proofs.Rising.{lies_in, line_is_of}
 use Rattle.tpcc_tables.proofs.districts.lines.Goals as goal
 
 pub returns : goal.returns

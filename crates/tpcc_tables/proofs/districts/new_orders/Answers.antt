@@ -1,8 +1,8 @@
 use Rattle.std.proofs.Common.{◌∙◌}
 use Rattle.tpcc_rows.specs.Tables.{new_order_key}
 use Rattle.tpcc_keyed.specs.Parts.{is_of}
-use Rattle.tpcc_keyed.proofs.ChangeLemmas.{same_filter}
-use Rattle.tpcc_tables.proofs.RisingLemmas.{waits_in, new_order_is_of}
+use Rattle.tpcc_keyed.proofs.Change.{same_filter}
+use Rattle.tpcc_tables.proofs.Rising.{waits_in, new_order_is_of}
 use Rattle.tpcc_tables.proofs.districts.new_orders.Goals as goal
 
 pub returns : goal.returns

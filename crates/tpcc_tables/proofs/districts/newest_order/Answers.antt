@@ -1,7 +1,7 @@
 use Rattle.std.proofs.Common.{◌∙◌, ap, sym}
 use Rattle.std.specs.Option.{option_copied}
 use Rattle.tpcc_rows.specs.Tables.{order_key}
-use Rattle.tpcc_tables.proofs.RisingLemmas.{in_district, order_rises, last_of}
+use Rattle.tpcc_tables.proofs.Rising.{in_district, order_rises, last_of}
 use Rattle.tpcc_tables.proofs.districts.newest_order.Goals as goal
 
 pub returns-in-Some : goal.returns-in-Some

@@ -1,7 +1,7 @@
 use Rattle.std.proofs.Common.{◌∙◌, ap, sym}
 use Rattle.std.specs.Option.{option_copied}
 use Rattle.tpcc_rows.specs.Tables.{new_order_key}
-use Rattle.tpcc_tables.proofs.RisingLemmas.{waits_in, new_order_rises, first_of}
+use Rattle.tpcc_tables.proofs.Rising.{waits_in, new_order_rises, first_of}
 use Rattle.tpcc_tables.proofs.districts.oldest_new.Goals as goal
 
 pub returns-in-Some : goal.returns-in-Some

@@ -1,5 +1,5 @@
 use Rattle.std.proofs.Common.{◌∙◌, ◌+◌, sym, arith, drop, get_or, if◌then◌else◌}
-use Rattle.tpcc_tables.proofs.LowLemmas.{is_below, passing, next_place}
+use Rattle.tpcc_tables.proofs.Low.{is_below, passing, next_place}
 use Rattle.tpcc_tables.proofs.levels.count_short.Goals.{then-is_counted, else-is_counted}
 use Rattle.tpcc_tables.proofs.levels.count_short.Goals as goal
 

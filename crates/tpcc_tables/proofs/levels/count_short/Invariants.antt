@@ -1,5 +1,5 @@
 use Rattle.std.proofs.Common.{◌≡◌, ◌≤◌, ◌+◌, drop}
-use Rattle.tpcc_tables.proofs.LowLemmas.{is_below, passing}
+use Rattle.tpcc_tables.proofs.Low.{is_below, passing}
 use Rattle.tpcc_tables.proofs.levels.count_short.Given as goal
 
 abbrev pub invariant-loop-position : goal.invariant-loop-position

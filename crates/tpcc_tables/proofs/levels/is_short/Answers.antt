@@ -2,8 +2,8 @@ use Rattle.std.proofs.Common.{◌∙◌, ap, sym}
 use Rattle.std.specs.Prelude.{nat_lt}
 use Rattle.std.specs.Option.{option_copied}
 use Rattle.tpcc_rows.specs.declared.rows.StockRow.{StockRow}
-use Rattle.tpcc_tables.proofs.FilterLemmas.{found_passes}
-use Rattle.tpcc_tables.proofs.LowLemmas.{low_is}
+use Rattle.tpcc_tables.proofs.Filter.{found_passes}
+use Rattle.tpcc_tables.proofs.Low.{low_is}
 use Rattle.tpcc_tables.proofs.levels.is_short.Goals as goal
 
 pub returns-in-Some : goal.returns-in-Some

@@ -1,4 +1,4 @@
-use Rattle.tpcc_tables.proofs.ReadyLemmas.{opening-more}
+use Rattle.tpcc_tables.proofs.Ready.{opening-more}
 use Rattle.tpcc_tables.proofs.rooms.open_all.Goals as goal
 
 pub loop-district-preserved : goal.loop-district-preserved

@@ -2,7 +2,7 @@ use Rattle.std.proofs.lemmas.Result.{on_ok_weaker}
 use Rattle.std.specs.Prelude.{decimal}
 use Rattle.tpcc_terminal.specs.RequestLines.{order_line, order_line_word}
 use Rattle.tpcc_terminal.proofs.Chains.{behind}
-use Rattle.tpcc_terminal.proofs.RequestLemmas.{words_behind}
+use Rattle.tpcc_terminal.proofs.Request.{words_behind}
 use Rattle.tpcc_terminal.proofs.request_lines.put_order.Goals as goal
 
 pub returns : goal.returns

@@ -1,7 +1,7 @@
 use Rattle.std.proofs.Common.{arith, ◌≡◌, ◌∙◌, ap, [], ◌∷◌, length, length-append}
 use Rattle.std.specs.Prelude.{slice_index}
 use Rattle.tpcc_draws.specs.Draws.{answers, drawn_bytes}
-use Rattle.tpcc_draws.proofs.TextLemmas.{drawn_bytes-more, drawn_bytes-none, drawn_text-whole}
+use Rattle.tpcc_draws.proofs.Text.{drawn_bytes-more, drawn_bytes-none, drawn_text-whole}
 use Rattle.tpcc_draws.proofs.stream.Stream.text.Goals as goal
 
 pub loop-init : goal.loop-init

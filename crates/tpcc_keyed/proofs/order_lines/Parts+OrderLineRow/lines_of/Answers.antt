@@ -3,7 +3,7 @@ use Rattle.tpcc_rows.specs.declared.keys.DistrictKey.{DistrictKey}
 use Rattle.tpcc_rows.specs.Lists.{is_ascending}
 use Rattle.tpcc_rows.specs.Tables.{is_line_of, order_line_key}
 use Rattle.tpcc_keyed.specs.Parts.{is_of}
-use Rattle.tpcc_keyed.proofs.LineLemmas.{ascending_chosen, chosen_within, line_is_of}
+use Rattle.tpcc_keyed.proofs.Line.{ascending_chosen, chosen_within, line_is_of}
 use Rattle.tpcc_keyed.proofs.order_lines.Parts+OrderLineRow.lines_of.Goals as goal
 
 pub lines_of-requires : goal.lines_of-requires

@@ -3,12 +3,12 @@ use Rattle.std.specs.List.{list_any}
 use Rattle.tpcc_rows.specs.declared.rows.OrderLineRow.{OrderLineRow}
 use Rattle.tpcc_rows.specs.Lists.{is_ascending, updated}
 use Rattle.tpcc_rows.specs.Tables.{is_line_of, order_line_key}
-use Rattle.tpcc_laws.proofs.ListLemmas.{updated_absent}
+use Rattle.tpcc_laws.proofs.List.{updated_absent}
 use Rattle.tpcc_keyed.specs.Parts.{Kept}
 use Rattle.tpcc_keyed.specs.PartWords.{is_part, HasRoom}
-use Rattle.tpcc_keyed.proofs.LineLemmas.{length_updated, line_asks, owns_updated}
-use Rattle.tpcc_keyed.proofs.PartLemmas.{no_row, part_found, part_owns, placed, rows_updated}
-use Rattle.tpcc_keyed.proofs.PutLemmas.{length_set, line_within, owners_kept, part_keyed, parts_kept, room_there}
+use Rattle.tpcc_keyed.proofs.Line.{length_updated, line_asks, owns_updated}
+use Rattle.tpcc_keyed.proofs.Part.{no_row, part_found, part_owns, placed, rows_updated}
+use Rattle.tpcc_keyed.proofs.Put.{length_set, line_within, owners_kept, part_keyed, parts_kept, room_there}
 use Rattle.tpcc_keyed.proofs.order_lines.Parts+OrderLineRow.stamp.Goals as goal
 
 pub returns-in_default-clause-rows : goal.returns-in_default-clause-rows

@@ -3,9 +3,9 @@ use Rattle.std.proofs.lemmas.List.Quantifiers.{position-Some}
 use Rattle.tpcc_rows.specs.Lists.{by_key, inserted, is_ascending}
 use Rattle.tpcc_keyed.specs.Parts.{Kept, district_numbers}
 use Rattle.tpcc_keyed.specs.PartWords.{is_part, HasRoom}
-use Rattle.tpcc_keyed.proofs.OwnerLemmas.{part_placed}
-use Rattle.tpcc_keyed.proofs.PartLemmas.{part_found, part_is, part_owns, placed}
-use Rattle.tpcc_keyed.proofs.PutLemmas.{length_inserted, length_set, owners_kept, owns_inserted, part_keyed, parts_kept, room_there, rows_inserted}
+use Rattle.tpcc_keyed.proofs.Owner.{part_placed}
+use Rattle.tpcc_keyed.proofs.Part.{part_found, part_is, part_owns, placed}
+use Rattle.tpcc_keyed.proofs.Put.{length_inserted, length_set, owners_kept, owns_inserted, part_keyed, parts_kept, room_there, rows_inserted}
 use Rattle.tpcc_keyed.proofs.parts.Parts.append.Goals as goal
 
 pub unwrap-place-requires : goal.unwrap-place-requires

@@ -5,9 +5,9 @@ use Rattle.tpcc_rows.specs.Lists.{is_ascending}
 use Rattle.tpcc_keyed.specs.Searches.{is_same_key}
 use Rattle.tpcc_keyed.specs.Parts.{Kept, district_numbers}
 use Rattle.tpcc_keyed.specs.PartWords.{rows_in, is_part}
-use Rattle.tpcc_keyed.proofs.SearchLemmas.{none_found}
-use Rattle.tpcc_keyed.proofs.PartLemmas.{asks_key, no_row, part_found, placed, rows_found}
-use Rattle.tpcc_keyed.proofs.PutLemmas.{part_keyed}
+use Rattle.tpcc_keyed.proofs.Search.{none_found}
+use Rattle.tpcc_keyed.proofs.Part.{asks_key, no_row, part_found, placed, rows_found}
+use Rattle.tpcc_keyed.proofs.Put.{part_keyed}
 use Rattle.tpcc_keyed.proofs.parts.Parts.find.Goals as goal
 
 pub returns-in_err-place : goal.returns-in_err-place

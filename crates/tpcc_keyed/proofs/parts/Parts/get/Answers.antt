@@ -1,7 +1,7 @@
 use Rattle.std.proofs.Common.{◌+◌, ◌-◌, ◌∙◌, ap, sym, arith, drop, length, slice_get, slice_index_or}
 use Rattle.std.specs.Prelude.{flat_map}
 use Rattle.tpcc_keyed.specs.PartWords.{rows_in}
-use Rattle.tpcc_keyed.proofs.ReadLemmas.{row_past, row_within}
+use Rattle.tpcc_keyed.proofs.Read.{row_past, row_within}
 use Rattle.tpcc_keyed.proofs.parts.Parts.get.Goals as goal
 
 pub returns-then-before-rows : goal.returns-then-before-rows

@@ -2,9 +2,9 @@ use Rattle.std.proofs.Common.{◌≡◌, ◌+◌, ◌∙◌, ap, sym, arith, len
 use Rattle.tpcc_rows.specs.Lists.{by_key, inserted, is_ascending}
 use Rattle.tpcc_keyed.specs.Parts.{Kept, district_numbers, has_owner}
 use Rattle.tpcc_keyed.specs.PartWords.{is_part, HasRoom}
-use Rattle.tpcc_keyed.proofs.OwnerLemmas.{on_err_any, part_placed}
-use Rattle.tpcc_keyed.proofs.PartLemmas.{part_found, part_is, part_owns, placed}
-use Rattle.tpcc_keyed.proofs.PutLemmas.{length_inserted, length_set, line_within, owners_kept, owns_inserted, owns_same, part_keyed, parts_kept, room_there, rows_inserted, rows_same}
+use Rattle.tpcc_keyed.proofs.Owner.{on_err_any, part_placed}
+use Rattle.tpcc_keyed.proofs.Part.{part_found, part_is, part_owns, placed}
+use Rattle.tpcc_keyed.proofs.Put.{length_inserted, length_set, line_within, owners_kept, owns_inserted, owns_same, part_keyed, parts_kept, room_there, rows_inserted, rows_same}
 use Rattle.tpcc_keyed.proofs.parts.Parts.load.Goals as goal
 
 pub unwrap-place-requires : goal.unwrap-place-requires

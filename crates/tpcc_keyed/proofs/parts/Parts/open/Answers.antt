@@ -5,8 +5,8 @@ use Rattle.std.proofs.Common.{subst, List}
 use Rattle.tpcc_keyed.specs.declared.parts.part.Part.{Part}
 use Rattle.tpcc_keyed.specs.Parts.{Kept, district_numbers, has_owner}
 use Rattle.tpcc_keyed.specs.PartWords.{rows_in, owner_of, is_part, AreParts}
-use Rattle.tpcc_keyed.proofs.OpenLemmas.{owner_opened, owners_opened, parts_opened, rows_opened}
-use Rattle.tpcc_keyed.proofs.OwnerLemmas.{no_place, on_either, on_ok_then, owner_is_part, placed_any}
+use Rattle.tpcc_keyed.proofs.Open.{owner_opened, owners_opened, parts_opened, rows_opened}
+use Rattle.tpcc_keyed.proofs.Owner.{no_place, on_either, on_ok_then, owner_is_part, placed_any}
 use Rattle.tpcc_keyed.proofs.parts.Parts.open.Goals as goal
 
 pub returns-then-is_some-clause-opened : goal.returns-then-is_some-clause-opened

@@ -2,8 +2,8 @@ use Rattle.std.proofs.Common.{◌∙◌, ap, sym, Some, None, filter}
 use Rattle.std.specs.Prelude.{flat_map}
 use Rattle.tpcc_keyed.specs.Parts.{Kept, district_numbers, is_of}
 use Rattle.tpcc_keyed.specs.PartWords.{rows_in, is_part}
-use Rattle.tpcc_keyed.proofs.FlatLemmas.{no_rows}
-use Rattle.tpcc_keyed.proofs.PartLemmas.{asks_district, no_row, part_is, part_owns, placed, rows_chosen, whole_part}
+use Rattle.tpcc_keyed.proofs.Flat.{no_rows}
+use Rattle.tpcc_keyed.proofs.Part.{asks_district, no_row, part_is, part_owns, placed, rows_chosen, whole_part}
 use Rattle.tpcc_keyed.proofs.parts.Parts.part.Goals as goal
 
 pub returns-in_default : goal.returns-in_default

@@ -7,10 +7,10 @@ use Rattle.tpcc_keyed.specs.declared.parts.part.Part.{Part}
 use Rattle.tpcc_keyed.specs.Searches.{is_same_key}
 use Rattle.tpcc_keyed.specs.Parts.{Kept, district_numbers}
 use Rattle.tpcc_keyed.specs.PartWords.{is_part, HasRoom}
-use Rattle.tpcc_keyed.proofs.ChangeLemmas.{kept_all}
-use Rattle.tpcc_keyed.proofs.OwnerLemmas.{same_there}
-use Rattle.tpcc_keyed.proofs.PartLemmas.{asks_key, no_row, no_row_there, part_found, part_owns, placed, rows_removed}
-use Rattle.tpcc_keyed.proofs.PutLemmas.{length_set, line_within, owners_kept, owns_filter, part_keyed, parts_kept, room_there, row_taken_out}
+use Rattle.tpcc_keyed.proofs.Change.{kept_all}
+use Rattle.tpcc_keyed.proofs.Owner.{same_there}
+use Rattle.tpcc_keyed.proofs.Part.{asks_key, no_row, no_row_there, part_found, part_owns, placed, rows_removed}
+use Rattle.tpcc_keyed.proofs.Put.{length_set, line_within, owners_kept, owns_filter, part_keyed, parts_kept, room_there, row_taken_out}
 use Rattle.tpcc_keyed.proofs.parts.Parts.remove.Goals as goal
 
 pub returns-in_default-clause-rows : goal.returns-in_default-clause-rows

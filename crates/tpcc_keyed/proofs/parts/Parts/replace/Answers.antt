@@ -2,14 +2,14 @@ use Rattle.std.proofs.Common.{◌≡◌, ◌∙◌, ap, sym, arith, length, Some
 use Rattle.std.specs.Prelude.{take}
 use Rattle.std.specs.List.{list_any}
 use Rattle.tpcc_rows.specs.Lists.{is_ascending, updated}
-use Rattle.tpcc_laws.proofs.ListLemmas.{updated_absent}
+use Rattle.tpcc_laws.proofs.List.{updated_absent}
 use Rattle.tpcc_keyed.specs.declared.parts.part.Part.{Part}
 use Rattle.tpcc_keyed.specs.Searches.{is_same_key}
 use Rattle.tpcc_keyed.specs.Parts.{Kept, district_numbers}
 use Rattle.tpcc_keyed.specs.PartWords.{is_part, HasRoom}
-use Rattle.tpcc_keyed.proofs.OwnerLemmas.{same_there}
-use Rattle.tpcc_keyed.proofs.PartLemmas.{asks_key, no_row, no_row_there, part_found, part_is, part_owns, placed, rows_updated}
-use Rattle.tpcc_keyed.proofs.PutLemmas.{length_set, line_within, owners_kept, owns_set, part_keyed, parts_kept, room_there, row_exchanged}
+use Rattle.tpcc_keyed.proofs.Owner.{same_there}
+use Rattle.tpcc_keyed.proofs.Part.{asks_key, no_row, no_row_there, part_found, part_is, part_owns, placed, rows_updated}
+use Rattle.tpcc_keyed.proofs.Put.{length_set, line_within, owners_kept, owns_set, part_keyed, parts_kept, room_there, row_exchanged}
 use Rattle.tpcc_keyed.proofs.parts.Parts.replace.Goals as goal
 
 pub returns-in_default-clause-rows : goal.returns-in_default-clause-rows

@@ -1,6 +1,6 @@
 use Rattle.std.proofs.Common.{◌∙◌, ap, arith}
 use Rattle.tpcc_keyed.specs.Parts.{Kept}
-use Rattle.tpcc_keyed.proofs.OpenLemmas.{owners_shown, parts_shown, rows_shown}
+use Rattle.tpcc_keyed.proofs.Open.{owners_shown, parts_shown, rows_shown}
 use Rattle.tpcc_keyed.proofs.parts.Parts.reserve.Goals as goal
 
 pub invariant_of-self : goal.invariant_of-self

@@ -1,5 +1,5 @@
 use Rattle.std.proofs.Common.{rules}
-use Rattle.tpcc_keyed.proofs.OpenLemmas.{grown_stopped, grown_more}
+use Rattle.tpcc_keyed.proofs.Open.{grown_stopped, grown_more}
 use Rattle.tpcc_keyed.proofs.parts.growth.grow_all.Goals as goal
 
 pub returns-in_err-grow-clause-same : goal.returns-in_err-grow-clause-same

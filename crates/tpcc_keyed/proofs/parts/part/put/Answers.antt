@@ -2,8 +2,8 @@ use Rattle.std.proofs.Common.{◌∙◌, ap, not, insert, arith}
 use Rattle.std.specs.List.{prefix_len}
 use Rattle.std.proofs.lemmas.List.Sums.{prefix_len-le-length}
 use Rattle.tpcc_rows.specs.Lists.{by_key}
-use Rattle.tpcc_laws.proofs.BodyLemmas.{insert_is_inserted}
-use Rattle.tpcc_keyed.proofs.OwnerLemmas.{on_ok_then}
+use Rattle.tpcc_laws.proofs.Body.{insert_is_inserted}
+use Rattle.tpcc_keyed.proofs.Owner.{on_ok_then}
 use Rattle.tpcc_keyed.proofs.parts.part.put.Goals as goal
 
 pub insert-requires : goal.insert-requires

@@ -3,7 +3,7 @@ use Rattle.std.specs.Prelude.{not}
 use Rattle.std.specs.List.{prefix_len}
 use Rattle.std.proofs.lemmas.List.Sums.{prefix_len-le-length}
 use Rattle.tpcc_rows.specs.Lists.{by_key, key_before}
-use Rattle.tpcc_laws.proofs.BodyLemmas.{insert_is_inserted}
+use Rattle.tpcc_laws.proofs.Body.{insert_is_inserted}
 use Rattle.tpcc_keyed.specs.declared.parts.part.Part.{Part}
 use Rattle.tpcc_keyed.specs.Parts.{district_numbers}
 use Rattle.tpcc_keyed.specs.PartWords.{part_numbers}

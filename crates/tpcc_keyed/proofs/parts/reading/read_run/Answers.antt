@@ -2,7 +2,7 @@ use Rattle.std.proofs.Common.{◌∙◌, ◌+◌, ap, arith, ◌-◌, refl, subs
 use Rattle.std.proofs.lemmas.List.{take_rest}
 use Rattle.tpcc_keyed.specs.declared.parts.part.Part.{Part}
 use Rattle.tpcc_keyed.specs.PartWords.{HasRoom, AreRead}
-use Rattle.tpcc_keyed.proofs.ReadLemmas.{ascending_rest, run_further, run_read}
+use Rattle.tpcc_keyed.proofs.Read.{ascending_rest, run_further, run_read}
 use Rattle.tpcc_keyed.proofs.parts.reading.read_run.Goals as goal
 
 pub run_len-count-requires : goal.run_len-count-requires

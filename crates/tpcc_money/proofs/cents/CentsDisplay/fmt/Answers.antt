@@ -1,7 +1,7 @@
 use Rattle.std.proofs.Common.{◌≡◌, ◌<ℤ◌, ◌≤ℤ◌, pos, ap, ◌%◌, arith}
 use Rattle.std.specs.Prelude.{unsigned_abs}
 use Rattle.std.proofs.lemmas.Int.{ints}
-use Rattle.tpcc_money.proofs.DigitLemmas.{padded_integral-zeros, below_zero, from_zero}
+use Rattle.tpcc_money.proofs.Digit.{padded_integral-zeros, below_zero, from_zero}
 use Rattle.tpcc_money.proofs.cents.CentsDisplay.fmt.Goals.{then-value-lt0, else-value-lt0}
 use Rattle.tpcc_money.proofs.cents.CentsDisplay.fmt.Goals as goal
 

@@ -1,4 +1,4 @@
-use Rattle.tpcc_money.proofs.DigitLemmas.{padded_integral-zeros}
+use Rattle.tpcc_money.proofs.Digit.{padded_integral-zeros}
 use Rattle.tpcc_money.proofs.rate.RateDisplay.fmt.Goals as goal
 
 pub returns-clause-writes : goal.returns-clause-writes

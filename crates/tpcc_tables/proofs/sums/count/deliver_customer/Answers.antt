@@ -1,6 +1,6 @@
 use Rattle.std.proofs.Common.{[], ◌∷◌}
 use Rattle.tpcc_tables.specs.Sums.{customer_sums_key, customer_with_delivery}
-use Rattle.tpcc_tables.proofs.SumLemmas.{entry_written, entry_missing}
+use Rattle.tpcc_tables.proofs.Sum.{entry_written, entry_missing}
 use Rattle.tpcc_tables.proofs.sums.count.deliver_customer.Goals as goal
 
 pub returns-in-Some : goal.returns-in-Some

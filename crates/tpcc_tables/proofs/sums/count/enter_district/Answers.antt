@@ -1,6 +1,6 @@
 use Rattle.std.proofs.Common.{[], ◌∷◌}
 use Rattle.tpcc_tables.specs.Sums.{district_sums_key, district_with_order}
-use Rattle.tpcc_tables.proofs.SumLemmas.{entry_written, entry_missing}
+use Rattle.tpcc_tables.proofs.Sum.{entry_written, entry_missing}
 use Rattle.tpcc_tables.proofs.sums.count.enter_district.Goals as goal
 
 pub returns-in-Some : goal.returns-in-Some

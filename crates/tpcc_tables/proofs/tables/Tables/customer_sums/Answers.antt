@@ -5,7 +5,7 @@ use Rattle.tpcc_tables.specs.Held.{Held}
 use Rattle.tpcc_tables.specs.Sums.{customer_sums, customer_sums_key, no_customer_sums, has_key}
 use Rattle.tpcc_tables.specs.View.{rows_of}
 use Rattle.tpcc_tables.proofs.SumEntries.{customer_found}
-use Rattle.tpcc_tables.proofs.SumLemmas.{in_order}
+use Rattle.tpcc_tables.proofs.Sum.{in_order}
 use Rattle.tpcc_tables.proofs.tables.Tables.customer_sums.Goals as goal
 
 pub of_customer-requires : goal.of_customer-requires

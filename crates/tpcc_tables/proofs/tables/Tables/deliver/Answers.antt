@@ -9,7 +9,7 @@ use Rattle.tpcc_rows.specs.Delivery.{oldest_new_order, district_refusal, after_d
 use Rattle.tpcc_laws.proofs.Numbers.{is_in}
 use Rattle.tpcc_tables.specs.Held.{Held}
 use Rattle.tpcc_keyed.proofs.NameLaws.{names_kept}
-use Rattle.tpcc_tables.proofs.ReadyLemmas.{ready-kept, keeps-same}
+use Rattle.tpcc_tables.proofs.Ready.{ready-kept, keeps-same}
 use Rattle.tpcc_tables.specs.Sums.{AreSums}
 use Rattle.tpcc_tables.proofs.SumLines.{few_of, range_of}
 use Rattle.tpcc_tables.proofs.SumRanges.{held_grow}

@@ -5,7 +5,7 @@ use Rattle.tpcc_tables.specs.Held.{Held}
 use Rattle.tpcc_tables.specs.Sums.{district_sums, district_sums_key, no_district_sums, has_key}
 use Rattle.tpcc_tables.specs.View.{rows_of}
 use Rattle.tpcc_tables.proofs.SumEntries.{district_found}
-use Rattle.tpcc_tables.proofs.SumLemmas.{in_order}
+use Rattle.tpcc_tables.proofs.Sum.{in_order}
 use Rattle.tpcc_tables.proofs.tables.Tables.district_sums.Goals as goal
 
 pub of_district-requires : goal.of_district-requires

@@ -7,7 +7,7 @@ use Rattle.tpcc_tables.specs.Held.{Held}
 use Rattle.tpcc_tables.specs.View.{rows_of}
 use Rattle.tpcc_tables.specs.Loads.{customer_fault}
 use Rattle.tpcc_tables.specs.Sums.{customer_sums_key}
-use Rattle.tpcc_tables.proofs.LoadLemmas.{loaded_customer}
+use Rattle.tpcc_tables.proofs.Load.{loaded_customer}
 use Rattle.tpcc_tables.proofs.SumRanges.{held_grow}
 use Rattle.tpcc_tables.proofs.SumEntries.{new_customer, new_customer_key}
 use Rattle.tpcc_tables.proofs.tables.Tables.load_customer.Goals as goal

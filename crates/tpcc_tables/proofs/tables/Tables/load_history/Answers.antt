@@ -2,7 +2,7 @@ use Rattle.std.proofs.Common.{rules, sym, subst, ◌∙◌, ◌≡◌, None}
 use Rattle.tpcc_tables.specs.Held.{Held}
 use Rattle.tpcc_tables.specs.View.{rows_of}
 use Rattle.tpcc_tables.specs.Loads.{history_fault}
-use Rattle.tpcc_tables.proofs.LoadLemmas.{loaded_history}
+use Rattle.tpcc_tables.proofs.Load.{loaded_history}
 use Rattle.tpcc_tables.proofs.SumChanges.{paid}
 use Rattle.tpcc_tables.proofs.SumRanges.{held_grow}
 use Rattle.tpcc_tables.proofs.tables.Tables.load_history.Goals as goal

@@ -2,7 +2,7 @@ use Rattle.std.proofs.Common.{sym, subst, ◌∙◌, ◌≡◌, None}
 use Rattle.tpcc_tables.specs.Held.{Held}
 use Rattle.tpcc_tables.specs.View.{rows_of}
 use Rattle.tpcc_tables.specs.Loads.{item_fault}
-use Rattle.tpcc_tables.proofs.LoadLemmas.{loaded_item}
+use Rattle.tpcc_tables.proofs.Load.{loaded_item}
 use Rattle.tpcc_tables.proofs.tables.Tables.load_item.Goals as goal
 
 pub invariant_of-self-2 : goal.invariant_of-self-2

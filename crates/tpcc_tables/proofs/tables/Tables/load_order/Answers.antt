@@ -1,11 +1,11 @@
 use Rattle.std.proofs.Common.{sym, subst, ◌∙◌, ◌≡◌, None, arith}
 use Rattle.tpcc_tables.specs.Held.{Held}
-use Rattle.tpcc_tables.proofs.ReadyLemmas.{ready-kept, ready-grown}
+use Rattle.tpcc_tables.proofs.Ready.{ready-kept, ready-grown}
 use Rattle.tpcc_tables.specs.View.{rows_of}
 use Rattle.tpcc_tables.specs.Loads.{order_fault}
 use Rattle.tpcc_rows.specs.Lists.{by_key}
 use Rattle.tpcc_rows.specs.Tables.{order_key}
-use Rattle.tpcc_tables.proofs.LoadLemmas.{loaded_order}
+use Rattle.tpcc_tables.proofs.Load.{loaded_order}
 use Rattle.tpcc_tables.proofs.SumChanges.{entered}
 use Rattle.tpcc_tables.proofs.SumRanges.{held_grow, order_lines_most}
 use Rattle.tpcc_tables.proofs.SumEntries.{new_order_key, order_row_is}

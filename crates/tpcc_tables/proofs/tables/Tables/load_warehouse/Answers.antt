@@ -4,7 +4,7 @@ use Rattle.tpcc_tables.specs.View.{rows_of}
 use Rattle.tpcc_tables.specs.Loads.{warehouse_fault}
 use Rattle.tpcc_rows.specs.Lists.{by_key, inserted}
 use Rattle.tpcc_tables.specs.Sums.{warehouse_sums_key}
-use Rattle.tpcc_tables.proofs.LoadLemmas.{loaded_warehouse}
+use Rattle.tpcc_tables.proofs.Load.{loaded_warehouse}
 use Rattle.tpcc_tables.proofs.SumRanges.{held_grow}
 use Rattle.tpcc_tables.proofs.SumEntries.{new_warehouse, new_warehouse_key}
 use Rattle.tpcc_tables.proofs.tables.Tables.load_warehouse.Goals as goal

@@ -7,7 +7,7 @@ use Rattle.tpcc_rows.specs.Tables.{is_stock}
 use Rattle.tpcc_keyed.specs.Runs.{is_line_between}
 use Rattle.tpcc_tables.specs.Held.{Held}
 use Rattle.tpcc_tables.specs.View.{rows_of}
-use Rattle.tpcc_tables.proofs.LineLemmas.{between_chosen, few_recent, lines_between}
+use Rattle.tpcc_tables.proofs.Line.{between_chosen, few_recent, lines_between}
 use Rattle.tpcc_tables.proofs.tables.Tables.low_stock.Goals as goal
 
 pub count_short-requires-clause-few : goal.count_short-requires-clause-few

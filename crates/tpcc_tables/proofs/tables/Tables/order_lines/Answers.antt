@@ -1,5 +1,5 @@
 use Rattle.std.proofs.Common.{ap, arith, length}
-use Rattle.tpcc_tables.proofs.LineLemmas.{few_lines}
+use Rattle.tpcc_tables.proofs.Line.{few_lines}
 use Rattle.tpcc_tables.specs.View.{rows_of}
 use Rattle.tpcc_tables.proofs.tables.Tables.order_lines.Goals as goal
 

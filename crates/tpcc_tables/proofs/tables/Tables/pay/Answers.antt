@@ -4,11 +4,11 @@ use Rattle.tpcc_tables.specs.View.{rows_of}
 use Rattle.tpcc_rows.specs.Tables.{is_district, is_customer}
 use Rattle.tpcc_tables.specs.Writes.{with_payment, IsPayment, richer_district, charged_customer}
 use Rattle.tpcc_keyed.proofs.NameLaws.{names_kept}
-use Rattle.tpcc_tables.proofs.ReadyLemmas.{ready-updated}
+use Rattle.tpcc_tables.proofs.Ready.{ready-updated}
 use Rattle.tpcc_tables.proofs.SumChanges.{paid}
 use Rattle.tpcc_tables.proofs.SumRanges.{held_grow}
 use Rattle.tpcc_tables.proofs.SumWrites.{paid_rows}
-use Rattle.tpcc_tables.proofs.PayLemmas.{payable, paid_is_well_keyed}
+use Rattle.tpcc_tables.proofs.Pay.{payable, paid_is_well_keyed}
 use Rattle.tpcc_tables.proofs.tables.Tables.pay.Goals as goal
 
 pub pay_warehouse-requires-clause-fits : goal.pay_warehouse-requires-clause-fits

@@ -5,7 +5,7 @@ use Rattle.tpcc_tables.specs.Held.{Held}
 use Rattle.tpcc_tables.specs.Sums.{warehouse_sums, warehouse_sums_key, no_warehouse_sums, has_key}
 use Rattle.tpcc_tables.specs.View.{rows_of}
 use Rattle.tpcc_tables.proofs.SumEntries.{warehouse_found}
-use Rattle.tpcc_tables.proofs.SumLemmas.{in_order}
+use Rattle.tpcc_tables.proofs.Sum.{in_order}
 use Rattle.tpcc_tables.proofs.tables.Tables.warehouse_sums.Goals as goal
 
 pub of_warehouse-requires : goal.of_warehouse-requires

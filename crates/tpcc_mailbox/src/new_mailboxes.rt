@@ -1,0 +1,90 @@
+//! Mailboxes that are made.
+ghost use Rattle.std.specs.Prelude.{◌≡◌, ◌+◌, ◌<◌, ◌≤◌, false, [], vec_len, All, IfOk, None};
+ghost use Rattle.tpcc_mailbox.specs.declared.table.TheConstants.{MOST_MAILBOXES};
+ghost use Rattle.tpcc_mailbox.specs.Tokens.{identity, mailbox_count, AreNewIdles, idle_origin, serving_origin, serving_hand, serving_splits, serving_answered, serving_saw_closed};
+
+use crate::answers::Answers;
+use crate::plays::{FirstCollecting, MakingClient, MakingServer};
+use crate::room::Room;
+use crate::rule::{ANSWERED, FREE, OPEN};
+use crate::table::{MailboxSeat, MailboxTable, Mailboxes, word_count, word_index};
+use crate::tokens::{Idle, Serving};
+use atomic_table::Table;
+use std::alloc::{AllocError, Global};
+use tpcc_money::NoMemory;
+
+// Room for the answers of so many mailboxes.
+fn make_rooms<A: Drop>(alloc: Global, count: usize) -> Result<Vec<Room<A>>, AllocError>
+    ensures { IfOk result (λ v. vec_len v ≡ count) }
+{
+    let mut rooms = Vec::with_capacity(alloc, count)?;
+    for _ in 0..count {
+        rooms.push_reserved(Room::new(alloc)?);
+    }
+    Ok(rooms)
+}
+
+impl<J, A: Answers<J> + Drop> Mailboxes<J, A> {
+    /// Makes `n` free mailboxes, 1 to [`MOST_MAILBOXES`](crate::MOST_MAILBOXES), with the token of each in order and the first server.
+    /// Nothing of it is left where memory is refused, which is the only error.
+    pub fn new(
+        alloc: Global,
+        n: usize,
+    ) -> Result<(Mailboxes<J, A>, Vec<Idle<J, A>>, Serving<J, A>), NoMemory>
+        requires count { (1 ≤ n) × (n ≤ MOST_MAILBOXES) }
+        ensures count { IfOk result (λ r. mailbox_count r.0 ≡ n) }
+        ensures one_each { IfOk result (λ r. vec_len r.1 ≡ n) }
+        ensures idles { IfOk result (λ r. All (λ x. idle_origin x ≡ identity r.0) r.1.items) }
+        // The k-th has the mailbox k, and none has seen the mailboxes closed.
+        ensures numbers { IfOk result (λ r. AreNewIdles (identity r.0) r.1.items) }
+        ensures origin { IfOk result (λ r. serving_origin r.2 ≡ identity r.0) }
+        // The first server has the whole right to serve.
+        ensures serving { IfOk result (λ r. (serving_hand r.2 ≡ None) × (serving_splits r.2 ≡ 0)) }
+        ensures answered { IfOk result (λ r. serving_answered r.2 ≡ []) }
+        ensures open { IfOk result (λ r. serving_saw_closed r.2 ≡ false) }
+    {
+        // Each mailbox starts as answered with an empty slot, which its client then collects.
+        let mut words = Vec::from_elem(alloc, ANSWERED, word_count(n))?;
+        words[word_index(n)] = OPEN;
+        let mut idles = Vec::with_capacity(alloc, n)?;
+        let mut rooms = make_rooms(alloc, n)?;
+        let opened: Result<(MailboxTable<J, A>, MailboxSeat<J, A>), AllocError> = Table::vacant(
+            alloc,
+            words.as_slice(),
+            n,
+            &(),
+        );
+        let (table, mut first) = opened?;
+        for k in 0..n {
+            let mut seat = table.shared.split_seat::<MakingClient>(&mut first);
+            table
+                .shared
+                .compare_exchange::<FirstCollecting>(&mut seat, word_index(k), ANSWERED, FREE);
+            let Some(room) = rooms.pop() else {
+                unreachable!()
+            };
+            idles.push_reserved(Idle {
+                seat,
+                mailbox: k,
+                room,
+            });
+        }
+        let seat = table.shared.split_seat::<MakingServer>(&mut first);
+        let mailboxes = Mailboxes {
+            table,
+            count: n,
+            alloc,
+        };
+        Ok((mailboxes, idles, Serving { seat }))
+    }
+}
+
+impl<J, A: Answers<J>> Mailboxes<J, A> {
+    /// How many mailboxes there are.
+    pub fn len(&self) -> usize
+        ensures count { result ≡ mailbox_count self.now }
+    {
+        let Mailboxes { count, .. } = self;
+        *count
+    }
+}
