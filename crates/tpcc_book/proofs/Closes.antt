@@ -17,15 +17,15 @@ use Rattle.tpcc_book.specs.Closing.{TellsBook, IsLeft, IsAudited, IsGathered}
 use Rattle.tpcc_book.specs.Gathering.{AreAll, HasSeen, AllBegin, HasJoined}
 use Rattle.tpcc_book.specs.declared.turns.knows.Knows.{Knows}
 use Rattle.tpcc_book.specs.declared.turns.knows.Stage.TheVariants.{Idle}
-use Rattle.tpcc_book.specs.TurnRule.{out_of, Stands, AtHome, Away, IsTurning}
+use Rattle.tpcc_book.specs.TurnRule.{out_of, Stands, AtHome, Away, FollowsTurnRule}
 use Rattle.tpcc_book.proofs.Seats.{total_le}
 use Rattle.tpcc_book.proofs.Shares.{none_out}
 
 abbrev Last : Opening → ℕ → Knows → List ℕ → List (Option Past) → Type 0
-Last start id v words slots = Final (Seen (IsTurning start) id v) words slots
+Last start id v words slots = Final (Seen (FollowsTurnRule start) id v) words slots
 
 -- where every ticket was served the book is at home
-home_of : (start : Opening) (s : State (Option Past) Knows) (h : IsTurning start s) → h.served ≡ h.drawn → AtHome start h.log s.homes s.views
+home_of : (start : Opening) (s : State (Option Past) Knows) (h : FollowsTurnRule start s) → h.served ≡ h.drawn → AtHome start h.log s.homes s.views
 home_of start s h done =
     ⊎_elim
     (λ (x : AtHome start h.log s.homes s.views). x)
@@ -34,16 +34,16 @@ home_of start s h done =
     h.book
 
 -- the words that are found are those of the rule
-drawn_found : (start : Opening) (s : State (Option Past) Knows) (h : IsTurning start s) (words : List ℕ) (n : ℕ) → s.words ≡ words → get_elem? words 0 ≡ some n → n ≡ h.drawn % 2 ^ 64
+drawn_found : (start : Opening) (s : State (Option Past) Knows) (h : FollowsTurnRule start s) (words : List ℕ) (n : ℕ) → s.words ≡ words → get_elem? words 0 ≡ some n → n ≡ h.drawn % 2 ^ 64
 drawn_found start s h words n same found =
     some-injective n (h.drawn % 2 ^ 64) (sym found ∙ ap (λ (ws : List ℕ). get_elem? ws 0) (sym same ∙ h.words))
 
-served_found : (start : Opening) (s : State (Option Past) Knows) (h : IsTurning start s) (words : List ℕ) (n : ℕ) → s.words ≡ words → get_elem? words 1 ≡ some n → n ≡ h.served % 2 ^ 64
+served_found : (start : Opening) (s : State (Option Past) Knows) (h : FollowsTurnRule start s) (words : List ℕ) (n : ℕ) → s.words ≡ words → get_elem? words 1 ≡ some n → n ≡ h.served % 2 ^ 64
 served_found start s h words n same found =
     some-injective n (h.served % 2 ^ 64) (sym found ∙ ap (λ (ws : List ℕ). get_elem? ws 1) (sym same ∙ h.words))
 
 -- words that agree are numbers that agree
-all_served : (start : Opening) (s : State (Option Past) Knows) (h : IsTurning start s) → h.served % 2 ^ 64 ≡ h.drawn % 2 ^ 64 → h.served ≡ h.drawn
+all_served : (start : Opening) (s : State (Option Past) Knows) (h : FollowsTurnRule start s) → h.served % 2 ^ 64 ≡ h.drawn % 2 ^ 64 → h.served ≡ h.drawn
 all_served start s h e =
     let few = total_le (λ (v : Knows). out_of v.stage) (λ (v : Knows). v.parts) s.views (λ j v at. (h.each j v at).backed) in
     one_turn h.served h.drawn (2 ^ 64) (omega (arith, h.outs)) (omega (arith, few, h.outs, h.parts)) e
@@ -67,17 +67,17 @@ record Found (start : Opening) (log : List Entry) (slot : Option Past) : Type 0 
   opening : book.opening ≡ start
   entries : book.entries ≡ log
 
-book_is_found : (start : Opening) (words : List ℕ) (slots : List (Option Past)) (told : Option Past) (last : Final (IsTurning start) words slots) (t : TellsBook words slots told) → t.drawn ≡ t.served → Found start last.1.log t.slot
+book_is_found : (start : Opening) (words : List ℕ) (slots : List (Option Past)) (told : Option Past) (last : Final (FollowsTurnRule start) words slots) (t : TellsBook words slots told) → t.drawn ≡ t.served → Found start last.1.log t.slot
 book_is_found start words slots told last t same =
     let s = last.0 in
-    let h : IsTurning start s = last.1 in
+    let h : FollowsTurnRule start s = last.1 in
     let agree : h.served % 2 ^ 64 ≡ h.drawn % 2 ^ 64 = sym (served_found start s h words t.served last.2 t.served_is) ∙ (sym same ∙ drawn_found start s h words t.drawn last.2 t.drawn_is) in
     let home = home_of start s h (all_served start s h agree) in
     let there = last.4 0 (Some home.book) (ap (λ (hs : List (Home (Option Past))). get_elem? hs 0) home.there) in
     record { book = home.book; is = slot_found slots t.slot home.book t.slot_is there; opening = home.opening; entries = home.entries }
 
 -- what is told is the book, whose journal begins with every front that the rule tells of
-pub tells_book : (start : Opening) (words : List ℕ) (slots : List (Option Past)) (told : Option Past) (purses : List SeatedView) (last : Final (IsTurning start) words slots) → TellsBook words slots told → AllBegin purses last.1.log → IfSome told (IsLeft start purses)
+pub tells_book : (start : Opening) (words : List ℕ) (slots : List (Option Past)) (told : Option Past) (purses : List SeatedView) (last : Final (FollowsTurnRule start) words slots) → TellsBook words slots told → AllBegin purses last.1.log → IfSome told (IsLeft start purses)
 tells_book start words slots told purses last t begin = go told refl
   where
     go : (o : Option Past) → told ≡ o → IfSome o (IsLeft start purses)
@@ -92,21 +92,21 @@ tells_book start words slots told purses last t begin = go told refl
         }
 
 -- what a seat has seen begins the journal
-seen_of : (start : Opening) (s : State (Option Past) Knows) (h : IsTurning start s) (id : ℕ) (v : Knows) → get_elem? s.views id ≡ some v → HasSeen v h.log
+seen_of : (start : Opening) (s : State (Option Past) Knows) (h : FollowsTurnRule start s) (id : ℕ) (v : Knows) → get_elem? s.views id ≡ some v → HasSeen v h.log
 seen_of start s h id v at = let mine = h.each id v at in record { front = mine.front; told = λ x k at. (mine.told x k at).1 }
 
 none_left : (log : List Entry) → AllBegin [] log
 none_left log k d lt = absurd (omega (arith, lt))
 
 -- no purse, no front
-pub closes_alone : (start : Opening) (words : List ℕ) (slots : List (Option Past)) (told : Option Past) (purses : List SeatedView) → Final (IsTurning start) words slots → TellsBook words slots told → purses ≡ [] → IfSome told (IsLeft start purses)
+pub closes_alone : (start : Opening) (words : List ℕ) (slots : List (Option Past)) (told : Option Past) (purses : List SeatedView) → Final (FollowsTurnRule start) words slots → TellsBook words slots told → purses ≡ [] → IfSome told (IsLeft start purses)
 closes_alone start words slots told purses last t none =
     tells_book start words slots told purses last t (subst (λ (ps : List SeatedView). AllBegin ps last.1.log) (sym none) (none_left last.1.log))
 
 -- the fronts of all purses that were joined into one seat
 pub closes_joined : (start : Opening) (id : ℕ) (v : Knows) (words : List ℕ) (slots : List (Option Past)) (told : Option Past) (purses : List SeatedView) (pool : PoolView) → Last start id v words slots → TellsBook words slots told → HasJoined purses [] pool v → IfSome told (IsLeft start purses)
 closes_joined start id v words slots told purses pool last t joined =
-    let ended : Final (IsTurning start) words slots = (last.0, last.1.0, last.2, last.3, last.4) in
+    let ended : Final (FollowsTurnRule start) words slots = (last.0, last.1.0, last.2, last.3, last.4) in
     tells_book start words slots told purses ended t (joined.fronts last.1.0.log (seen_of start last.0 last.1.0 id v last.1.1) (none_left last.1.0.log))
 
 no_book : (book : Past) → None ≡ Some book → ⊥
@@ -116,8 +116,8 @@ no_book book e = cc e
 pub is_there : (start : Opening) (id : ℕ) (v : Knows) (words : List ℕ) (slots : List (Option Past)) (told : Option Past) → Last start id v words slots → TellsBook words slots told → v.stage ≡ Idle → v.parts ≡ all_parts → told ≡ None → ⊥
 is_there start id v words slots told last t idle all none =
     let s = last.0 in
-    let h : IsTurning start s = last.1.0 in
-    let ended : Final (IsTurning start) words slots = (last.0, last.1.0, last.2, last.3, last.4) in
+    let h : FollowsTurnRule start s = last.1.0 in
+    let ended : Final (FollowsTurnRule start) words slots = (last.0, last.1.0, last.2, last.3, last.4) in
     let done = none_out start s id v h last.1.1 idle all in
     let served : t.drawn ≡ t.served = drawn_found start s h words t.drawn last.2 t.drawn_is ∙ (ap (λ (n : ℕ). n % 2 ^ 64) done ∙ sym (served_found start s h words t.served last.2 t.served_is)) in
     let f = book_is_found start words slots told ended t served in

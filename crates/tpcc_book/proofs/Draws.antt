@@ -10,7 +10,7 @@ use Rattle.tpcc_rows.specs.declared.entry.Entry.{Entry}
 use Rattle.tpcc_book.specs.Past.{Past}
 use Rattle.tpcc_book.specs.declared.turns.knows.Knows.{Knows}
 use Rattle.tpcc_book.specs.declared.turns.knows.Stage.TheVariants.{Idle, Out, Holds}
-use Rattle.tpcc_book.specs.TurnRule.{knows, out_of, IsSeated, AtHome, Away, IsTurning, DrawStep}
+use Rattle.tpcc_book.specs.TurnRule.{knows, out_of, IsSeated, AtHome, Away, FollowsTurnRule, DrawStep}
 use Rattle.tpcc_book.proofs.Seats.{total_set, each_set, apart_set, ticket_below, seated_more_drawn}
 use Rattle.tpcc_population.specs.declared.opening.Opening.{Opening}
 
@@ -35,7 +35,7 @@ book_stays start log served s id v w at idle free (inr h) =
     inr (record { gone = h.gone; seat = h.seat; holder = h.holder; base = h.base; at = set_else s.views id h.seat w other ∙ h.at; holds = h.holds })
 
 pub draws : (start : Opening) (slots id : ℕ) (v : Knows) (c : List (ℕ × Option Past)) (s0 : Step (Option Past)) → v.stage ≡ Idle → 0 < v.parts
-    → Allows (IsTurning start) slots id (v, c) 0 (λ n. (n + 1) % 2 ^ 64) (DrawStep s0 (v, c))
+    → Allows (FollowsTurnRule start) slots id (v, c) 0 (λ n. (n + 1) % 2 ^ 64) (DrawStep s0 (v, c))
 draws start slots id v c s0 idle has s h homes at small =
     let w = knows v.start v.front v.parts (Out h.drawn) v.told in
     let mine = h.each id v at in

@@ -10,7 +10,7 @@ use Rattle.tpcc_book.specs.Past.{Past}
 use Rattle.tpcc_book.specs.declared.turns.knows.Knows.{Knows}
 use Rattle.tpcc_book.specs.declared.turns.knows.Stage.{Stage}
 use Rattle.tpcc_book.specs.declared.turns.knows.Stage.TheVariants.{Idle, Out, Holds}
-use Rattle.tpcc_book.specs.TurnRule.{knows, out_of, HasTicket, Stands, IsSeated, IsTurning, EndStep}
+use Rattle.tpcc_book.specs.TurnRule.{knows, out_of, HasTicket, Stands, IsSeated, FollowsTurnRule, EndStep}
 use Rattle.tpcc_book.proofs.Seats.{total_set, each_set, apart_set, prefix_self, prefix_trans, heard_on}
 use Rattle.tpcc_population.specs.declared.opening.Opening.{Opening}
 
@@ -29,13 +29,13 @@ some_same a b e =
     let held : Some a ≡ Some b = ap (λ (p : ℕ × Option Past). p.1) pair in cc held
 
 -- its seat has the book, so no other place has it
-pub is_away : (start : Opening) (s : State (Option Past) Knows) (h : IsTurning start s) (id : ℕ) (v : Knows) (t : ℕ) (base : List Entry) → get_elem? s.views id ≡ some v → v.stage ≡ Holds t base → s.homes ≡ none ∷ []
+pub is_away : (start : Opening) (s : State (Option Past) Knows) (h : FollowsTurnRule start s) (id : ℕ) (v : Knows) (t : ℕ) (base : List Entry) → get_elem? s.views id ≡ some v → v.stage ≡ Holds t base → s.homes ≡ none ∷ []
 is_away start s h id v t base at holds =
     elim h.book [ inl b ↦ absurd (b.nobody id v t base at holds) | inr b ↦ b.gone ]
 
 pub ends : (start : Opening) (slots id : ℕ) (v : Knows) (s0 : Step (Option Past)) (t : ℕ) (base : List Entry) (book : Past) (new : ℕ) (c : List (ℕ × Option Past)) → v.stage ≡ Holds t base → c ≡ (0, Some book) ∷ []
     → IsPrefix base book.entries → book.opening ≡ v.start → new ≡ (t + 1) % 2 ^ 64
-    → Allows (IsTurning start) slots id (v, c) 1 (λ _. new) (λ _. EndStep s0 (v, c) new)
+    → Allows (FollowsTurnRule start) slots id (v, c) 1 (λ _. new) (λ _. EndStep s0 (v, c) new)
 ends start slots id v s0 t base book new c holds carried longer opening next s h homes at small =
     let w = knows v.start book.entries v.parts Idle v.told in
     let mine = h.each id v at in

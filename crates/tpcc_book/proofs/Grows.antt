@@ -10,7 +10,7 @@ use Rattle.tpcc_book.specs.Past.{Past}
 use Rattle.tpcc_book.specs.declared.turns.knows.Knows.{Knows}
 use Rattle.tpcc_book.specs.declared.turns.knows.Stage.{Stage}
 use Rattle.tpcc_book.specs.declared.turns.knows.Stage.TheVariants.{Idle, Out, Holds}
-use Rattle.tpcc_book.specs.TurnRule.{knows, out_of, HasTicket, Stands, IsSeated, IsTurning, GrowStep}
+use Rattle.tpcc_book.specs.TurnRule.{knows, out_of, HasTicket, Stands, IsSeated, FollowsTurnRule, GrowStep}
 use Rattle.tpcc_book.proofs.Seats.{total_set, each_set, apart_set, set_same, prefix_self, prefix_trans, heard_on}
 use Rattle.tpcc_book.proofs.Ends.{holder, some_same, is_away}
 use Rattle.tpcc_population.specs.declared.opening.Opening.{Opening}
@@ -27,13 +27,13 @@ ticket_of a b xs ys e = cc e
 pub base_of : (a b : ℕ) (xs ys : List Entry) → Holds a xs ≡ Holds b ys → xs ≡ ys
 base_of a b xs ys e = cc e
 
-words_stay : (start : Opening) (s : State (Option Past) Knows) (h : IsTurning start s) → slice_set s.words 0 (slice_index s.words 0) ≡ s.words
+words_stay : (start : Opening) (s : State (Option Past) Knows) (h : FollowsTurnRule start s) → slice_set s.words 0 (slice_index s.words 0) ≡ s.words
 words_stay start s h =
     ap (λ (ws : List ℕ). slice_set ws 0 (slice_index ws 0)) h.words ∙ sym h.words
 
 pub grows : (start : Opening) (slots id : ℕ) (v : Knows) (s0 : Step (Option Past)) (t : ℕ) (base : List Entry) (book : Past) (c : List (ℕ × Option Past)) → v.stage ≡ Holds t base → c ≡ (0, Some book) ∷ []
     → IsPrefix base book.entries → 0 < v.parts
-    → Allows (IsTurning start) slots id (v, c) 0 (λ n. n) (GrowStep s0 (v, c))
+    → Allows (FollowsTurnRule start) slots id (v, c) 0 (λ n. n) (GrowStep s0 (v, c))
 grows start slots id v s0 t base book c holds carried longer has s h homes at small =
     let w = knows v.start book.entries v.parts (Holds t book.entries) v.told in
     let mine = h.each id v at in

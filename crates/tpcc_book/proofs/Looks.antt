@@ -12,30 +12,30 @@ use Rattle.tpcc_book.specs.Past.{Past}
 use Rattle.tpcc_book.specs.declared.turns.knows.Knows.{Knows}
 use Rattle.tpcc_book.specs.declared.turns.knows.Stage.{Stage}
 use Rattle.tpcc_book.specs.declared.turns.knows.Stage.TheVariants.{Out, Holds}
-use Rattle.tpcc_book.specs.TurnRule.{knows, out_of, HasTicket, Stands, IsSeated, AtHome, Away, IsTurning, HasBook, LookStep}
+use Rattle.tpcc_book.specs.TurnRule.{knows, out_of, HasTicket, Stands, IsSeated, AtHome, Away, FollowsTurnRule, HasBook, LookStep}
 use Rattle.tpcc_book.specs.TurnSteps.{Awaits}
 use Rattle.tpcc_book.proofs.Seats.{total_set, total_le, each_set, apart_set, set_same, prefix_self}
 use Rattle.tpcc_population.specs.declared.opening.Opening.{Opening}
 
 abbrev After : Opening → ℕ → Knows → List (ℕ × Option Past) → Step (Option Past) → State (Option Past) Knows → Type 0
 After start id v c s0 s =
-    (w : Knows) × (a : Act (Option Past)) × Valid s.homes c a × IsTurning start (stepped s 1 (slice_index s.words 1) id c w a) × LookStep s0 (v, c) (slice_index s.words 1) (w, carried_after c a)
+    (w : Knows) × (a : Act (Option Past)) × Valid s.homes c a × FollowsTurnRule start (stepped s 1 (slice_index s.words 1) id c w a) × LookStep s0 (v, c) (slice_index s.words 1) (w, carried_after c a)
 
 out_same : (a b : ℕ) → Out a ≡ Out b → a ≡ b
 out_same a b e = cc
 
 -- a number that is out is served where the word says so
-served_is : (start : Opening) (s : State (Option Past) Knows) (h : IsTurning start s) (ticket : ℕ) → Stands h.log h.served h.drawn (Out ticket) → h.served % 2 ^ 64 ≡ ticket % 2 ^ 64 → h.served ≡ ticket
+served_is : (start : Opening) (s : State (Option Past) Knows) (h : FollowsTurnRule start s) (ticket : ℕ) → Stands h.log h.served h.drawn (Out ticket) → h.served % 2 ^ 64 ≡ ticket % 2 ^ 64 → h.served ≡ ticket
 served_is start s h ticket stands e =
     let few = total_le (λ (v : Knows). out_of v.stage) (λ (v : Knows). v.parts) s.views (λ j v at. (h.each j v at).backed) in
     one_turn h.served ticket (2 ^ 64) stands.0 (omega (arith, stands.1, few, h.outs, h.parts)) e
 
-words_stay : (start : Opening) (s : State (Option Past) Knows) (h : IsTurning start s) → slice_set s.words 1 (slice_index s.words 1) ≡ s.words
+words_stay : (start : Opening) (s : State (Option Past) Knows) (h : FollowsTurnRule start s) → slice_set s.words 1 (slice_index s.words 1) ≡ s.words
 words_stay start s h =
     ap (λ (ws : List ℕ). slice_set ws 1 (slice_index ws 1)) h.words ∙ sym h.words
 
 -- the turn has come: the book is there
-comes : (start : Opening) (id : ℕ) (v : Knows) (c : List (ℕ × Option Past)) (s0 : Step (Option Past)) (ticket : ℕ) (s : State (Option Past) Knows) (h : IsTurning start s)
+comes : (start : Opening) (id : ℕ) (v : Knows) (c : List (ℕ × Option Past)) (s0 : Step (Option Past)) (ticket : ℕ) (s : State (Option Past) Knows) (h : FollowsTurnRule start s)
     → v.stage ≡ Out ticket → get_elem? s.views id ≡ some v → h.served ≡ ticket → AtHome start h.log s.homes s.views → After start id v c s0 s
 comes start id v c s0 ticket s h out at now b =
     let w = knows v.start b.book.entries v.parts (Holds ticket b.book.entries) v.told in
@@ -69,7 +69,7 @@ comes start id v c s0 ticket s h out at now b =
     )
 
 -- no other seat can have it then
-not_away : (start : Opening) (id : ℕ) (v : Knows) (ticket : ℕ) (s : State (Option Past) Knows) (h : IsTurning start s)
+not_away : (start : Opening) (id : ℕ) (v : Knows) (ticket : ℕ) (s : State (Option Past) Knows) (h : FollowsTurnRule start s)
     → v.stage ≡ Out ticket → get_elem? s.views id ≡ some v → h.served ≡ ticket → Away h.served s.homes s.views → ⊥
 not_away start id v ticket s h out at now b =
     let same : id ≡ b.seat = h.apart id b.seat v b.holder h.served at b.at (subst (λ (k : Stage). HasTicket k h.served) (sym out) (sym now)) (subst (λ (k : Stage). HasTicket k h.served) (sym b.holds) refl) in
@@ -77,7 +77,7 @@ not_away start id v ticket s h out at now b =
     let clash : Out ticket ≡ Holds h.served b.base = sym out ∙ (ap (λ (k : Knows). k.stage) one ∙ b.holds) in cc clash
 
 -- it has not come
-waits : (start : Opening) (id : ℕ) (v : Knows) (c : List (ℕ × Option Past)) (s0 : Step (Option Past)) (ticket : ℕ) (s : State (Option Past) Knows) (h : IsTurning start s)
+waits : (start : Opening) (id : ℕ) (v : Knows) (c : List (ℕ × Option Past)) (s0 : Step (Option Past)) (ticket : ℕ) (s : State (Option Past) Knows) (h : FollowsTurnRule start s)
     → v.stage ≡ Out ticket → get_elem? s.views id ≡ some v → h.served ≢ ticket → After start id v c s0 s
 waits start id v c s0 ticket s h out at other =
     let mine = h.each id v at in
@@ -87,11 +87,11 @@ waits start id v c s0 ticket s h out at other =
       v,
       keeps,
       tt,
-      subst (IsTurning start) same h,
+      subst (FollowsTurnRule start) same h,
       λ k is. inr ((λ e. other (served_is start s h ticket stands (sym found ∙ (e ∙ ap (λ (n : ℕ). n % 2 ^ 64) (out_same k ticket (sym is ∙ out)))))), refl),
     )
 
-looks_by : (start : Opening) (id : ℕ) (v : Knows) (c : List (ℕ × Option Past)) (s0 : Step (Option Past)) (ticket : ℕ) (s : State (Option Past) Knows) (h : IsTurning start s)
+looks_by : (start : Opening) (id : ℕ) (v : Knows) (c : List (ℕ × Option Past)) (s0 : Step (Option Past)) (ticket : ℕ) (s : State (Option Past) Knows) (h : FollowsTurnRule start s)
     → v.stage ≡ Out ticket → get_elem? s.views id ≡ some v → (b : Bool) → (h.served == ticket) ≡ b → After start id v c s0 s
 looks_by start id v c s0 ticket s h out at true is =
     let now : h.served ≡ ticket = grind (arith, nat_tests) in
@@ -100,7 +100,7 @@ looks_by start id v c s0 ticket s h out at false is =
     waits start id v c s0 ticket s h out at (λ now. absurd (grind (arith, nat_tests)))
 
 pub looks : (start : Opening) (slots id : ℕ) (v : Knows) (c : List (ℕ × Option Past)) (s0 : Step (Option Past)) (ticket : ℕ) → v.stage ≡ Out ticket
-    → Allows (IsTurning start) slots id (v, c) 1 (λ n. n) (LookStep s0 (v, c))
+    → Allows (FollowsTurnRule start) slots id (v, c) 1 (λ n. n) (LookStep s0 (v, c))
 looks start slots id v c s0 ticket out s h homes at small =
     looks_by start id v c s0 ticket s h out at (h.served == ticket) refl
 

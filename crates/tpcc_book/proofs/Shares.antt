@@ -13,7 +13,7 @@ use Rattle.tpcc_book.specs.declared.turns.knows.Knows.{Knows}
 use Rattle.tpcc_book.specs.declared.turns.knows.Stage.{Stage}
 use Rattle.tpcc_book.specs.declared.turns.knows.Heard.{Heard}
 use Rattle.tpcc_book.specs.declared.turns.knows.Stage.TheVariants.{Idle, Out, Holds}
-use Rattle.tpcc_book.specs.TurnRule.{knows, out_of, total, HasTicket, IsHeard, IsSeated, AtHome, Away, IsTurning, no_opening}
+use Rattle.tpcc_book.specs.TurnRule.{knows, out_of, total, HasTicket, IsHeard, IsSeated, AtHome, Away, FollowsTurnRule, no_opening}
 use Rattle.tpcc_book.specs.Shares.{kept_of, given_of, heard_of, both_of, nobody, last_parts, freed_of, back_of}
 use Rattle.tpcc_book.proofs.Seats.{total_set, total_le, each_set, apart_set, set_same}
 use Rattle.tpcc_population.specs.declared.opening.Opening.{Opening}
@@ -86,7 +86,7 @@ total_more : (f : Knows → ℕ) (views : List Knows) (w : Knows) → total f (v
 total_more f [] w = omega arith
 total_more f (x ∷ xs) w = omega (arith, total_more f xs w)
 
-seats_of : (start : Opening) (s : State (Option Past) Knows) (h : IsTurning start s) → AreSeated start h.log h.served h.drawn s.homes s.views
+seats_of : (start : Opening) (s : State (Option Past) Knows) (h : FollowsTurnRule start s) → AreSeated start h.log h.served h.drawn s.homes s.views
 seats_of start s h = record { each = h.each; apart = h.apart; book = h.book }
 
 out_most : (s : Stage) → out_of s ≤ 1
@@ -94,7 +94,7 @@ out_most Idle = omega arith
 out_most (Out t) = omega arith
 out_most (Holds t base) = omega arith
 
-pub splits : (start : Opening) (id : ℕ) (v : Knows) → v.stage ≡ Idle → 1 < v.parts → Splits (IsTurning start) id v (kept_of v) (given_of v)
+pub splits : (start : Opening) (id : ℕ) (v : Knows) → v.stage ≡ Idle → 1 < v.parts → Splits (FollowsTurnRule start) id v (kept_of v) (given_of v)
 splits start id v idle has s h at =
     let mine = h.each id v at in
     let kept = kept_of v in
@@ -126,7 +126,7 @@ told_of start log v w hv hw this x (suc k) e = in_both w.told k hw e
     in_both (y ∷ ys) (suc k) h e = in_both ys k (λ z j. h z (suc j)) e
 
 -- an idle seat is joined into another
-pub joins : (start : Opening) (id : ℕ) (v : Knows) (other : ℕ) (w : Knows) → w.stage ≡ Idle → 0 < v.parts → 0 < w.parts → Joins (IsTurning start) id v other w (both_of v w) nobody
+pub joins : (start : Opening) (id : ℕ) (v : Knows) (other : ℕ) (w : Knows) → w.stage ≡ Idle → 0 < v.parts → 0 < w.parts → Joins (FollowsTurnRule start) id v other w (both_of v w) nobody
 joins start id v other w idle has has' s h at apart there =
     let mine = h.each id v at in
     let both = both_of v w in
@@ -150,7 +150,7 @@ joins start id v other w idle has has' s h at apart there =
     }
 
 -- who was joined last is split off again
-pub frees : (start : Opening) (id : ℕ) (v : Knows) → 0 < last_parts v.told → last_parts v.told < v.parts → Splits (IsTurning start) id v (freed_of v) (back_of v)
+pub frees : (start : Opening) (id : ℕ) (v : Knows) → 0 < last_parts v.told → last_parts v.told < v.parts → Splits (FollowsTurnRule start) id v (freed_of v) (back_of v)
 frees start id v has few s h at =
     let mine = h.each id v at in
     let kept = freed_of v in
@@ -173,7 +173,7 @@ frees start id v has few s h at =
     }
 
 -- once every part is in one idle seat no ticket is out
-pub none_out : (start : Opening) (s : State (Option Past) Knows) (id : ℕ) (v : Knows) (h : IsTurning start s) → get_elem? s.views id ≡ some v → v.stage ≡ Idle → v.parts ≡ all_parts → h.drawn ≡ h.served
+pub none_out : (start : Opening) (s : State (Option Past) Knows) (id : ℕ) (v : Knows) (h : FollowsTurnRule start s) → get_elem? s.views id ≡ some v → v.stage ≡ Idle → v.parts ≡ all_parts → h.drawn ≡ h.served
 none_out start s id v h at idle all =
     let none = knows no_opening [] 0 Idle [] in
     let out = λ (u : Knows). out_of u.stage in

@@ -8,10 +8,10 @@ use Rattle.tpcc_book.specs.Past.{Past, opening_past}
 use Rattle.std.specs.Prelude.{Option}
 use Rattle.tpcc_book.specs.declared.turns.knows.Knows.{Knows}
 use Rattle.tpcc_book.specs.declared.turns.knows.Stage.TheVariants.{Idle, Holds}
-use Rattle.tpcc_book.specs.TurnRule.{first, HasTicket, IsSeated, IsTurning}
+use Rattle.tpcc_book.specs.TurnRule.{first, HasTicket, IsSeated, FollowsTurnRule}
 use Rattle.tpcc_population.specs.declared.opening.Opening.{Opening}
 
-pub starts : (start : Opening) (book : Past) → book.opening ≡ start → book.entries ≡ [] → IsTurning start (opening (0 ∷ 0 ∷ []) (Some book ∷ []) (first start))
+pub starts : (start : Opening) (book : Past) → book.opening ≡ start → book.entries ≡ [] → FollowsTurnRule start (opening (0 ∷ 0 ∷ []) (Some book ∷ []) (first start))
 starts start book is empty =
     record {
       log = [];
@@ -38,6 +38,6 @@ starts start book is empty =
     idle (suc j) v t base e holds = absurd (some-ne-none v (sym e))
 
 -- the same at the opened book
-pub starts_at_opening : (start : Opening) (book : Past) (slots : List (Option Past)) → slots ≡ Some book ∷ [] → book ≡ opening_past start → IsTurning start (opening (0 ∷ 0 ∷ []) slots (first start))
+pub starts_at_opening : (start : Opening) (book : Past) (slots : List (Option Past)) → slots ≡ Some book ∷ [] → book ≡ opening_past start → FollowsTurnRule start (opening (0 ∷ 0 ∷ []) slots (first start))
 starts_at_opening start book slots there is =
-    subst (λ (xs : List (Option Past)). IsTurning start (opening (0 ∷ 0 ∷ []) xs (first start))) (sym there) (starts start book (ap (λ (p : Past). p.opening) is) (ap (λ (p : Past). p.entries) is))
+    subst (λ (xs : List (Option Past)). FollowsTurnRule start (opening (0 ∷ 0 ∷ []) xs (first start))) (sym there) (starts start book (ap (λ (p : Past). p.opening) is) (ap (λ (p : Past). p.entries) is))

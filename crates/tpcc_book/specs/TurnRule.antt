@@ -78,7 +78,7 @@ pub record Away (served : ℕ) (homes : List (Home (Option Past))) (views : List
   pub holds : holder.stage ≡ Holds served base
 
 -- there is a journal, of which all have seen beginnings
-pub record IsTurning (start : Opening) (s : State (Option Past) Knows) : Type 0 where
+pub record FollowsTurnRule (start : Opening) (s : State (Option Past) Knows) : Type 0 where
   pub log : List Entry
   pub served : ℕ
   pub drawn : ℕ

@@ -11,18 +11,29 @@ use tpcc_tables::Tables;
 /// The conditions of clause 3.3.2.
 #[derive(Clone, Copy)]
 pub enum Condition {
+    /// W_YTD is the sum of the D_YTD of its districts (3.3.2.1).
     One,
+    /// D_NEXT_O_ID - 1 is the largest O_ID and NO_O_ID of the district (3.3.2.2).
     Two,
+    /// A district's NEW-ORDER rows are as many as their numbers span (3.3.2.3).
     Three,
+    /// A district's O_OL_CNT add up to its order lines (3.3.2.4).
     Four,
+    /// O_CARRIER_ID is null where there is a NEW-ORDER row (3.3.2.5).
     Five,
+    /// O_OL_CNT is the number of the order's lines (3.3.2.6).
     Six,
+    /// OL_DELIVERY_D is null where O_CARRIER_ID is (3.3.2.7).
     Seven,
+    /// W_YTD is the sum of the H_AMOUNT paid into it (3.3.2.8).
     Eight,
+    /// D_YTD is the sum of the H_AMOUNT paid into it (3.3.2.9).
     Nine,
+    /// C_BALANCE is what was delivered less what was paid (3.3.2.10).
     Ten,
-    /// Of an opening with so many customers in each district.
+    /// A district of an opening with so many customers has 7/10 as many delivered orders (3.3.2.11).
     Eleven(u32),
+    /// C_BALANCE and C_YTD_PAYMENT together are what was delivered (3.3.2.12).
     Twelve,
 }
 

@@ -1,2 +1,2 @@
-mod Queue
+mod Queues
 mod Run

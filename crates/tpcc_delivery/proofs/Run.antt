@@ -10,7 +10,7 @@ use Rattle.tpcc_rows.specs.Ranges.{is_carrier}
 use Rattle.tpcc_rows.specs.Tables.{Rows}
 use Rattle.tpcc_rows.specs.WellKeyed.{IsQueueInRange}
 use Rattle.tpcc_delivery.specs.Runs.{IsPreparedRun}
-use Rattle.tpcc_delivery.proofs.Queue.{carrier_in, first_in_range}
+use Rattle.tpcc_delivery.proofs.Queues.{carrier_in, first_in_range}
 
 -- what a run of a first ticket delivers
 abbrev pub delivery_of : Rows → QueuedTicket → ℕ → DistrictDelivery

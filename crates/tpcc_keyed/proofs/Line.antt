@@ -9,7 +9,7 @@ use Rattle.tpcc_rows.specs.Lists.{is_ascending, key_before, updated}
 use Rattle.tpcc_rows.specs.Tables.{is_line_of, order_line_key}
 use Rattle.tpcc_laws.proofs.DeliveryKeys.{list_all-filter}
 use Rattle.tpcc_laws.proofs.List.{list_all-updated}
-use Rattle.tpcc_keyed.specs.declared.parts.part.Part.{Part}
+use Rattle.tpcc_keyed.specs.declared.parts.part.DistrictPart.{DistrictPart}
 use Rattle.tpcc_keyed.specs.Parts.{is_of}
 use Rattle.tpcc_keyed.specs.Runs.{is_line_between}
 use Rattle.tpcc_keyed.specs.PartWords.{owns}
@@ -42,7 +42,7 @@ between_is_of owner a b l e =
     same_if_equal (take 2 (order_line_key l)) (owner.warehouse ∷ owner.district ∷ []) (λ i. w i ∷ d i ∷ [])
 
 -- a part owns its rows after a change that keeps their keys
-pub owns_updated : {T : Type 0} (key : T → List ℕ) (q : T → Bool) (change : T → T) → ((x : T) → key (change x) ≡ key x) → (part changed : Part T) → changed.owner ≡ part.owner → owns key part ≡ true → changed.rows.items ≡ updated q change part.rows.items → owns key changed ≡ true
+pub owns_updated : {T : Type 0} (key : T → List ℕ) (q : T → Bool) (change : T → T) → ((x : T) → key (change x) ≡ key x) → (part changed : DistrictPart T) → changed.owner ≡ part.owner → owns key part ≡ true → changed.rows.items ≡ updated q change part.rows.items → owns key changed ≡ true
 owns_updated key q change keeps part changed same own is =
     ap (λ (k : DistrictKey). list_all (λ row. is_of k (key row)) changed.rows.items) same
     ∙ ap (list_all (λ row. is_of part.owner (key row))) is

@@ -10,7 +10,7 @@ use Rattle.std.proofs.lemmas.List.Sums.{prefix_len-le-length}
 use Rattle.tpcc_rows.specs.declared.keys.DistrictKey.{DistrictKey}
 use Rattle.tpcc_rows.specs.Lists.{is_ascending, key_before}
 use Rattle.tpcc_laws.proofs.List.{list_all-mono}
-use Rattle.tpcc_keyed.specs.declared.parts.part.Part.{Part}
+use Rattle.tpcc_keyed.specs.declared.parts.part.DistrictPart.{DistrictPart}
 use Rattle.tpcc_keyed.specs.Searches.{is_same_key}
 use Rattle.tpcc_keyed.specs.Parts.{district_numbers, is_of}
 use Rattle.tpcc_keyed.specs.PartWords.{rows_in, part_numbers, owns, HasRoom, AreRead}
@@ -147,7 +147,7 @@ ascending_push numbers (x ∷ xs) y up below =
     let all = all-append (λ later. key_before (numbers x) (numbers later)) xs (y ∷ []) above one in
     λ i. all i && ascending_push numbers xs y rest later i
 
-module _ {T : Type 0} (key : T → List ℕ) (rows : List T) (up : is_ascending key rows ≡ true) (start : ℕ) (parts : List (Part T)) (so_far : AreRead key rows start parts) (more : start < length rows) (seen : List T) (is : seen ≡ drop start rows) (first : T) (here : first ≡ get_or seen 0 first) (owner : DistrictKey) (own : district_numbers owner ≡ take 2 (key first)) (n : ℕ) (counted : n ≡ prefix_len (λ row. not (key_before (district_numbers owner) (take 2 (key row)))) seen) (run : Part T) (of_owner : run.owner ≡ owner) (holds : run.rows.items ≡ take n seen) (within : HasRoom 0 run) where
+module _ {T : Type 0} (key : T → List ℕ) (rows : List T) (up : is_ascending key rows ≡ true) (start : ℕ) (parts : List (DistrictPart T)) (so_far : AreRead key rows start parts) (more : start < length rows) (seen : List T) (is : seen ≡ drop start rows) (first : T) (here : first ≡ get_or seen 0 first) (owner : DistrictKey) (own : district_numbers owner ≡ take 2 (key first)) (n : ℕ) (counted : n ≡ prefix_len (λ row. not (key_before (district_numbers owner) (take 2 (key row)))) seen) (run : DistrictPart T) (of_owner : run.owner ≡ owner) (holds : run.rows.items ≡ take n seen) (within : HasRoom 0 run) where
   some : 0 < length seen
   some = let l : length seen ≡ length rows - start = ap length is ∙ length-drop start rows in omega (arith, l, more)
 
@@ -220,7 +220,7 @@ get_within [] ys i x lt here = absurd (omega arith)
 get_within (y ∷ xs) ys zero x lt here = ap Some (sym here)
 get_within (y ∷ xs) ys (suc i) x lt here = get_within xs ys i x (omega arith) here
 
-module _ {T : Type 0} (parts : List (Part T)) (i : ℕ) (part : Part T) (lt : i < length parts) (here : part ≡ get_or parts i part) where
+module _ {T : Type 0} (parts : List (DistrictPart T)) (i : ℕ) (part : DistrictPart T) (lt : i < length parts) (here : part ≡ get_or parts i part) where
   rows_from : flat_map rows_in (drop i parts) ≡ part.rows.items ++ flat_map rows_in (drop (i + 1) parts)
   rows_from =
       let e : suc i ≡ i + 1 = omega arith in

@@ -6,7 +6,7 @@ use Rattle.tpcc_keyed.specs.Searches.{is_same_key}
 
 -- the rows of all parts in ascending order of their keys, the districts that have a part, and how many more rows
 -- any of those districts can take with no memory
-pub record Kept (T : Type 0) : Type 0 where
+pub record PartsView (T : Type 0) : Type 0 where
   pub rows : List T
   pub owners : List DistrictKey
   pub room : ℕ

@@ -1,10 +1,10 @@
 -- How the parts are seen, and what always holds of them.
 use Rattle.std.specs.Prelude.{ℕ, List, map, flat_map}
 use Rattle.tpcc_keyed.specs.declared.parts.Parts.TheInside.{Inside}
-use Rattle.tpcc_keyed.specs.Parts.{Kept}
+use Rattle.tpcc_keyed.specs.Parts.{PartsView}
 use Rattle.tpcc_keyed.specs.PartWords.{rows_in, owner_of, AreParts}
 
-abbrev pub view_of_parts : {T K : Type 0} → Inside T K → Kept T
+abbrev pub view_of_parts : {T K : Type 0} → Inside T K → PartsView T
 view_of_parts t = record { rows = flat_map rows_in t.parts.items; owners = map owner_of t.parts.items; room = t.room }
 
 abbrev pub IsParts : {T K : Type 0} → (T → List ℕ) → Inside T K → Type 0

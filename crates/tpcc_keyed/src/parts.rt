@@ -16,7 +16,7 @@ pub(crate) mod tail;
 use crate::keyed::Owned;
 use crate::search::{self, find};
 use growth::grow_all;
-use part::{Part, exchange, put, put_in_room, take_out};
+use part::{DistrictPart, exchange, put, put_in_room, take_out};
 use place::{open_part, place_of};
 use reading::read_run;
 use std::alloc::Global;
@@ -28,7 +28,7 @@ use tpcc_rows::DistrictKey;
 /// greatest key is pushed, and no row of another district moves.
 #[derive(Drop)]
 pub struct Parts<T: Owned> {
-    pub(crate) parts: Vec<Part<T>>,
+    pub(crate) parts: Vec<DistrictPart<T>>,
     /// How many rows there are.
     len: usize,
     /// How many more rows each part can take.
@@ -36,9 +36,9 @@ pub struct Parts<T: Owned> {
 }
 
 impl<T: Owned> Model for Parts<T> {
-    ghost use Rattle.tpcc_keyed.specs.Parts.{Kept};
+    ghost use Rattle.tpcc_keyed.specs.Parts.{PartsView};
 
-    ghost Value = { Kept T };
+    ghost Value = { PartsView T };
 
     ghost use Rattle.tpcc_keyed.specs.PartsView.{view_of_parts, IsParts};
 

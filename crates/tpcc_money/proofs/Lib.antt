@@ -2,4 +2,4 @@ mod Worked
 pub mod Values
 pub mod Digit
 pub mod Total
-pub mod Moment
+pub mod Moments

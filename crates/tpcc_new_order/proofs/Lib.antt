@@ -1,5 +1,5 @@
 pub mod Brand
 pub mod Supply
 pub mod Refusal
-pub mod Line
+pub mod Lines
 pub mod Prepare

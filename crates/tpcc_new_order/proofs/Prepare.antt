@@ -21,14 +21,14 @@ use Rattle.tpcc_laws.proofs.Numbers.{within, not_false}
 use Rattle.tpcc_rows.specs.declared.rows.OrderRow.{OrderRow}
 use Rattle.tpcc_rows.specs.declared.rows.OrderLineRow.{OrderLineRow}
 use Rattle.tpcc_tables.specs.Writes.{IsOrderOf}
-use Rattle.tpcc_new_order.specs.declared.named_rows.NamedRows.{NamedRows}
+use Rattle.tpcc_new_order.specs.declared.order_rows.OrderRows.{OrderRows}
 use Rattle.tpcc_new_order.specs.Supplied.{IsServable}
 use Rattle.tpcc_new_order.specs.Tests.{IsNamed}
 use Rattle.tpcc_new_order.specs.Prepares.{accepted_from, rolled_back_from}
 
 -- ---- what is shown
 
-pub accepted_is : (rows : Rows) (o : Order) (n : NamedRows) → IsNamed rows o n
+pub accepted_is : (rows : Rows) (o : Order) (n : OrderRows) → IsNamed rows o n
     → accepted_from o n.warehouse.now n.district.now n.customer.now (order_total (total (amount_of rows) o.lines) n.customer.now.discount n.warehouse.now.tax n.district.now.tax) (map (λ line. entered_line rows o line.0 line.1) (enumerate_from 1 o.lines))
     ≡ accepted_order rows o
 unfolding accepted_order
@@ -38,7 +38,7 @@ accepted_is rows o n h =
     let c = unwrap_or (sym h.customer i) no_customer in
     accepted_from o w d c (order_total (total (amount_of rows) o.lines) c.discount w.tax d.tax) (map (λ line. entered_line rows o line.0 line.1) (enumerate_from 1 o.lines))
 
-pub rolled_back_is : (rows : Rows) (o : Order) (n : NamedRows) → IsNamed rows o n → rolled_back_from o n.district.now n.customer.now ≡ rolled_back_order rows o
+pub rolled_back_is : (rows : Rows) (o : Order) (n : OrderRows) → IsNamed rows o n → rolled_back_from o n.district.now n.customer.now ≡ rolled_back_order rows o
 unfolding rolled_back_order
 rolled_back_is rows o n h = λ i. rolled_back_from o (unwrap_or (sym h.district i) no_district) (unwrap_or (sym h.customer i) no_customer)
 
@@ -49,7 +49,7 @@ number_shown rows o shown e = ap (λ (a : AcceptedOrder). a.order) e
 
 -- ---- what is known of an order that its input does not refuse
 
-pub district_within : (rows : Rows) (o : Order) (n : NamedRows) → IsInRange rows → IsNamed rows o n → is_within 1 10 o.district ≡ true
+pub district_within : (rows : Rows) (o : Order) (n : OrderRows) → IsInRange rows → IsNamed rows o n → is_within 1 10 o.district ≡ true
 district_within rows o n h k =
     let p = found_passes (is_district o.warehouse o.district) is_district_row rows.districts n.district.now k.district h.districts in
     ap (is_within 1 10) (sym (district_key_is o.warehouse o.district n.district.now p.0).1) ∙ (district_tells n.district.now p.1).0

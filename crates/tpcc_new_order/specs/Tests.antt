@@ -10,7 +10,7 @@ use Rattle.tpcc_rows.specs.declared.refusals.Field.TheVariants.{StockOrders, Rem
 use Rattle.tpcc_rows.specs.Ranges.{is_within, is_count, greatest_order, greatest_stock_ytd}
 use Rattle.tpcc_rows.specs.Tables.{Rows, find_warehouse, find_district, find_customer}
 use Rattle.tpcc_rows.specs.NewOrder.{order_refusal_by_input}
-use Rattle.tpcc_new_order.specs.declared.named_rows.NamedRows.{NamedRows}
+use Rattle.tpcc_new_order.specs.declared.order_rows.OrderRows.{OrderRows}
 use Rattle.tpcc_new_order.specs.declared.ranges.Overruns.{Overruns}
 use Rattle.tpcc_new_order.specs.declared.supply.StockNumbers.{StockNumbers}
 
@@ -23,7 +23,7 @@ line_tests rows lines =
     ∷ []
 
 -- the three rows of an order that its input does not refuse
-pub record IsNamed (rows : Rows) (order : Order) (named : NamedRows) : Type 0 where
+pub record IsNamed (rows : Rows) (order : Order) (named : OrderRows) : Type 0 where
   pub accepted : order_refusal_by_input rows order ≡ None
   pub warehouse : find_warehouse rows order.warehouse ≡ Some named.warehouse.now
   pub district : find_district rows order.warehouse order.district ≡ Some named.district.now

@@ -5,7 +5,7 @@ mod amounts;
 mod brand;
 mod lines;
 mod lookups;
-mod named_rows;
+mod order_rows;
 mod ranges;
 mod replies;
 mod rows;

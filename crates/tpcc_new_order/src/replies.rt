@@ -5,19 +5,19 @@ ghost use Rattle.tpcc_rows.specs.NewOrder.{accepted_order, is_rolled_back, order
 ghost use Rattle.tpcc_new_order.specs.Prepares.{accepted_from};
 
 use crate::lines::add_lines;
-use crate::named_rows::{NamedRows, named_rows};
+use crate::order_rows::{OrderRows, named_rows};
 use tpcc_money::{Cents, order_total};
 use tpcc_rows::{AcceptedOrder, Few, Order, OrderLineRow, RolledBackOrder};
 use tpcc_tables::Tables;
 
 /// What is shown of an order's three rows, with no line yet and no total.
-fn show_head(order: &Order, named: &NamedRows) -> AcceptedOrder
+fn show_head(order: &Order, named: &OrderRows) -> AcceptedOrder
     requires few { length order.now.lines ≤ 15 }
     ensures { result
         ≡ accepted_from order.now named.now.warehouse.now named.now.district.now
         named.now.customer.now (pos 0) [] }
 {
-    let NamedRows {
+    let OrderRows {
         warehouse,
         district,
         customer,

@@ -6,7 +6,7 @@ ghost use Rattle.tpcc_rows.specs.NewOrder.{order_refusal, order_reply, rows_afte
 ghost use Rattle.tpcc_new_order.specs.Prepares.{IsPrepared, HasRoom};
 
 use crate::lookups::has_unused_item;
-use crate::named_rows::rows_of_order;
+use crate::order_rows::rows_of_order;
 use crate::ranges::range_refusal;
 use crate::replies::show_rollback;
 use crate::rows::write_order;

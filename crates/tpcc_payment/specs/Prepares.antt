@@ -14,11 +14,11 @@ use Rattle.tpcc_rows.specs.declared.requests.Payment.{Payment}
 use Rattle.tpcc_rows.specs.Tables.{Rows, find_warehouse, find_district, find_customer}
 use Rattle.tpcc_rows.specs.ChosenCustomer.{chosen_customer}
 use Rattle.tpcc_rows.specs.Payment.{payment_refusal, paying_customer, payment_note, has_bad_credit}
-use Rattle.tpcc_payment.specs.declared.named_rows.NamedRows.{NamedRows}
+use Rattle.tpcc_payment.specs.declared.payment_rows.PaymentRows.{PaymentRows}
 use Rattle.tpcc_payment.specs.declared.transaction.PreparedPayment.{PreparedPayment}
 
 -- the three rows of a payment that nothing refuses
-pub record IsNamed (rows : Rows) (payment : Payment) (named : NamedRows) : Type 0 where
+pub record IsNamed (rows : Rows) (payment : Payment) (named : PaymentRows) : Type 0 where
   pub accepted : payment_refusal rows payment ≡ None
   pub warehouse : find_warehouse rows payment.warehouse ≡ Some named.warehouse.now
   pub district : find_district rows payment.warehouse payment.district ≡ Some named.district.now

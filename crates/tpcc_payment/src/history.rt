@@ -2,7 +2,7 @@
 ghost use Rattle.std.specs.Prelude.{◌≡◌, ◌++◌, codes};
 ghost use Rattle.tpcc_payment.specs.Prepares.{history_from};
 
-use crate::named_rows::NamedRows;
+use crate::payment_rows::PaymentRows;
 use tpcc_rows::{HistoryRow, Payment, Text};
 
 /// Two names with four spaces between them.
@@ -16,7 +16,7 @@ fn join_names(a: &Text<10>, b: &Text<10>) -> Text<24>
 }
 
 /// The HISTORY row of a payment.
-pub fn history_row(payment: &Payment, named: &NamedRows) -> HistoryRow
+pub fn history_row(payment: &Payment, named: &PaymentRows) -> HistoryRow
     ensures { result
         ≡ history_from payment.now named.now.warehouse.now named.now.district.now
         named.now.customer.now }

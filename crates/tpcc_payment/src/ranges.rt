@@ -5,7 +5,7 @@ ghost use Rattle.tpcc_rows.specs.Ranges.{is_amount_within, is_total, is_balance,
 ghost use Rattle.tpcc_payment.specs.Prepares.{range_tests};
 ghost use Rattle.tpcc_rows.specs.declared.limits.TheConstants.{LEAST_PAYMENT, GREATEST_PAYMENT};
 
-use crate::named_rows::NamedRows;
+use crate::payment_rows::PaymentRows;
 use tpcc_money::Cents;
 use tpcc_rows::limits::{GREATEST_COUNT, GREATEST_PAYMENT, GREATEST_TOTAL, LEAST_PAYMENT};
 use tpcc_rows::{Field, Refusal};
@@ -41,7 +41,7 @@ fn is_payable(amount: Cents) -> bool
 
 /// The first refusal of the amounts and counts, if there is one.
 #[tactic(auto, unfolding(crate::specs::Prepares::range_tests))]
-pub fn range_refusal(named: &NamedRows, amount: Cents) -> Option<Refusal>
+pub fn range_refusal(named: &PaymentRows, amount: Cents) -> Option<Refusal>
     ensures { result
         ≡ first_finding (range_tests named.now.warehouse.now named.now.district.now
         named.now.customer.now amount) }

@@ -3,7 +3,7 @@ ghost use Rattle.std.specs.Prelude.{◌≡◌, ◌-ℤ◌, FitsSigned, take, opt
 ghost use Rattle.std.specs.Int.{w64};
 ghost use Rattle.tpcc_payment.specs.Prepares.{new_information, reply_from};
 
-use crate::named_rows::NamedRows;
+use crate::payment_rows::PaymentRows;
 use tpcc_rows::{Paid, Payment, Text};
 
 /// The first 200 bytes of a text.
@@ -26,7 +26,7 @@ fn shown_information(information: &Option<Text<500>>) -> Option<Text<200>>
 }
 
 /// What the terminal shows of a payment with that new C_DATA.
-pub fn show_payment(payment: &Payment, named: &NamedRows, information: &Option<Text<500>>) -> Paid
+pub fn show_payment(payment: &Payment, named: &PaymentRows, information: &Option<Text<500>>) -> Paid
     requires fits { FitsSigned w64 (named.now.customer.now.balance -ℤ payment.now.amount) }
     requires information { information.now ≡ new_information payment.now named.now.customer.now }
     ensures { result

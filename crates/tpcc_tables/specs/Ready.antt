@@ -7,30 +7,30 @@ use Rattle.tpcc_rows.specs.declared.rows.OrderRow.{OrderRow}
 use Rattle.tpcc_rows.specs.declared.rows.OrderLineRow.{OrderLineRow}
 use Rattle.tpcc_rows.specs.declared.rows.NewOrderRow.{NewOrderRow}
 use Rattle.tpcc_rows.specs.Tables.{district_key}
-use Rattle.tpcc_keyed.specs.Parts.{Kept, has_owner}
+use Rattle.tpcc_keyed.specs.Parts.{PartsView, has_owner}
 
 -- each district has a part
 abbrev pub is_open : List DistrictKey → List DistrictRow → Bool
 is_open owners districts = list_all (λ d. has_owner owners (district_key d)) districts
 
-pub record IsOpen (ds : List DistrictRow) (os : Kept OrderRow) (ls : Kept OrderLineRow) (ns : Kept NewOrderRow) : Type 0 where
+pub record IsOpen (ds : List DistrictRow) (os : PartsView OrderRow) (ls : PartsView OrderLineRow) (ns : PartsView NewOrderRow) : Type 0 where
   pub orders : is_open os.owners ds ≡ true
   pub lines : is_open ls.owners ds ≡ true
   pub news : is_open ns.owners ds ≡ true
 
 -- an order of fewer lines than r can be entered with no memory
-pub record HasRoomForOrder (r : ℕ) (os : Kept OrderRow) (ls : Kept OrderLineRow) (ns : Kept NewOrderRow) : Type 0 where
+pub record HasRoomForOrder (r : ℕ) (os : PartsView OrderRow) (ls : PartsView OrderLineRow) (ns : PartsView NewOrderRow) : Type 0 where
   pub orders : 0 < os.room
   pub lines : r ≤ ls.room + 1
   pub news : 0 < ns.room
 
-pub record IsReady (b : Bool) (r : ℕ) (ds : List DistrictRow) (os : Kept OrderRow) (ls : Kept OrderLineRow) (ns : Kept NewOrderRow) : Type 0 where
+pub record IsReady (b : Bool) (r : ℕ) (ds : List DistrictRow) (os : PartsView OrderRow) (ls : PartsView OrderLineRow) (ns : PartsView NewOrderRow) : Type 0 where
   pub parts : b ≡ true → IsOpen ds os ls ns
   pub opened : 0 < r → b ≡ true
   pub room : 0 < r → HasRoomForOrder r os ls ns
 
 -- parts while one is opened for each of the districts up to a place
-pub record IsOpening {T : Type 0} (old new : Kept T) (ds : List DistrictRow) (n : ℕ) : Type 0 where
+pub record IsOpening {T : Type 0} (old new : PartsView T) (ds : List DistrictRow) (n : ℕ) : Type 0 where
   pub rows : new.rows ≡ old.rows
   pub room : new.room ≡ old.room
   pub kept : (k : List ℕ) → has_owner old.owners k ≡ true → has_owner new.owners k ≡ true

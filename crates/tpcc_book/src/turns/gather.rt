@@ -16,7 +16,7 @@ use crate::turns::Turns;
 use crate::turns::boxed_book::BoxedBook;
 use crate::turns::knows::Knows;
 use crate::turns::seated::{SeatedPurse, Seating};
-use crate::turns::steps::{Board, Place};
+use crate::turns::steps::{Board, BoardSeat};
 use atomic_table::{Closed, Join};
 use std::alloc::Global;
 use tpcc_money::Cents;
@@ -57,7 +57,7 @@ impl<N: Naming, T: Seating> Turns<N, T> {
 fn join_all<N: Naming, T: Seating>(
     board: &Board<N>,
     purses: Vec<SeatedPurse<N, T>>,
-) -> Option<(Place<N>, Pool<N>)>
+) -> Option<(BoardSeat<N>, Pool<N>)>
     requires name { board.now.table_id ≡ T.table }
     requires words { board.now.table_id.words ≡ 2 }
     ensures none { IfNone result (purses.items ≡ []) }
@@ -84,7 +84,7 @@ fn join_all<N: Naming, T: Seating>(
 // Joins one purse's seat into another, and its shares into the pool.
 fn join<N: Naming, T: Seating>(
     board: &Board<N>,
-    seat: &mut Place<N>,
+    seat: &mut BoardSeat<N>,
     pool: &mut Pool<N>,
     purse: SeatedPurse<N, T>,
 )

@@ -11,7 +11,7 @@ use crate::register::Register;
 use crate::turns::Turns;
 use crate::turns::boxed_book::BoxedBook;
 use crate::turns::seated::{SeatedPurse, Seating};
-use crate::turns::steps::{Place, adopt, free, give, show, take};
+use crate::turns::steps::{BoardSeat, adopt, free, give, show, take};
 use std::marker::{Model, PhantomData};
 use std::sync::Wait;
 use tpcc_rows::Request;
@@ -23,7 +23,7 @@ pub struct HeldTurn<N: Naming, T: Seating> {
     /// The keeper's own purse; requests are served by those of others.
     purse: Purse<N>,
     /// The keeper's seat, which holds the book.
-    seat: Place<N>,
+    seat: BoardSeat<N>,
     /// The ticket that is served, modulo 2^64.
     ticket: u64,
     /// The book, out of its slot.

@@ -15,9 +15,9 @@ pub struct TurnRule<N> {
 }
 
 impl<N: Naming> TableRule<Option<BoxedBook<N>>, Knows, Opening> for TurnRule<N> {
-    ghost use Rattle.tpcc_book.specs.TurnRule.{IsTurning, first};
+    ghost use Rattle.tpcc_book.specs.TurnRule.{FollowsTurnRule, first};
 
-    ghost holds = { IsTurning };
+    ghost holds = { FollowsTurnRule };
 
     ghost first = { first };
 }

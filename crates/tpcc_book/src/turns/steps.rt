@@ -23,10 +23,10 @@ use tpcc_population::Opening;
 pub type Board<N> = Shared<Option<BoxedBook<N>>, Knows, Opening, TurnRule<N>>;
 
 /// A seat at the board.
-pub type Place<N> = Seat<Option<BoxedBook<N>>, Knows>;
+pub type BoardSeat<N> = Seat<Option<BoxedBook<N>>, Knows>;
 
 // Draws a ticket.
-fn draw<N: Naming>(board: &Board<N>, seat: &mut Place<N>) -> u64
+fn draw<N: Naming>(board: &Board<N>, seat: &mut BoardSeat<N>) -> u64
     requires fits { (seat.old.table_id ≡ board.now.table_id) × (board.now.table_id.words ≡ 2) }
     requires idle { (seat.old.me.0.stage ≡ Idle) × (0 < seat.old.me.0.parts) }
     ensures same { (seat.new.table_id ≡ seat.old.table_id) × (seat.new.id ≡ seat.old.id) }
@@ -36,7 +36,7 @@ fn draw<N: Naming>(board: &Board<N>, seat: &mut Place<N>) -> u64
 }
 
 // Looks until the ticket is served, and takes the book.
-fn wait<N: Naming, R: Wait>(rt: &R, board: &Board<N>, seat: &mut Place<N>, ticket: u64)
+fn wait<N: Naming, R: Wait>(rt: &R, board: &Board<N>, seat: &mut BoardSeat<N>, ticket: u64)
     requires fits { (seat.old.table_id ≡ board.now.table_id) × (board.now.table_id.words ≡ 2) }
     requires out { Awaits seat.old.me ticket }
     ensures same { (seat.new.table_id ≡ seat.old.table_id) × (seat.new.id ≡ seat.old.id) }
@@ -54,7 +54,7 @@ fn wait<N: Naming, R: Wait>(rt: &R, board: &Board<N>, seat: &mut Place<N>, ticke
 }
 
 // Ends the turn.
-fn end<N: Naming>(board: &Board<N>, seat: &mut Place<N>, next: u64)
+fn end<N: Naming>(board: &Board<N>, seat: &mut BoardSeat<N>, next: u64)
     requires fits { (seat.old.table_id ≡ board.now.table_id) × (board.now.table_id.words ≡ 2) }
     requires holds { CanEnd seat.old.me next }
     ensures same { (seat.new.table_id ≡ seat.old.table_id) × (seat.new.id ≡ seat.old.id) }
@@ -69,7 +69,7 @@ fn end<N: Naming>(board: &Board<N>, seat: &mut Place<N>, next: u64)
 pub(crate) fn take<N: Naming, R: Wait>(
     rt: &R,
     board: &Board<N>,
-    seat: &mut Place<N>,
+    seat: &mut BoardSeat<N>,
 ) -> (u64, BoxedBook<N>)
     requires fits { (seat.old.table_id ≡ board.now.table_id) × (board.now.table_id.words ≡ 2) }
     requires idle { (seat.old.me.0.stage ≡ Idle) × (0 < seat.old.me.0.parts)
@@ -100,7 +100,7 @@ fn put<B: Drop, V, K, P: TableRule<Option<B>, V, K>>(
 }
 
 /// Joins an idle seat into one that has the turn.
-pub(crate) fn adopt<N: Naming>(board: &Board<N>, seat: &mut Place<N>, other: Place<N>)
+pub(crate) fn adopt<N: Naming>(board: &Board<N>, seat: &mut BoardSeat<N>, other: BoardSeat<N>)
     requires fits { (seat.old.table_id ≡ board.now.table_id) × (board.now.table_id.words ≡ 2) }
     requires other { (other.table_id ≡ board.now.table_id) × (other.me.0.stage ≡ Idle)
         × (other.me.1 ≡ []) }
@@ -114,7 +114,7 @@ pub(crate) fn adopt<N: Naming>(board: &Board<N>, seat: &mut Place<N>, other: Pla
 /// Tells the turn's seat that the journal is that of the book, which comes back.
 pub(crate) fn show<N: Naming>(
     board: &Board<N>,
-    seat: &mut Place<N>,
+    seat: &mut BoardSeat<N>,
     book: BoxedBook<N>,
 ) -> BoxedBook<N>
     requires fits { (seat.old.table_id ≡ board.now.table_id) × (board.now.table_id.words ≡ 2) }
@@ -132,7 +132,7 @@ pub(crate) fn show<N: Naming>(
 }
 
 // Tells the turn's seat that the journal is that of the book in its slot.
-fn grow<N: Naming>(board: &Board<N>, seat: &mut Place<N>)
+fn grow<N: Naming>(board: &Board<N>, seat: &mut BoardSeat<N>)
     requires fits { (seat.old.table_id ≡ board.now.table_id) × (board.now.table_id.words ≡ 2) }
     requires grows { CanGrow seat.old.me }
     ensures same { (seat.new.table_id ≡ seat.old.table_id) × (seat.new.id ≡ seat.old.id) }
@@ -144,7 +144,7 @@ fn grow<N: Naming>(board: &Board<N>, seat: &mut Place<N>)
 }
 
 /// Splits off the seat that was joined last.
-pub(crate) fn free<N: Naming>(board: &Board<N>, seat: &mut Place<N>) -> Place<N>
+pub(crate) fn free<N: Naming>(board: &Board<N>, seat: &mut BoardSeat<N>) -> BoardSeat<N>
     requires fits { (seat.old.table_id ≡ board.now.table_id) × (board.now.table_id.words ≡ 2) }
     requires parts { (0 < last_parts seat.old.me.0.told)
         × (last_parts seat.old.me.0.told < seat.old.me.0.parts) }
@@ -159,7 +159,7 @@ pub(crate) fn free<N: Naming>(board: &Board<N>, seat: &mut Place<N>) -> Place<N>
 /// Gives the book back, and ends the turn.
 pub(crate) fn give<N: Naming>(
     board: &Board<N>,
-    seat: &mut Place<N>,
+    seat: &mut BoardSeat<N>,
     ticket: u64,
     book: BoxedBook<N>,
 )

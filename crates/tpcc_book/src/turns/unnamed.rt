@@ -10,7 +10,7 @@ use crate::turns::boxed_book::BoxedBook;
 use crate::turns::knows::Knows;
 use crate::turns::rule::TurnRule;
 use crate::turns::seated::{SeatedPurse, Seating};
-use crate::turns::steps::Place;
+use crate::turns::steps::BoardSeat;
 use atomic_table::{Refused, Table};
 use std::alloc::Global;
 use std::marker::Model;
@@ -24,7 +24,7 @@ pub struct UnnamedTurns<N: Naming> {
     /// Both words and the new book in its slot.
     table: Table<Option<BoxedBook<N>>, Knows, Opening, TurnRule<N>, Global>,
     /// The first seat, which has all parts.
-    seat: Place<N>,
+    seat: BoardSeat<N>,
     /// The book's first purse.
     purse: Purse<N>,
 }

@@ -11,7 +11,7 @@ use tpcc_rows::DistrictKey;
 
 /// The rows of one district.
 #[derive(Drop)]
-pub struct Part<T> {
+pub struct DistrictPart<T> {
     /// The district.
     pub owner: DistrictKey,
     /// Its rows, in ascending order of their keys.
@@ -19,7 +19,7 @@ pub struct Part<T> {
 }
 
 /// Puts a row at its place; refuses only for want of memory.
-pub fn put<T: Owned>(part: &mut Part<T>, row: T) -> Result<(), NoMemory>
+pub fn put<T: Owned>(part: &mut DistrictPart<T>, row: T) -> Result<(), NoMemory>
     requires keyed { is_ascending T.key part.old.rows.items ≡ true }
     ensures owner { part.new.owner ≡ part.old.owner }
     ensures put { OnOk result
@@ -34,7 +34,7 @@ pub fn put<T: Owned>(part: &mut Part<T>, row: T) -> Result<(), NoMemory>
 }
 
 /// Puts a row at its place, for which there is room.
-pub fn put_in_room<T: Owned>(part: &mut Part<T>, row: T)
+pub fn put_in_room<T: Owned>(part: &mut DistrictPart<T>, row: T)
     requires keyed { is_ascending T.key part.old.rows.items ≡ true }
     requires room { HasRoom 1 part.old }
     ensures owner { part.new.owner ≡ part.old.owner }
@@ -45,7 +45,7 @@ pub fn put_in_room<T: Owned>(part: &mut Part<T>, row: T)
 }
 
 /// Another row at a place.
-pub fn exchange<T: Owned>(part: &mut Part<T>, place: usize, row: T)
+pub fn exchange<T: Owned>(part: &mut DistrictPart<T>, place: usize, row: T)
     requires { place < length part.old.rows.items }
     ensures owner { part.new.owner ≡ part.old.owner }
     ensures rows { part.new.rows.items ≡ slice_set part.old.rows.items place row }
@@ -55,7 +55,7 @@ pub fn exchange<T: Owned>(part: &mut Part<T>, place: usize, row: T)
 }
 
 /// The row at a place taken out. There is room for as many rows as before it.
-pub fn take_out<T: Owned>(part: &mut Part<T>, place: usize)
+pub fn take_out<T: Owned>(part: &mut DistrictPart<T>, place: usize)
     requires { place < length part.old.rows.items }
     ensures owner { part.new.owner ≡ part.old.owner }
     ensures rows { part.new.rows.items ≡ remove part.old.rows.items place }

@@ -7,7 +7,7 @@ ghost use Rattle.tpcc_keyed.specs.Parts.{district_numbers};
 ghost use Rattle.tpcc_keyed.specs.PartWords.{is_part, part_numbers, IsOpened};
 
 use crate::keyed::Owned;
-use crate::parts::part::Part;
+use crate::parts::part::DistrictPart;
 use crate::parts::tail::Tail;
 use crate::places;
 use std::alloc::Global;
@@ -28,7 +28,7 @@ fn is_same(key: DistrictKey, other: DistrictKey) -> bool
 }
 
 /// The place of a district's part, where it stands at the place that the district's numbers tell.
-fn try_likely_place<T>(parts: &[Part<T>], owner: DistrictKey) -> Option<usize>
+fn try_likely_place<T>(parts: &[DistrictPart<T>], owner: DistrictKey) -> Option<usize>
     requires rising { is_ascending part_numbers parts.now ≡ true }
     ensures { IfSome result
         (λ place. Some place ≡ position (is_part (district_numbers owner)) parts.now) }
@@ -42,12 +42,12 @@ fn try_likely_place<T>(parts: &[Part<T>], owner: DistrictKey) -> Option<usize>
 }
 
 /// The place of a district's part, searched by halves.
-fn search_by_halves<T>(parts: &[Part<T>], owner: DistrictKey) -> Option<usize>
+fn search_by_halves<T>(parts: &[DistrictPart<T>], owner: DistrictKey) -> Option<usize>
     requires rising { is_ascending part_numbers parts.now ≡ true }
     ensures { result ≡ position (is_part (district_numbers owner)) parts.now }
 {
     let place = parts.partition_point(
-        |part: &Part<T>| -> bool
+        |part: &DistrictPart<T>| -> bool
             ensures { result ≡ key_before (part_numbers part.now) (district_numbers owner) }
         { is_before(part.owner, owner) },
     );
@@ -59,7 +59,7 @@ fn search_by_halves<T>(parts: &[Part<T>], owner: DistrictKey) -> Option<usize>
 }
 
 /// The place of a district's part: in one step where each district has a part.
-pub fn place_of<T>(parts: &[Part<T>], owner: DistrictKey) -> Option<usize>
+pub fn place_of<T>(parts: &[DistrictPart<T>], owner: DistrictKey) -> Option<usize>
     requires rising { is_ascending part_numbers parts.now ≡ true }
     ensures { result ≡ position (is_part (district_numbers owner)) parts.now }
 {
@@ -70,13 +70,13 @@ pub fn place_of<T>(parts: &[Part<T>], owner: DistrictKey) -> Option<usize>
 }
 
 /// How many parts stand before the first one of a later district.
-fn place_for<T>(parts: &[Part<T>], owner: DistrictKey) -> usize
+fn place_for<T>(parts: &[DistrictPart<T>], owner: DistrictKey) -> usize
     requires rising { is_ascending part_numbers parts.now ≡ true }
     ensures { result ≡ prefix_len
         (λ part. not (key_before (district_numbers owner) (part_numbers part))) parts.now }
 {
     parts.partition_point(
-        |part: &Part<T>| -> bool
+        |part: &DistrictPart<T>| -> bool
             ensures { result ≡ not (key_before (district_numbers owner) (part_numbers part.now)) }
         { !is_before(owner, part.owner) },
     )
@@ -84,7 +84,7 @@ fn place_for<T>(parts: &[Part<T>], owner: DistrictKey) -> usize
 
 /// A part for a district that has none, with room for so many rows.
 pub fn open_part<T: Owned>(
-    parts: &mut Vec<Part<T>>,
+    parts: &mut Vec<DistrictPart<T>>,
     owner: DistrictKey,
     room: usize,
     alloc: Global,
@@ -98,7 +98,7 @@ pub fn open_part<T: Owned>(
     };
     let place = place_for(parts.as_slice(), owner);
     let rows = Tail::of(rows);
-    let Ok(()) = parts.insert(place, Part { owner, rows }) else {
+    let Ok(()) = parts.insert(place, DistrictPart { owner, rows }) else {
         return Err(NoMemory);
     };
     Ok(())

@@ -6,7 +6,7 @@ ghost use Rattle.tpcc_keyed.specs.Parts.{district_numbers};
 ghost use Rattle.tpcc_keyed.specs.PartWords.{AreRead};
 
 use crate::keyed::Owned;
-use crate::parts::part::Part;
+use crate::parts::part::DistrictPart;
 use crate::parts::place::is_before;
 use crate::parts::tail::Tail;
 use std::alloc::Global;
@@ -28,7 +28,7 @@ fn run_len<T: Owned>(rows: &[T], owner: DistrictKey) -> usize
 
 /// One more part, of the rows from a place on that are of one district; gives the place after them.
 pub fn read_run<T: Owned>(
-    parts: &mut Vec<Part<T>>,
+    parts: &mut Vec<DistrictPart<T>>,
     rows: &[T],
     start: usize,
     alloc: Global,
@@ -45,7 +45,7 @@ pub fn read_run<T: Owned>(
         return Err(NoMemory);
     };
     let rows = Tail::of(run);
-    let Ok(()) = parts.push(Part { owner, rows }) else {
+    let Ok(()) = parts.push(DistrictPart { owner, rows }) else {
         return Err(NoMemory);
     };
     Ok(start + count)

@@ -1,6 +1,6 @@
 use Rattle.std.proofs.Common.{◌≡◌, ◌∙◌, sym, Some, arith}
 use Rattle.std.specs.Prelude.{slice_get}
-use Rattle.tpcc_delivery.proofs.Queue.{next_fits, moved_in_range}
+use Rattle.tpcc_delivery.proofs.Queues.{next_fits, moved_in_range}
 use Rattle.tpcc_delivery.proofs.waiting.Queue.advance.Goals as goal
 
 pub overflow_add-first : goal.overflow_add-first

@@ -1,7 +1,7 @@
 use Rattle.std.proofs.Common.{subst, sym, List}
 use Rattle.tpcc_rows.specs.declared.requests.QueuedTicket.{QueuedTicket}
 use Rattle.tpcc_rows.specs.WellKeyed.{IsQueueInRange}
-use Rattle.tpcc_delivery.proofs.Queue.{pushed_in_range}
+use Rattle.tpcc_delivery.proofs.Queues.{pushed_in_range}
 use Rattle.tpcc_delivery.proofs.waiting.Queue.push.Goals as goal
 
 pub invariant_of-self : goal.invariant_of-self

@@ -4,7 +4,7 @@ use Rattle.tpcc_rows.specs.declared.rows.OrderLineRow.{OrderLineRow}
 use Rattle.tpcc_rows.specs.Lists.{is_ascending, updated}
 use Rattle.tpcc_rows.specs.Tables.{is_line_of, order_line_key}
 use Rattle.tpcc_laws.proofs.List.{updated_absent}
-use Rattle.tpcc_keyed.specs.Parts.{Kept}
+use Rattle.tpcc_keyed.specs.Parts.{PartsView}
 use Rattle.tpcc_keyed.specs.PartWords.{is_part, HasRoom}
 use Rattle.tpcc_keyed.proofs.Line.{length_updated, line_asks, owns_updated}
 use Rattle.tpcc_keyed.proofs.Part.{no_row, part_found, part_owns, placed, rows_updated}
@@ -19,7 +19,7 @@ returns-in_default-clause-rows c =
     let none = no_row order_line_key c.self.inside.len c.self.inside.room parts c.self.invariant k (is_line_of c.args.warehouse c.args.district c.args.order) (line_asks c.args.warehouse c.args.district c.args.order)
     (placed (is_part k) c.as_slice.result.now parts c.place_of.result None c.as_slice.ensures.value c.place_of.ensures c.in_default.is) in
     sym (updated_absent (is_line_of c.args.warehouse c.args.district c.args.order) (λ (l : OrderLineRow). record l { delivered = Some c.args.moment }) c.args.self.now.rows
-    (ap (λ (t : Kept OrderLineRow). list_any (is_line_of c.args.warehouse c.args.district c.args.order) t.rows) (sym c.self.view_is) ∙ none))
+    (ap (λ (t : PartsView OrderLineRow). list_any (is_line_of c.args.warehouse c.args.district c.args.order) t.rows) (sym c.self.view_is) ∙ none))
 
 pub stamp-requires : goal.stamp-requires
 stamp-requires c =
@@ -27,7 +27,7 @@ stamp-requires c =
     let parts = c.self.inside.parts.items in
     let at = placed (is_part k) c.as_slice.result.now parts c.place_of.result (Some c.in-Some.place) c.as_slice.ensures.value c.place_of.ensures c.in-Some.is in
     record {
-      keyed = part_keyed order_line_key (is_part k) parts c.index_mut.result.now (ap (λ (t : Kept OrderLineRow). is_ascending order_line_key t.rows) c.self.view_is ∙ c.requires.keyed)
+      keyed = part_keyed order_line_key (is_part k) parts c.index_mut.result.now (ap (λ (t : PartsView OrderLineRow). is_ascending order_line_key t.rows) c.self.view_is ∙ c.requires.keyed)
           (part_found order_line_key c.self.inside.len c.self.inside.room parts c.self.invariant k c.in-Some.place c.index_mut.result.now at c.index_mut.ensures.value);
     }
 
@@ -54,9 +54,9 @@ returns-clause-rows c =
     let at = placed (is_part k) c.as_slice.result.now parts c.place_of.result (Some c.in-Some.place) c.as_slice.ensures.value c.place_of.ensures c.in-Some.is in
     let change = λ (l : OrderLineRow). record l { delivered = Some c.args.moment } in
     rows_updated order_line_key c.self.inside.len c.self.inside.room parts c.self.invariant k c.in-Some.place c.index_mut.result.now at c.index_mut.ensures.value c.stamp.new.part (is_line_of c.args.warehouse c.args.district c.args.order) change (line_asks c.args.warehouse c.args.district c.args.order) c.stamp.ensures.rows
-    ∙ ap (λ (t : Kept OrderLineRow). updated (is_line_of c.args.warehouse c.args.district c.args.order) change t.rows) c.self.view_is
+    ∙ ap (λ (t : PartsView OrderLineRow). updated (is_line_of c.args.warehouse c.args.district c.args.order) change t.rows) c.self.view_is
 
 pub returns-clause-owners : goal.returns-clause-owners
 returns-clause-owners c =
     owners_kept order_line_key c.self.inside.len c.self.inside.room c.self.inside.parts.items c.self.invariant c.in-Some.place c.index_mut.result.now c.stamp.new.part c.index_mut.ensures.value c.stamp.ensures.owner
-    ∙ ap (λ (t : Kept OrderLineRow). t.owners) c.self.view_is
+    ∙ ap (λ (t : PartsView OrderLineRow). t.owners) c.self.view_is

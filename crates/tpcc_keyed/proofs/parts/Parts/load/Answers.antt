@@ -1,6 +1,6 @@
 use Rattle.std.proofs.Common.{◌≡◌, ◌+◌, ◌∙◌, ap, sym, arith, length, Some}
 use Rattle.tpcc_rows.specs.Lists.{by_key, inserted, is_ascending}
-use Rattle.tpcc_keyed.specs.Parts.{Kept, district_numbers, has_owner}
+use Rattle.tpcc_keyed.specs.Parts.{PartsView, district_numbers, has_owner}
 use Rattle.tpcc_keyed.specs.PartWords.{is_part, HasRoom}
 use Rattle.tpcc_keyed.proofs.Owner.{on_err_any, part_placed}
 use Rattle.tpcc_keyed.proofs.Part.{part_found, part_is, part_owns, placed}
@@ -9,7 +9,7 @@ use Rattle.tpcc_keyed.proofs.parts.Parts.load.Goals as goal
 
 pub unwrap-place-requires : goal.unwrap-place-requires
 unwrap-place-requires g c =
-    part_placed c.self-2.inside.parts.items c.open.new.self.owners c.owner-2.result (district_numbers c.owner.result) c.as_slice.result.now c.place_of.result (ap (λ (t : Kept g.row.T.Denot). t.owners) c.self-2.view_is) c.in_ok-open.ensures.opened (c.owner-2.ensures ∙ sym c.owner.ensures) c.as_slice.ensures.value c.place_of.ensures
+    part_placed c.self-2.inside.parts.items c.open.new.self.owners c.owner-2.result (district_numbers c.owner.result) c.as_slice.result.now c.place_of.result (ap (λ (t : PartsView g.row.T.Denot). t.owners) c.self-2.view_is) c.in_ok-open.ensures.opened (c.owner-2.ensures ∙ sym c.owner.ensures) c.as_slice.ensures.value c.place_of.ensures
 
 pub put-requires : goal.put-requires
 put-requires g c =
@@ -18,7 +18,7 @@ put-requires g c =
     let at = placed (is_part k) c.as_slice.result.now parts c.place_of.result (Some c.unwrap-place.result) c.as_slice.ensures.value c.place_of.ensures c.unwrap-place.ensures in
     record {
       keyed = part_keyed g.T.Keyed.key (is_part k) parts c.index_mut.result.now
-          (ap (λ (t : Kept g.row.T.Denot). is_ascending g.T.Keyed.key t.rows) c.self-2.view_is ∙ ap (is_ascending g.T.Keyed.key) c.open.ensures.rows ∙ c.requires.keyed)
+          (ap (λ (t : PartsView g.row.T.Denot). is_ascending g.T.Keyed.key t.rows) c.self-2.view_is ∙ ap (is_ascending g.T.Keyed.key) c.open.ensures.rows ∙ c.requires.keyed)
           (part_found g.T.Keyed.key c.self-2.inside.len c.self-2.inside.room parts c.self-2.invariant k c.unwrap-place.result c.index_mut.result.now at c.index_mut.ensures.value);
     }
 
@@ -41,12 +41,12 @@ pub returns-in_err-put-clause-same : goal.returns-in_err-put-clause-same
 returns-in_err-put-clause-same g c =
     on_err_any c.from_residual-in_err-put.result
     (rows_same c.self-2.inside.parts.items c.unwrap-place.result c.index_mut.result.now c.put.new.part c.index_mut.ensures.value c.in_err-put.ensures.same
-    ∙ ap (λ (t : Kept g.row.T.Denot). t.rows) c.self-2.view_is ∙ c.open.ensures.rows)
+    ∙ ap (λ (t : PartsView g.row.T.Denot). t.rows) c.self-2.view_is ∙ c.open.ensures.rows)
 
 pub returns-in_err-put-clause-kept : goal.returns-in_err-put-clause-kept
 returns-in_err-put-clause-kept g c = λ k has.
     ap (λ owners. has_owner owners k) (owners_kept g.T.Keyed.key c.self-2.inside.len c.self-2.inside.room c.self-2.inside.parts.items c.self-2.invariant c.unwrap-place.result c.index_mut.result.now c.put.new.part c.index_mut.ensures.value c.put.ensures.owner)
-    ∙ ap (λ (t : Kept g.row.T.Denot). has_owner t.owners k) c.self-2.view_is
+    ∙ ap (λ (t : PartsView g.row.T.Denot). has_owner t.owners k) c.self-2.view_is
     ∙ c.open.ensures.kept k has
 
 pub invariant_of-self-2 : goal.invariant_of-self-2
@@ -59,7 +59,7 @@ invariant_of-self-2 g c =
     let numbers = part_is g.T.Keyed.key c.self-2.inside.len c.self-2.inside.room parts c.self-2.invariant k c.unwrap-place.result c.index_mut.result.now at c.index_mut.ensures.value in
     let longer : length c.put.new.part.rows.items ≡ length c.index_mut.result.now.rows.items + 1 = ap length c.in_ok-put.ensures.put ∙ length_inserted (by_key g.T.Keyed.key) c.args.row c.index_mut.result.now.rows.items in
     let all = length_set parts c.unwrap-place.result c.index_mut.result.now c.put.new.part within c.index_mut.ensures.value in
-    let count : c.self-2.inside.len ≡ c.self.inside.len = c.self-2.invariant.counted ∙ ap (λ (t : Kept g.row.T.Denot). length t.rows) c.self-2.view_is ∙ ap length c.open.ensures.rows ∙ sym (c.self.invariant.counted ∙ ap (λ (t : Kept g.row.T.Denot). length t.rows) c.self.view_is) in
+    let count : c.self-2.inside.len ≡ c.self.inside.len = c.self-2.invariant.counted ∙ ap (λ (t : PartsView g.row.T.Denot). length t.rows) c.self-2.view_is ∙ ap length c.open.ensures.rows ∙ sym (c.self.invariant.counted ∙ ap (λ (t : PartsView g.row.T.Denot). length t.rows) c.self.view_is) in
     parts_kept g.T.Keyed.key c.self-2.inside.len c.self-2.inside.room parts c.self-2.invariant c.unwrap-place.result c.index_mut.result.now c.put.new.part c.index_mut.ensures.value c.put.ensures.owner
     (c.self-2.inside.len + 1) 0 (omega arith) (omega (arith, count, c.if-self.false, c.self.invariant.bound)) (omega (arith, longer, all, c.self-2.invariant.counted))
     (owns_inserted g.T.Keyed.key c.index_mut.result.now c.put.new.part c.put.ensures.owner own c.args.row (sym c.owner-2.ensures ∙ sym numbers) c.in_ok-put.ensures.put)
@@ -71,11 +71,11 @@ returns-clause-loaded g c =
     let parts = c.self-2.inside.parts.items in
     let at = placed (is_part k) c.as_slice.result.now parts c.place_of.result (Some c.unwrap-place.result) c.as_slice.ensures.value c.place_of.ensures c.unwrap-place.ensures in
     rows_inserted g.T.Keyed.key c.args.row k (sym c.owner-2.ensures) c.self-2.inside.len c.self-2.inside.room parts c.self-2.invariant c.unwrap-place.result c.index_mut.result.now at c.index_mut.ensures.value c.put.new.part c.in_ok-put.ensures.put
-    ∙ ap (λ (t : Kept g.row.T.Denot). inserted (by_key g.T.Keyed.key) c.args.row t.rows) c.self-2.view_is
+    ∙ ap (λ (t : PartsView g.row.T.Denot). inserted (by_key g.T.Keyed.key) c.args.row t.rows) c.self-2.view_is
     ∙ ap (inserted (by_key g.T.Keyed.key) c.args.row) c.open.ensures.rows
 
 pub returns-clause-kept : goal.returns-clause-kept
 returns-clause-kept g c = λ k has.
     ap (λ owners. has_owner owners k) (owners_kept g.T.Keyed.key c.self-2.inside.len c.self-2.inside.room c.self-2.inside.parts.items c.self-2.invariant c.unwrap-place.result c.index_mut.result.now c.put.new.part c.index_mut.ensures.value c.put.ensures.owner)
-    ∙ ap (λ (t : Kept g.row.T.Denot). has_owner t.owners k) c.self-2.view_is
+    ∙ ap (λ (t : PartsView g.row.T.Denot). has_owner t.owners k) c.self-2.view_is
     ∙ c.open.ensures.kept k has

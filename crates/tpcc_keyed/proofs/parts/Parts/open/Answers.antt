@@ -2,8 +2,8 @@ use Rattle.std.proofs.Common.{◌∙◌, ap, sym, map}
 use Rattle.std.specs.Prelude.{flat_map}
 use Rattle.std.specs.List.{list_any}
 use Rattle.std.proofs.Common.{subst, List}
-use Rattle.tpcc_keyed.specs.declared.parts.part.Part.{Part}
-use Rattle.tpcc_keyed.specs.Parts.{Kept, district_numbers, has_owner}
+use Rattle.tpcc_keyed.specs.declared.parts.part.DistrictPart.{DistrictPart}
+use Rattle.tpcc_keyed.specs.Parts.{PartsView, district_numbers, has_owner}
 use Rattle.tpcc_keyed.specs.PartWords.{rows_in, owner_of, is_part, AreParts}
 use Rattle.tpcc_keyed.proofs.Open.{owner_opened, owners_opened, parts_opened, rows_opened}
 use Rattle.tpcc_keyed.proofs.Owner.{no_place, on_either, on_ok_then, owner_is_part, placed_any}
@@ -12,7 +12,7 @@ use Rattle.tpcc_keyed.proofs.parts.Parts.open.Goals as goal
 pub returns-then-is_some-clause-opened : goal.returns-then-is_some-clause-opened
 returns-then-is_some-clause-opened g c =
     let k = district_numbers c.args.owner in
-    sym (ap (λ (t : Kept g.row.T.Denot). has_owner t.owners k) c.self.view_is)
+    sym (ap (λ (t : PartsView g.row.T.Denot). has_owner t.owners k) c.self.view_is)
     ∙ owner_is_part c.self.inside.parts.items k
     ∙ sym (ap (list_any (is_part k)) c.as_slice.ensures.value)
     ∙ placed_any (is_part k) c.as_slice.result.now c.place_of.result c.place_of.ensures (sym c.is_some.ensures ∙ c.if-is_some.true)
@@ -31,14 +31,14 @@ returns-clause-rows g c =
     on_either c.open_part.result c.open_part.ensures.opened c.open_part.ensures.same
     (λ opened. rows_opened c.args.owner c.self.inside.room c.self.inside.parts.items c.open_part.new.parts.items opened)
     (λ same. ap (flat_map rows_in) same)
-    ∙ ap (λ (t : Kept g.row.T.Denot). t.rows) c.self.view_is
+    ∙ ap (λ (t : PartsView g.row.T.Denot). t.rows) c.self.view_is
 
 pub returns-clause-kept : goal.returns-clause-kept
 returns-clause-kept g c = λ k has.
-    let had = ap (λ (t : Kept g.row.T.Denot). has_owner t.owners k) c.self.view_is ∙ has in
+    let had = ap (λ (t : PartsView g.row.T.Denot). has_owner t.owners k) c.self.view_is ∙ has in
     on_either c.open_part.result c.open_part.ensures.opened c.open_part.ensures.same
     (λ opened. owners_opened c.args.owner c.self.inside.room c.self.inside.parts.items c.open_part.new.parts.items opened k had)
-    (λ same. ap (λ (parts : List (Part g.row.T.Denot)). has_owner (map owner_of parts) k) same ∙ had)
+    (λ same. ap (λ (parts : List (DistrictPart g.row.T.Denot)). has_owner (map owner_of parts) k) same ∙ had)
 
 pub returns-clause-opened : goal.returns-clause-opened
 returns-clause-opened g c =

@@ -1,6 +1,6 @@
 use Rattle.std.proofs.Common.{◌∙◌, ap, sym, Some, None, filter}
 use Rattle.std.specs.Prelude.{flat_map}
-use Rattle.tpcc_keyed.specs.Parts.{Kept, district_numbers, is_of}
+use Rattle.tpcc_keyed.specs.Parts.{PartsView, district_numbers, is_of}
 use Rattle.tpcc_keyed.specs.PartWords.{rows_in, is_part}
 use Rattle.tpcc_keyed.proofs.Flat.{no_rows}
 use Rattle.tpcc_keyed.proofs.Part.{asks_district, no_row, part_is, part_owns, placed, rows_chosen, whole_part}
@@ -13,7 +13,7 @@ returns-in_default g c =
     sym (no_rows rows_in (is_part k) (λ row. is_of c.args.owner (g.T.Keyed.key row)) (flat_map rows_in parts)
     (no_row g.T.Keyed.key c.self.inside.len c.self.inside.room parts c.self.invariant k (λ row. is_of c.args.owner (g.T.Keyed.key row)) (asks_district g.T.Keyed.key c.args.owner)
     (placed (is_part k) c.as_slice.result.now parts c.place_of.result None c.as_slice.ensures.value c.place_of.ensures c.in_default.is)))
-    ∙ ap (λ (t : Kept g.row.T.Denot). filter (λ row. is_of c.args.owner (g.T.Keyed.key row)) t.rows) c.self.view_is
+    ∙ ap (λ (t : PartsView g.row.T.Denot). filter (λ row. is_of c.args.owner (g.T.Keyed.key row)) t.rows) c.self.view_is
 
 pub returns : goal.returns
 returns g c =
@@ -26,4 +26,4 @@ returns g c =
     (part_is g.T.Keyed.key c.self.inside.len c.self.inside.room parts c.self.invariant k c.in-Some.place c.index.result.now at c.index.ensures))
     ∙ sym (rows_chosen g.T.Keyed.key c.self.inside.len c.self.inside.room parts c.self.invariant k c.in-Some.place c.index.result.now at
     c.index.ensures (λ row. is_of c.args.owner (g.T.Keyed.key row)) (asks_district g.T.Keyed.key c.args.owner))
-    ∙ ap (λ (t : Kept g.row.T.Denot). filter (λ row. is_of c.args.owner (g.T.Keyed.key row)) t.rows) c.self.view_is
+    ∙ ap (λ (t : PartsView g.row.T.Denot). filter (λ row. is_of c.args.owner (g.T.Keyed.key row)) t.rows) c.self.view_is

@@ -3,9 +3,9 @@ use Rattle.std.specs.Prelude.{take}
 use Rattle.std.specs.List.{list_any}
 use Rattle.tpcc_rows.specs.Lists.{is_ascending, updated}
 use Rattle.tpcc_laws.proofs.List.{updated_absent}
-use Rattle.tpcc_keyed.specs.declared.parts.part.Part.{Part}
+use Rattle.tpcc_keyed.specs.declared.parts.part.DistrictPart.{DistrictPart}
 use Rattle.tpcc_keyed.specs.Searches.{is_same_key}
-use Rattle.tpcc_keyed.specs.Parts.{Kept, district_numbers}
+use Rattle.tpcc_keyed.specs.Parts.{PartsView, district_numbers}
 use Rattle.tpcc_keyed.specs.PartWords.{is_part, HasRoom}
 use Rattle.tpcc_keyed.proofs.Owner.{same_there}
 use Rattle.tpcc_keyed.proofs.Part.{asks_key, no_row, no_row_there, part_found, part_is, part_owns, placed, rows_updated}
@@ -19,7 +19,7 @@ returns-in_default-clause-rows g c =
     let numbers = g.T.Keyed.numbers c.args.key.now in
     let none = no_row g.T.Keyed.key c.self.inside.len c.self.inside.room parts c.self.invariant k (λ row. is_same_key (g.T.Keyed.key row) numbers) (asks_key g.T.Keyed.key numbers k c.owner_of.ensures)
     (placed (is_part k) c.as_slice.result.now parts c.place_of.result None c.as_slice.ensures.value c.place_of.ensures c.in_default.is) in
-    sym (updated_absent (λ row. is_same_key (g.T.Keyed.key row) numbers) (λ old. c.args.row) c.args.self.now.rows (ap (λ (t : Kept g.row.T.Denot). list_any (λ row. is_same_key (g.T.Keyed.key row) numbers) t.rows) (sym c.self.view_is) ∙ none))
+    sym (updated_absent (λ row. is_same_key (g.T.Keyed.key row) numbers) (λ old. c.args.row) c.args.self.now.rows (ap (λ (t : PartsView g.row.T.Denot). list_any (λ row. is_same_key (g.T.Keyed.key row) numbers) t.rows) (sym c.self.view_is) ∙ none))
 
 pub place_of-requires-2 : goal.place_of-requires-2
 place_of-requires-2 g c =
@@ -29,7 +29,7 @@ place_of-requires-2 g c =
     let at = placed (is_part k) c.as_slice.result.now parts c.place_of.result (Some c.in-Some.place) c.as_slice.ensures.value c.place_of.ensures c.in-Some.is in
     record {
       keyed = ap (is_ascending g.T.Keyed.key) c.as_slice-2.ensures.value
-          ∙ part_keyed g.T.Keyed.key (is_part k) parts c.index.result.now (ap (λ (t : Kept g.row.T.Denot). is_ascending g.T.Keyed.key t.rows) c.self.view_is ∙ c.requires.keyed)
+          ∙ part_keyed g.T.Keyed.key (is_part k) parts c.index.result.now (ap (λ (t : PartsView g.row.T.Denot). is_ascending g.T.Keyed.key t.rows) c.self.view_is ∙ c.requires.keyed)
           (part_found g.T.Keyed.key c.self.inside.len c.self.inside.room parts c.self.invariant k c.in-Some.place c.index.result.now at c.index.ensures);
     }
 
@@ -41,7 +41,7 @@ returns-in_default-place_of-clause-rows g c =
     let at = placed (is_part k) c.as_slice.result.now parts c.place_of.result (Some c.in-Some.place) c.as_slice.ensures.value c.place_of.ensures c.in-Some.is in
     let none = no_row_there g.T.Keyed.key c.self.inside.len c.self.inside.room parts c.self.invariant k c.in-Some.place c.index.result.now at c.index.ensures (λ row. is_same_key (g.T.Keyed.key row) numbers) (asks_key g.T.Keyed.key numbers k c.owner_of.ensures)
     (placed (λ row. is_same_key (g.T.Keyed.key row) numbers) c.as_slice-2.result.now c.index.result.now.rows.items c.place_of-2.result None c.as_slice-2.ensures.value c.place_of-2.ensures c.in_default-place_of.is) in
-    sym (updated_absent (λ row. is_same_key (g.T.Keyed.key row) numbers) (λ old. c.args.row) c.args.self.now.rows (ap (λ (t : Kept g.row.T.Denot). list_any (λ row. is_same_key (g.T.Keyed.key row) numbers) t.rows) (sym c.self.view_is) ∙ none))
+    sym (updated_absent (λ row. is_same_key (g.T.Keyed.key row) numbers) (λ old. c.args.row) c.args.self.now.rows (ap (λ (t : PartsView g.row.T.Denot). list_any (λ row. is_same_key (g.T.Keyed.key row) numbers) t.rows) (sym c.self.view_is) ∙ none))
 
 pub invariant_of-self : goal.invariant_of-self
 invariant_of-self g c =
@@ -50,7 +50,7 @@ invariant_of-self g c =
     let numbers = g.T.Keyed.numbers c.args.key.now in
     let at = placed (is_part k) c.as_slice.result.now parts c.place_of.result (Some c.in-Some.place) c.as_slice.ensures.value c.place_of.ensures c.in-Some.is in
     let same = same_there (is_part k) parts c.in-Some.place c.index.result.now c.index_mut.result.now at c.index.ensures c.index_mut.ensures.value in
-    let line = placed (λ row. is_same_key (g.T.Keyed.key row) numbers) c.as_slice-2.result.now c.index_mut.result.now.rows.items c.place_of-2.result (Some c.in-Some-place_of.line) (c.as_slice-2.ensures.value ∙ ap (λ (p : Part g.row.T.Denot). p.rows.items) same) c.place_of-2.ensures c.in-Some-place_of.is in
+    let line = placed (λ row. is_same_key (g.T.Keyed.key row) numbers) c.as_slice-2.result.now c.index_mut.result.now.rows.items c.place_of-2.result (Some c.in-Some-place_of.line) (c.as_slice-2.ensures.value ∙ ap (λ (p : DistrictPart g.row.T.Denot). p.rows.items) same) c.place_of-2.ensures c.in-Some-place_of.is in
     let within = line_within (is_part k) parts c.in-Some.place at in
     let own = part_owns g.T.Keyed.key c.self.inside.len c.self.inside.room parts c.self.invariant k c.in-Some.place c.index_mut.result.now at c.index_mut.ensures.value in
     let numbered = part_is g.T.Keyed.key c.self.inside.len c.self.inside.room parts c.self.invariant k c.in-Some.place c.index_mut.result.now at c.index_mut.ensures.value in
@@ -69,14 +69,14 @@ returns-clause-rows g c =
     let numbers = g.T.Keyed.numbers c.args.key.now in
     let at = placed (is_part k) c.as_slice.result.now parts c.place_of.result (Some c.in-Some.place) c.as_slice.ensures.value c.place_of.ensures c.in-Some.is in
     let same = same_there (is_part k) parts c.in-Some.place c.index.result.now c.index_mut.result.now at c.index.ensures c.index_mut.ensures.value in
-    let line = placed (λ row. is_same_key (g.T.Keyed.key row) numbers) c.as_slice-2.result.now c.index_mut.result.now.rows.items c.place_of-2.result (Some c.in-Some-place_of.line) (c.as_slice-2.ensures.value ∙ ap (λ (p : Part g.row.T.Denot). p.rows.items) same) c.place_of-2.ensures c.in-Some-place_of.is in
-    let keyed = part_keyed g.T.Keyed.key (is_part k) parts c.index_mut.result.now (ap (λ (t : Kept g.row.T.Denot). is_ascending g.T.Keyed.key t.rows) c.self.view_is ∙ c.requires.keyed)
+    let line = placed (λ row. is_same_key (g.T.Keyed.key row) numbers) c.as_slice-2.result.now c.index_mut.result.now.rows.items c.place_of-2.result (Some c.in-Some-place_of.line) (c.as_slice-2.ensures.value ∙ ap (λ (p : DistrictPart g.row.T.Denot). p.rows.items) same) c.place_of-2.ensures c.in-Some-place_of.is in
+    let keyed = part_keyed g.T.Keyed.key (is_part k) parts c.index_mut.result.now (ap (λ (t : PartsView g.row.T.Denot). is_ascending g.T.Keyed.key t.rows) c.self.view_is ∙ c.requires.keyed)
     (part_found g.T.Keyed.key c.self.inside.len c.self.inside.room parts c.self.invariant k c.in-Some.place c.index_mut.result.now at c.index_mut.ensures.value) in
     rows_updated g.T.Keyed.key c.self.inside.len c.self.inside.room parts c.self.invariant k c.in-Some.place c.index_mut.result.now at c.index_mut.ensures.value c.exchange.new.part (λ row. is_same_key (g.T.Keyed.key row) numbers) (λ old. c.args.row) (asks_key g.T.Keyed.key numbers k c.owner_of.ensures)
     (c.exchange.ensures.rows ∙ row_exchanged g.T.Keyed.key numbers c.index_mut.result.now.rows.items c.in-Some-place_of.line c.args.row keyed line)
-    ∙ ap (λ (t : Kept g.row.T.Denot). updated (λ row. is_same_key (g.T.Keyed.key row) numbers) (λ old. c.args.row) t.rows) c.self.view_is
+    ∙ ap (λ (t : PartsView g.row.T.Denot). updated (λ row. is_same_key (g.T.Keyed.key row) numbers) (λ old. c.args.row) t.rows) c.self.view_is
 
 pub returns-clause-owners : goal.returns-clause-owners
 returns-clause-owners g c =
     owners_kept g.T.Keyed.key c.self.inside.len c.self.inside.room c.self.inside.parts.items c.self.invariant c.in-Some.place c.index_mut.result.now c.exchange.new.part c.index_mut.ensures.value c.exchange.ensures.owner
-    ∙ ap (λ (t : Kept g.row.T.Denot). t.owners) c.self.view_is
+    ∙ ap (λ (t : PartsView g.row.T.Denot). t.owners) c.self.view_is

@@ -1,5 +1,5 @@
 use Rattle.std.proofs.Common.{◌∙◌, ap, arith}
-use Rattle.tpcc_keyed.specs.Parts.{Kept}
+use Rattle.tpcc_keyed.specs.Parts.{PartsView}
 use Rattle.tpcc_keyed.proofs.Open.{owners_shown, parts_shown, rows_shown}
 use Rattle.tpcc_keyed.proofs.parts.Parts.reserve.Goals as goal
 
@@ -10,11 +10,11 @@ invariant_of-self g c =
 
 pub returns-in_err-grow_all-clause-rows : goal.returns-in_err-grow_all-clause-rows
 returns-in_err-grow_all-clause-rows g c =
-    rows_shown c.self.inside.parts.items c.grow_all.new.parts.items c.grow_all.ensures.same ∙ ap (λ (t : Kept g.row.T.Denot). t.rows) c.self.view_is
+    rows_shown c.self.inside.parts.items c.grow_all.new.parts.items c.grow_all.ensures.same ∙ ap (λ (t : PartsView g.row.T.Denot). t.rows) c.self.view_is
 
 pub returns-in_err-grow_all-clause-owners : goal.returns-in_err-grow_all-clause-owners
 returns-in_err-grow_all-clause-owners g c =
-    owners_shown c.self.inside.parts.items c.grow_all.new.parts.items c.grow_all.ensures.same ∙ ap (λ (t : Kept g.row.T.Denot). t.owners) c.self.view_is
+    owners_shown c.self.inside.parts.items c.grow_all.new.parts.items c.grow_all.ensures.same ∙ ap (λ (t : PartsView g.row.T.Denot). t.owners) c.self.view_is
 
 pub invariant_of-self-2 : goal.invariant_of-self-2
 invariant_of-self-2 g c =
@@ -23,8 +23,8 @@ invariant_of-self-2 g c =
 
 pub returns-clause-rows : goal.returns-clause-rows
 returns-clause-rows g c =
-    rows_shown c.self.inside.parts.items c.grow_all.new.parts.items c.grow_all.ensures.same ∙ ap (λ (t : Kept g.row.T.Denot). t.rows) c.self.view_is
+    rows_shown c.self.inside.parts.items c.grow_all.new.parts.items c.grow_all.ensures.same ∙ ap (λ (t : PartsView g.row.T.Denot). t.rows) c.self.view_is
 
 pub returns-clause-owners : goal.returns-clause-owners
 returns-clause-owners g c =
-    owners_shown c.self.inside.parts.items c.grow_all.new.parts.items c.grow_all.ensures.same ∙ ap (λ (t : Kept g.row.T.Denot). t.owners) c.self.view_is
+    owners_shown c.self.inside.parts.items c.grow_all.new.parts.items c.grow_all.ensures.same ∙ ap (λ (t : PartsView g.row.T.Denot). t.owners) c.self.view_is

@@ -4,7 +4,7 @@ use Rattle.std.specs.List.{prefix_len}
 use Rattle.std.proofs.lemmas.List.Sums.{prefix_len-le-length}
 use Rattle.tpcc_rows.specs.Lists.{by_key, key_before}
 use Rattle.tpcc_laws.proofs.Body.{insert_is_inserted}
-use Rattle.tpcc_keyed.specs.declared.parts.part.Part.{Part}
+use Rattle.tpcc_keyed.specs.declared.parts.part.DistrictPart.{DistrictPart}
 use Rattle.tpcc_keyed.specs.Parts.{district_numbers}
 use Rattle.tpcc_keyed.specs.PartWords.{part_numbers}
 use Rattle.tpcc_keyed.proofs.parts.place.open_part.Goals as goal
@@ -16,7 +16,7 @@ insert-requires g c =
 
 pub returns-clause-opened : goal.returns-clause-opened
 returns-clause-opened g c =
-    let part : Part g.row.T.Denot = record { owner = c.args.owner; rows = c.of-rows.result } in
+    let part : DistrictPart g.row.T.Denot = record { owner = c.args.owner; rows = c.of-rows.result } in
     let place = c.place_for-place.ensures ∙ ap (prefix_len (λ part. not (key_before (district_numbers c.args.owner) (part_numbers part)))) c.as_slice.ensures.value in
     record {
       part = part;

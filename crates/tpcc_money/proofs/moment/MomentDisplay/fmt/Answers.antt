@@ -2,7 +2,7 @@ use Rattle.std.proofs.Common.{◌≡◌, sym, arith}
 use Rattle.std.specs.Prelude.{unsigned_abs}
 use Rattle.std.proofs.lemmas.Int.{ints}
 use Rattle.tpcc_money.proofs.Digit.{padded_integral-zeros}
-use Rattle.tpcc_money.proofs.Moment.{civil_text, text_is}
+use Rattle.tpcc_money.proofs.Moments.{civil_text, text_is}
 use Rattle.tpcc_money.specs.Texts.{moment_text}
 use Rattle.tpcc_money.proofs.moment.MomentDisplay.fmt.Goals as goal
 

@@ -2,7 +2,7 @@ use Rattle.std.proofs.Common.{◌∙◌, sym}
 use Rattle.tpcc_laws.proofs.PaymentFacts.{payment_facts}
 use Rattle.tpcc_payment.proofs.Prepare.{chosen_is}
 use Rattle.tpcc_payment.proofs.Refusal.{copy_is_some, look_up_is_some}
-use Rattle.tpcc_payment.proofs.named_rows.named_rows.Goals as goal
+use Rattle.tpcc_payment.proofs.payment_rows.named_rows.Goals as goal
 
 pub unwrap-requires : goal.unwrap-requires
 unwrap-requires c =

@@ -1,7 +1,7 @@
 use Rattle.tpcc_rows.specs.NewOrder.{order_refusal_by_input}
 use Rattle.tpcc_laws.proofs.TurnKeeps.{first_none}
 use Rattle.tpcc_new_order.proofs.Refusal.{copy_is_some, there, rows_there}
-use Rattle.tpcc_new_order.proofs.named_rows.named_rows.Goals as goal
+use Rattle.tpcc_new_order.proofs.order_rows.named_rows.Goals as goal
 
 pub unwrap-requires : goal.unwrap-requires
 unwrap-requires c = there c.warehouse.result _ c.warehouse.ensures (rows_there c.args.tables.now.rows c.args.order.now c.requires.accepted).0

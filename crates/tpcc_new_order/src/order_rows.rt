@@ -12,7 +12,7 @@ use tpcc_tables::Tables;
 
 /// The rows that an order names.
 #[derive(Drop)]
-pub struct NamedRows<'a> {
+pub struct OrderRows<'a> {
     /// The WAREHOUSE row.
     pub warehouse: &'a WarehouseRow,
     /// The DISTRICT row.
@@ -63,7 +63,7 @@ fn line_refusal(tables: &Tables, lines: &[Line]) -> Option<Refusal>
 }
 
 /// The rows of an order whose input nothing refuses.
-pub fn rows_of_order<'a>(tables: &'a Tables, order: &Order) -> Result<NamedRows<'a>, Refusal>
+pub fn rows_of_order<'a>(tables: &'a Tables, order: &Order) -> Result<OrderRows<'a>, Refusal>
     ensures ok { IfOk result (IsNamed tables.now.rows order.now) }
     ensures err { IfErr result (λ refusal.
         order_refusal_by_input tables.now.rows order.now ≡ Some refusal) }
@@ -79,7 +79,7 @@ pub fn rows_of_order<'a>(tables: &'a Tables, order: &Order) -> Result<NamedRows<
     };
     match line_refusal(tables, order.lines.as_slice()) {
         Some(refusal) => Err(refusal),
-        None => Ok(NamedRows {
+        None => Ok(OrderRows {
             warehouse,
             district,
             customer,
@@ -88,11 +88,11 @@ pub fn rows_of_order<'a>(tables: &'a Tables, order: &Order) -> Result<NamedRows<
 }
 
 /// The rows of an order that nothing refuses.
-pub fn named_rows<'a>(tables: &'a Tables, order: &Order) -> NamedRows<'a>
+pub fn named_rows<'a>(tables: &'a Tables, order: &Order) -> OrderRows<'a>
     requires accepted { order_refusal tables.now.rows order.now ≡ None }
     ensures { IsNamed tables.now.rows order.now result }
 {
-    NamedRows {
+    OrderRows {
         warehouse: tables.warehouse(order.warehouse).unwrap(),
         district: tables.district(order.warehouse, order.district).unwrap(),
         customer: tables

@@ -2,7 +2,7 @@ use Rattle.std.proofs.Common.{◌∙◌, sym}
 use Rattle.tpcc_rows.specs.Tables.{find_warehouse, find_district}
 use Rattle.tpcc_rows.specs.ChosenCustomer.{chosen_customer}
 use Rattle.tpcc_payment.proofs.Refusal.{first_warehouse, second_warehouse, first_district, second_district, customer_missing, by_ranges, copy_is_some, copied_none, is_missing, is_there}
-use Rattle.tpcc_payment.proofs.named_rows.rows_of_payment.Goals as goal
+use Rattle.tpcc_payment.proofs.payment_rows.rows_of_payment.Goals as goal
 
 pub returns-in_default-clause-err : goal.returns-in_default-clause-err
 returns-in_default-clause-err c = first_warehouse c.args.tables.now.rows c.args.payment.now (copied_none _ _ c.warehouse.ensures c.in_default.is)

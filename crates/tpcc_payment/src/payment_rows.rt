@@ -12,7 +12,7 @@ use tpcc_tables::Tables;
 
 /// The rows that a payment names.
 #[derive(Drop)]
-pub struct NamedRows<'a> {
+pub struct PaymentRows<'a> {
     /// The WAREHOUSE row.
     pub warehouse: &'a WarehouseRow,
     /// The DISTRICT row.
@@ -43,7 +43,7 @@ fn chosen_customer<'a>(tables: &'a Tables, payment: &Payment) -> Option<&'a Cust
 }
 
 /// The rows of a payment that nothing refuses.
-pub fn rows_of_payment<'a>(tables: &'a Tables, payment: &Payment) -> Result<NamedRows<'a>, Refusal>
+pub fn rows_of_payment<'a>(tables: &'a Tables, payment: &Payment) -> Result<PaymentRows<'a>, Refusal>
     ensures ok { IfOk result (IsNamed tables.now.rows payment.now) }
     ensures err { IfErr result (λ refusal.
         payment_refusal tables.now.rows payment.now ≡ Some refusal) }
@@ -66,7 +66,7 @@ pub fn rows_of_payment<'a>(tables: &'a Tables, payment: &Payment) -> Result<Name
     let Some(customer) = chosen_customer(tables, payment) else {
         return Err(Refusal::NoCustomer);
     };
-    let named = NamedRows {
+    let named = PaymentRows {
         warehouse,
         district,
         customer,
@@ -78,14 +78,14 @@ pub fn rows_of_payment<'a>(tables: &'a Tables, payment: &Payment) -> Result<Name
 }
 
 /// The rows of a payment that nothing refuses, whose customer has that key.
-pub fn named_rows<'a>(tables: &'a Tables, payment: &Payment, key: CustomerKey) -> NamedRows<'a>
+pub fn named_rows<'a>(tables: &'a Tables, payment: &Payment, key: CustomerKey) -> PaymentRows<'a>
     requires accepted { payment_refusal tables.now.rows payment.now ≡ None }
     requires customer { find_customer tables.now.rows key.warehouse key.district key.customer
         ≡ Some (paying_customer tables.now.rows payment.now) }
     ensures { IsNamed tables.now.rows payment.now result }
 {
     tables.well_keyed();
-    NamedRows {
+    PaymentRows {
         warehouse: tables.warehouse(payment.warehouse).unwrap(),
         district: tables
             .district(payment.warehouse, payment.district)

@@ -2,7 +2,7 @@ use Rattle.std.proofs.Common.{◌∙◌, sym, ap}
 use Rattle.tpcc_rows.specs.Lists.{first_finding}
 use Rattle.tpcc_new_order.specs.Tests.{line_tests}
 use Rattle.tpcc_new_order.proofs.Refusal.{warehouse_missing, district_missing, customer_missing, by_lines, copy_is_some, copied_none}
-use Rattle.tpcc_new_order.proofs.named_rows.rows_of_order.Goals as goal
+use Rattle.tpcc_new_order.proofs.order_rows.rows_of_order.Goals as goal
 
 pub returns-in_default-clause-err : goal.returns-in_default-clause-err
 returns-in_default-clause-err c = warehouse_missing c.args.tables.now.rows c.args.order.now (copied_none _ _ c.warehouse.ensures c.in_default.is)
