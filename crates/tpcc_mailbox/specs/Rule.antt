@@ -4,6 +4,8 @@ use mathlib.Core.Option.{some}
 use mathlib.Core.Option as maybe
 use lib.ListN.{get_elem?}
 use Rattle.atomic_table.specs.Table.{State}
+use Rattle.atomic_table.specs.Seated.{TableId}
+use Rattle.tpcc_mailbox.specs.declared.table.TheConstants.{MOST_MAILBOXES}
 use Rattle.atomic_table.specs.declared.shared.Seat.{Seat}
 use Rattle.tpcc_mailbox.specs.declared.rule.Mail.{Mail}
 use Rattle.tpcc_mailbox.specs.declared.rule.Mail.TheVariants.{Letter, Reply}
@@ -25,6 +27,11 @@ word_of k = 16 * k + 8
 -- how many words the block of n mailboxes has
 abbrev pub words_of : ℕ → ℕ
 words_of n = 16 * (n + 1)
+
+-- a table of mailboxes: the words that they take, and no more of them than there may be
+pub record IsSized (table : TableId) : Type 0 where
+  pub words : table.words ≡ words_of table.slots
+  pub few : table.slots ≤ MOST_MAILBOXES
 
 module _ {J : Type 0} where
   -- the view of a seat of one role

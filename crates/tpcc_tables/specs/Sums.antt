@@ -1,4 +1,5 @@
 -- 3.3.2: the sums that the consistency conditions ask for, kept for each WAREHOUSE, DISTRICT and CUSTOMER row.
+use Rattle.tpcc_rows.specs.declared.limits.TheConstants.{GREATEST_ORDER}
 use Rattle.std.specs.Prelude.{◌≡◌, ℕ, ◌+◌, ◌*◌, ◌^◌, nat_le, ℤ, pos, ◌+ℤ◌, Bool, true, List, [], ◌∷◌, map, sum_by, take, Some, None}
 use Rattle.std.specs.List.{list_all}
 use Rattle.tpcc_money.specs.Amounts.{total}
@@ -122,10 +123,10 @@ is_order_amount = is_amount_within (pos 0) (pos (15 * 999999))
 
 -- of up to 9,999,999 orders of a district or a customer
 abbrev pub is_delivered_sum : ℤ → Bool
-is_delivered_sum = is_amount_within (pos 0) (pos (9999999 * (15 * 999999)))
+is_delivered_sum = is_amount_within (pos 0) (pos (GREATEST_ORDER * (15 * 999999)))
 
 abbrev pub is_lines_sum : ℕ → Bool
-is_lines_sum n = nat_le n (9999999 * 15)
+is_lines_sum n = nat_le n (GREATEST_ORDER * 15)
 
 -- sums in order of their keys, which can take one number more
 pub record CanGrow (s : Sums) : Type 0 where

@@ -9,6 +9,7 @@ compare_exchange-requires g c = (search rules, search rules, rw c.word_index-wor
 
 pub invariant_of-result : goal.invariant_of-result
 invariant_of-result g c = let same = (c.compare_exchange.ensures.2 _ _ (ap (λ s. s.me.0.roles) c.args.waiting.sent)).1 (search rules) in record {
+  within = search rules;
   sized = search rules;
   sent = is_seat_with _ _ _ (ap (λ m. m.0.roles) same ∙ ap (λ s. s.me.0.roles) c.args.waiting.sent) (ap (λ m. m.1) same ∙ ap (λ s. s.me.1) c.args.waiting.sent);
 }
@@ -20,6 +21,7 @@ exchange-found-requires g c = let got = (c.compare_exchange.ensures.2 _ _ (ap (�
 pub invariant_of-idle : goal.invariant_of-idle
 invariant_of-idle g c = let got = (c.compare_exchange.ensures.2 _ _ (ap (λ s. s.me.0.roles) c.args.waiting.sent)).0 (search rules) in
     let took = slot_is_exchanged _ _ _ _ (Some (Reply got.0)) _ (ap (λ m. m.0.roles) got.2) (ap (λ m. m.1) got.2 ∙ ap (λ s. (c.args.waiting.mailbox, Some (Reply got.0)) ∷ s.me.1) c.args.waiting.sent) c.exchange-found.ensures.3 in record {
+      within = search rules;
       sized = search rules;
       free = is_seat_with _ _ _ took.0 took.1;
     }

@@ -21,6 +21,7 @@ compare_exchange-requires g c = let is = c.split_seat-seat.ensures.4 in (search 
 
 pub invariant_of-push_reserved : goal.invariant_of-push_reserved
 invariant_of-push_reserved g c = let is = c.split_seat-seat.ensures.4 in let did = c.compare_exchange.ensures.2 c.loop-k.k (ap (λ m. m.0.roles) is ∙ ap (λ v. (next_client v).roles) c.loop-k.invariant.1) (ap (λ m. m.1) is) in record {
+  within = search rules;
   sized = search rules;
   free = is_seat_with _ _ _ (ap (λ m. m.0.roles) did) (ap (λ m. m.1) did);
 }

@@ -9,6 +9,7 @@ compare_exchange-requires g c = let put_in = slot_is_exchanged _ _ _ _ _ _ (ap (
 pub invariant_of-result : goal.invariant_of-result
 invariant_of-result g c = let put_in = slot_is_exchanged _ _ _ _ _ _ (ap (λ s. s.me.0.roles) c.args.idle.free) (ap (λ s. s.me.1) c.args.idle.free) c.exchange-was.ensures.3 in
     let did = c.compare_exchange.ensures.2 _ c.new.result put_in.0 put_in.1 in record {
+      within = search rules;
       sized = search rules;
       sent = is_seat_with _ _ _ (ap (λ m. m.0.roles) did ∙ search rules) (ap (λ m. m.1) did);
     }

@@ -8,6 +8,7 @@ load-requires g c = (search rules, search rules, rw c.word_index.ensures (looks 
 
 pub invariant_of-waiting : goal.invariant_of-waiting
 invariant_of-waiting g c = let did = c.load.ensures.2.0 in record {
+  within = search rules;
   sized = search rules;
   sent = is_seat_with _ _ _ (ap (λ m. m.0.roles) did ∙ ap (λ s. s.me.0.roles) c.args.waiting.now.sent) (ap (λ m. m.1) did ∙ ap (λ s. s.me.1) c.args.waiting.now.sent);
 }
