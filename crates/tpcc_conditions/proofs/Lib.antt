@@ -1,5 +1,5 @@
 mod Number
 mod District
 mod First
-mod Stocked
+mod StockedRows
 mod Opening

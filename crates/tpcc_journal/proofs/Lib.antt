@@ -1,3 +1,3 @@
 mod Elements
 mod Log
-pub mod Tally
+pub mod Counts

@@ -6,7 +6,7 @@ use Rattle.std.proofs.lemmas.List.Folds.{list_all-append, list_any-append}
 use Rattle.tpcc_rows.specs.Lists.{updated, inserted}
 use Rattle.tpcc_laws.proofs.List.{filter-append, has_one, updated_absent}
 use Rattle.tpcc_keyed.proofs.Change.{kept_all}
-use Rattle.tpcc_keyed.proofs.Search.{none_found}
+use Rattle.tpcc_keyed.proofs.Halves.{none_found}
 
 -- ---- two parts
 

@@ -1,8 +1,8 @@
-pub mod Tail
+pub mod Tails
 pub mod Place
-pub mod Search
+pub mod Halves
 pub mod Change
-pub mod Key
+pub mod Keys
 pub mod Flat
 pub mod Side
 pub mod Shown

@@ -13,7 +13,7 @@ use Rattle.tpcc_keyed.specs.declared.parts.part.DistrictPart.{DistrictPart}
 use Rattle.tpcc_keyed.specs.Parts.{is_of}
 use Rattle.tpcc_keyed.specs.Runs.{is_line_between}
 use Rattle.tpcc_keyed.specs.PartWords.{owns}
-use Rattle.tpcc_keyed.proofs.Key.{same_if_equal}
+use Rattle.tpcc_keyed.proofs.Keys.{same_if_equal}
 use Rattle.tpcc_keyed.proofs.Part.{AsksFor}
 
 -- rows that were chosen are in order as they were

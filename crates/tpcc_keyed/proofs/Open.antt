@@ -14,7 +14,7 @@ use Rattle.tpcc_keyed.specs.declared.parts.part.DistrictPart.{DistrictPart}
 use Rattle.tpcc_keyed.specs.Searches.{is_same_key}
 use Rattle.tpcc_keyed.specs.Parts.{district_numbers, is_of, has_owner}
 use Rattle.tpcc_keyed.specs.PartWords.{rows_in, owner_of, part_numbers, is_part, owns, owner_and_rows, HasRoom, IsGrown, IsOpened, AreParts}
-use Rattle.tpcc_keyed.proofs.Key.{same_if_equal}
+use Rattle.tpcc_keyed.proofs.Keys.{same_if_equal}
 use Rattle.tpcc_keyed.proofs.Owner.{owner_is_part}
 use Rattle.tpcc_keyed.proofs.Place.{none_before}
 use Rattle.tpcc_keyed.proofs.Shown.{map-shown, all-shown, ascending-shown}

@@ -8,7 +8,7 @@ use Rattle.tpcc_rows.specs.declared.keys.DistrictKey.{DistrictKey}
 use Rattle.tpcc_keyed.specs.declared.parts.part.DistrictPart.{DistrictPart}
 use Rattle.tpcc_keyed.specs.Parts.{district_numbers, has_owner}
 use Rattle.tpcc_keyed.specs.PartWords.{owner_of, part_numbers, is_part}
-use Rattle.tpcc_keyed.proofs.Key.{same_swapped}
+use Rattle.tpcc_keyed.proofs.Keys.{same_swapped}
 use Rattle.tpcc_keyed.proofs.Place.{found_row, found_there, none_before}
 
 -- a district has a part exactly where the search finds one

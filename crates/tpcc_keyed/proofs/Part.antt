@@ -10,9 +10,9 @@ use Rattle.tpcc_keyed.specs.declared.parts.part.DistrictPart.{DistrictPart}
 use Rattle.tpcc_keyed.specs.Searches.{is_same_key}
 use Rattle.tpcc_keyed.specs.Parts.{district_numbers, is_of}
 use Rattle.tpcc_keyed.specs.PartWords.{rows_in, part_numbers, is_part, owns, AreParts}
-use Rattle.tpcc_keyed.proofs.Key.{same_keys, same_if_equal, not_before_itself}
+use Rattle.tpcc_keyed.proofs.Keys.{same_keys, same_if_equal, not_before_itself}
 use Rattle.tpcc_keyed.proofs.Place.{found_row, none_before, written_row}
-use Rattle.tpcc_keyed.proofs.Search.{none_found}
+use Rattle.tpcc_keyed.proofs.Halves.{none_found}
 use Rattle.tpcc_keyed.proofs.Flat.{no_strangers, none_passes, find-flat, filter-flat, updated-flat, removed-flat}
 
 pub part_apart : {T : Type 0} (k : List ℕ) (x y : DistrictPart T) → is_part k x ≡ true → is_part k y ≡ true → key_before (part_numbers x) (part_numbers y) ≡ false

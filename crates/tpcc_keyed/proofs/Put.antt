@@ -17,7 +17,7 @@ use Rattle.tpcc_keyed.specs.declared.parts.part.DistrictPart.{DistrictPart}
 use Rattle.tpcc_keyed.specs.Searches.{is_same_key}
 use Rattle.tpcc_keyed.specs.Parts.{district_numbers, is_of}
 use Rattle.tpcc_keyed.specs.PartWords.{rows_in, owner_of, part_numbers, is_part, owns, HasRoom, AreParts}
-use Rattle.tpcc_keyed.proofs.Key.{same_keys, same_if_equal, not_before_itself, one_before, district_decides}
+use Rattle.tpcc_keyed.proofs.Keys.{same_keys, same_if_equal, not_before_itself, one_before, district_decides}
 use Rattle.tpcc_keyed.proofs.Flat.{inserted-flat_any}
 use Rattle.tpcc_keyed.proofs.Shown.{ascending-shown}
 use Rattle.tpcc_keyed.proofs.Side.{IsAround, sides_from_order}

@@ -15,8 +15,8 @@ use Rattle.tpcc_keyed.specs.Searches.{is_same_key}
 use Rattle.tpcc_keyed.specs.Parts.{district_numbers, is_of}
 use Rattle.tpcc_keyed.specs.PartWords.{rows_in, part_numbers, owns, HasRoom, AreRead}
 use Rattle.tpcc_keyed.proofs.Flat.{all-append, append_nil}
-use Rattle.tpcc_keyed.proofs.Key.{district_later, not_before_itself, same_if_equal}
-use Rattle.tpcc_keyed.proofs.Search.{all_at}
+use Rattle.tpcc_keyed.proofs.Keys.{district_later, not_before_itself, same_if_equal}
+use Rattle.tpcc_keyed.proofs.Halves.{all_at}
 
 -- ---- keys of later districts
 

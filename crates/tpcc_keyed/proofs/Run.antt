@@ -7,7 +7,7 @@ use Rattle.tpcc_rows.specs.declared.rows.OrderLineRow.{OrderLineRow}
 use Rattle.tpcc_rows.specs.Lists.{updated, key_before, is_ascending}
 use Rattle.tpcc_rows.specs.Tables.{is_line_of, order_line_key}
 use Rattle.tpcc_keyed.specs.Runs.{is_line_between}
-use Rattle.tpcc_keyed.proofs.Search.{before_key, not_after}
+use Rattle.tpcc_keyed.proofs.Halves.{before_key, not_after}
 use Rattle.tpcc_keyed.proofs.Stretch.{within, changed, run_is, run_changed, same_filter, same_updated}
 
 abbrev pub line_before : ℕ → ℕ → ℕ → OrderLineRow → Bool

@@ -1,5 +1,5 @@
-pub mod Brand
-pub mod Supply
+pub mod Brands
+pub mod Supplies
 pub mod Refusal
-pub mod Lines
+pub mod OrderLines
 pub mod Prepare

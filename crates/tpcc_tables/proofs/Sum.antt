@@ -5,7 +5,7 @@ use Rattle.std.specs.List.{list_all}
 use Rattle.std.specs.Option.{option_map}
 use Rattle.tpcc_rows.specs.Lists.{updated, inserted, by_key, key_before, is_ascending}
 use Rattle.tpcc_keyed.specs.Searches.{is_same_key}
-use Rattle.tpcc_keyed.proofs.Key.{same_keys, same_swapped, not_before_itself}
+use Rattle.tpcc_keyed.proofs.Keys.{same_keys, same_swapped, not_before_itself}
 use Rattle.tpcc_laws.proofs.List.{list_all-map}
 use Rattle.tpcc_keyed.proofs.Shown.{ascending-shown}
 use Rattle.tpcc_keyed.proofs.Place.{written_row, unwritten}

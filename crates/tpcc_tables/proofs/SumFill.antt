@@ -12,7 +12,7 @@ use Rattle.tpcc_rows.specs.Ranges.{is_order_row}
 use Rattle.tpcc_rows.specs.Tables.{Rows, is_line_of, lines_of}
 use Rattle.tpcc_rows.specs.WellKeyed.{IsWellKeyed}
 use Rattle.tpcc_rows.specs.Conditions.{delivered_amount}
-use Rattle.tpcc_keyed.proofs.Search.{all_at}
+use Rattle.tpcc_keyed.proofs.Halves.{all_at}
 use Rattle.tpcc_tables.specs.declared.lists.Lists.{Lists}
 use Rattle.tpcc_tables.specs.declared.sums.Sums.{Sums}
 use Rattle.tpcc_tables.specs.Listed.{listed}

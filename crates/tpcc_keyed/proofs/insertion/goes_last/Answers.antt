@@ -1,6 +1,6 @@
 use Rattle.std.proofs.Common.{◌∙◌, sym, ap, not}
 use Rattle.std.specs.Option.{option_copied}
-use Rattle.tpcc_keyed.proofs.Search.{all_in_front}
+use Rattle.tpcc_keyed.proofs.Halves.{all_in_front}
 use Rattle.tpcc_keyed.proofs.insertion.goes_last.Goals as goal
 
 pub returns-in-Some : goal.returns-in-Some

@@ -1,7 +1,7 @@
 use Rattle.std.proofs.Common.{rules, not}
 use Rattle.std.proofs.lemmas.List.Sorted.{IsPartitionPoint-from_clause}
 use Rattle.tpcc_rows.specs.Lists.{by_key}
-use Rattle.tpcc_keyed.proofs.Search.{place_is_prefix, not_after}
+use Rattle.tpcc_keyed.proofs.Halves.{place_is_prefix, not_after}
 use Rattle.tpcc_keyed.proofs.insertion.search_by_halves.Goals as goal
 
 pub returns : goal.returns

@@ -1,6 +1,6 @@
 use Rattle.std.proofs.Common.{rules}
 use Rattle.std.proofs.lemmas.List.Sorted.{IsPartitionPoint-from_clause}
-use Rattle.tpcc_keyed.proofs.Search.{place_is_prefix}
+use Rattle.tpcc_keyed.proofs.Halves.{place_is_prefix}
 use Rattle.tpcc_keyed.proofs.Name.{name_not_after, not_after_front}
 use Rattle.tpcc_keyed.proofs.names.end_of.Goals as goal
 

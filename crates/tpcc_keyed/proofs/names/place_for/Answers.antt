@@ -1,7 +1,7 @@
 use Rattle.std.proofs.Common.{rules, not}
 use Rattle.std.proofs.lemmas.List.Sorted.{IsPartitionPoint-from_clause}
 use Rattle.tpcc_keyed.specs.Names.{name_before}
-use Rattle.tpcc_keyed.proofs.Search.{place_is_prefix}
+use Rattle.tpcc_keyed.proofs.Halves.{place_is_prefix}
 use Rattle.tpcc_keyed.proofs.Order.{not_after}
 use Rattle.tpcc_keyed.proofs.Name.{name_order}
 use Rattle.tpcc_keyed.proofs.names.place_for.Goals as goal

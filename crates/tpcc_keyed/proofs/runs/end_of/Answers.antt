@@ -1,7 +1,7 @@
 use Rattle.std.proofs.Common.{rules, [], ◌∷◌}
 use Rattle.std.proofs.lemmas.List.Sorted.{IsPartitionPoint-from_clause}
 use Rattle.tpcc_rows.specs.Tables.{order_line_key}
-use Rattle.tpcc_keyed.proofs.Search.{place_is_prefix, not_after}
+use Rattle.tpcc_keyed.proofs.Halves.{place_is_prefix, not_after}
 use Rattle.tpcc_keyed.proofs.Run.{line_not_after}
 use Rattle.tpcc_keyed.proofs.runs.end_of.Goals as goal
 

@@ -2,7 +2,7 @@ use Rattle.std.proofs.Common.{◌∙◌, sym, ap}
 use Rattle.std.specs.Option.{option_copied}
 use Rattle.tpcc_keyed.specs.Searches.{is_same_key}
 use Rattle.tpcc_keyed.proofs.Place.{found_row}
-use Rattle.tpcc_keyed.proofs.Search.{unfound}
+use Rattle.tpcc_keyed.proofs.Halves.{unfound}
 use Rattle.tpcc_keyed.proofs.search.find.Goals as goal
 
 pub returns-in_err-place : goal.returns-in_err-place

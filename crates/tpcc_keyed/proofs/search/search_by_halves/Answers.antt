@@ -1,7 +1,7 @@
 use Rattle.std.proofs.Common.{rules, ◌∙◌, sym}
 use Rattle.std.proofs.lemmas.List.Sorted.{IsPartitionPoint-from_clause}
 use Rattle.tpcc_rows.specs.Lists.{key_before}
-use Rattle.tpcc_keyed.proofs.Search.{place_is_prefix, before_key, some_at, none_at, halves_found, halves_other, halves_past}
+use Rattle.tpcc_keyed.proofs.Halves.{place_is_prefix, before_key, some_at, none_at, halves_found, halves_other, halves_past}
 use Rattle.tpcc_keyed.proofs.search.search_by_halves.Goals as goal
 
 pub returns-in_err-row : goal.returns-in_err-row

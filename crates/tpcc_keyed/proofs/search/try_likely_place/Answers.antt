@@ -1,5 +1,5 @@
 use Rattle.std.proofs.Common.{◌∙◌, sym}
-use Rattle.tpcc_keyed.proofs.Search.{some_at, guessed_there}
+use Rattle.tpcc_keyed.proofs.Halves.{some_at, guessed_there}
 use Rattle.tpcc_keyed.proofs.search.try_likely_place.Goals as goal
 
 pub returns-then-has_key : goal.returns-then-has_key

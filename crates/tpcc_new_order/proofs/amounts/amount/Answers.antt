@@ -1,5 +1,5 @@
 use Rattle.std.proofs.Common.{sym, subst, ◌≤ℤ◌, pos}
-use Rattle.tpcc_new_order.proofs.Lines.{price_tells, amount_tells}
+use Rattle.tpcc_new_order.proofs.OrderLines.{price_tells, amount_tells}
 use Rattle.tpcc_new_order.proofs.amounts.amount.Goals as goal
 
 pub line_amount-requires-clause-price : goal.line_amount-requires-clause-price

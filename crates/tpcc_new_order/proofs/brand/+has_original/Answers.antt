@@ -2,7 +2,7 @@ use Rattle.std.proofs.Common.{◌∙◌, ◌<◌, ap, length, sym, arith, codes}
 use Rattle.std.proofs.lemmas.Bool.Decides.{nat_tests}
 use Rattle.std.proofs.lemmas.List.{take_rest}
 use Rattle.tpcc_rows.specs.Lists.{has_text}
-use Rattle.tpcc_new_order.proofs.Brand.{too_short, later}
+use Rattle.tpcc_new_order.proofs.Brands.{too_short, later}
 use Rattle.tpcc_new_order.proofs.brand.+has_original.Goals as goal
 
 pub returns-in_default : goal.returns-in_default

@@ -6,7 +6,7 @@ use Rattle.tpcc_rows.specs.Ranges.{is_within}
 use Rattle.tpcc_rows.specs.declared.requests.Line.{Line}
 use Rattle.tpcc_rows.specs.NewOrder.{amount_of, entered_line, order_line_row}
 use Rattle.tpcc_new_order.specs.Prepares.{entered_line_from, order_line_from}
-use Rattle.tpcc_new_order.proofs.Lines.{no_line, numbered_more, quantities, total_more}
+use Rattle.tpcc_new_order.proofs.OrderLines.{no_line, numbered_more, quantities, total_more}
 use Rattle.tpcc_new_order.proofs.lines.add_lines.Goals as goal
 
 pub entered_line-entered-requires-clause-quantities : goal.entered_line-entered-requires-clause-quantities

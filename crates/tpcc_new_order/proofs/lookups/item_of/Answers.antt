@@ -2,7 +2,7 @@ use Rattle.std.proofs.Common.{◌∙◌, sym}
 use Rattle.std.specs.Prelude.{unwrap_or}
 use Rattle.tpcc_rows.specs.Ranges.{is_item_row}
 use Rattle.tpcc_rows.specs.Tables.{no_item}
-use Rattle.tpcc_new_order.proofs.Lines.{item_in_range}
+use Rattle.tpcc_new_order.proofs.OrderLines.{item_in_range}
 use Rattle.tpcc_new_order.proofs.Refusal.{copy_is_some}
 use Rattle.tpcc_new_order.proofs.lookups.item_of.Goals as goal
 

@@ -1,4 +1,4 @@
-use Rattle.tpcc_new_order.proofs.Lines.{quantities}
+use Rattle.tpcc_new_order.proofs.OrderLines.{quantities}
 use Rattle.tpcc_new_order.proofs.ranges.numbers_of_line.Goals as goal
 
 pub numbers_after-requires-clause-quantities : goal.numbers_after-requires-clause-quantities

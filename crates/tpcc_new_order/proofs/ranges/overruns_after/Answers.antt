@@ -3,7 +3,7 @@ use Rattle.tpcc_rows.specs.declared.requests.Line.{Line}
 use Rattle.tpcc_rows.specs.Tables.{stock_at}
 use Rattle.tpcc_rows.specs.NewOrder.{stock_after}
 use Rattle.tpcc_new_order.specs.Tests.{overruns_with}
-use Rattle.tpcc_new_order.proofs.Lines.{overruns_more}
+use Rattle.tpcc_new_order.proofs.OrderLines.{overruns_more}
 use Rattle.tpcc_new_order.proofs.ranges.overruns_after.Goals as goal
 
 pub loop-line-preserved : goal.loop-line-preserved

@@ -2,7 +2,7 @@ use Rattle.std.proofs.Common.{◌≡◌, ◌∙◌, sym, [], ◌∷◌, find, So
 use Rattle.tpcc_rows.specs.Tables.{is_order, order_key}
 use Rattle.tpcc_laws.proofs.DeliveryKeeps.{with_carrier}
 use Rattle.tpcc_keyed.specs.Searches.{is_same_key}
-use Rattle.tpcc_keyed.proofs.Search.{same_find}
+use Rattle.tpcc_keyed.proofs.Halves.{same_find}
 use Rattle.tpcc_keyed.proofs.Change.{replaced, same_updated, same_key_is, found_passes, unfound_updated}
 use Rattle.tpcc_tables.proofs.KeyTests.{order_test, orders_apart}
 use Rattle.tpcc_tables.proofs.delivery.carry.Goals as goal

@@ -5,7 +5,7 @@ use Rattle.tpcc_rows.specs.Lists.{is_ascending}
 use Rattle.tpcc_rows.specs.Tables.{stock_key}
 use Rattle.tpcc_tables.specs.Writes.{line_of}
 use Rattle.tpcc_tables.specs.Supplies.{is_near}
-use Rattle.tpcc_tables.proofs.Supply.{after_line}
+use Rattle.tpcc_tables.proofs.Supplies.{after_line}
 use Rattle.tpcc_tables.proofs.supply.supply.Given as goal
 
 abbrev pub invariant-loop-line : goal.invariant-loop-line

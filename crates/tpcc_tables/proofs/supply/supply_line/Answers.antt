@@ -6,7 +6,7 @@ use Rattle.tpcc_rows.specs.NewOrder.{stock_after_line}
 use Rattle.tpcc_tables.specs.Writes.{line_of}
 use Rattle.tpcc_tables.specs.Supplies.{is_supplied_by}
 use Rattle.tpcc_keyed.proofs.Place.{found_row, written_row, unwritten}
-use Rattle.tpcc_tables.proofs.Supply.{stocks_apart}
+use Rattle.tpcc_tables.proofs.Supplies.{stocks_apart}
 use Rattle.tpcc_tables.proofs.supply.supply_line.Goals as goal
 
 pub take_line-requires-clause-room : goal.take_line-requires-clause-room

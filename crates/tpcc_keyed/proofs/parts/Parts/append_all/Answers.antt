@@ -2,7 +2,7 @@ use Rattle.std.proofs.Common.{◌∙◌, ap, sym, take, arith, slice_index_or}
 use Rattle.std.proofs.lemmas.List.{take_all, take_more}
 use Rattle.tpcc_rows.specs.Lists.{by_key, inserted, inserted_all, is_ascending}
 use Rattle.tpcc_keyed.specs.Parts.{has_owner}
-use Rattle.tpcc_keyed.proofs.Search.{ascending-so_far, all_at}
+use Rattle.tpcc_keyed.proofs.Halves.{ascending-so_far, all_at}
 use Rattle.tpcc_keyed.proofs.Change.{one_more_inserted}
 use Rattle.tpcc_keyed.proofs.parts.Parts.append_all.Goals as goal
 

@@ -5,7 +5,7 @@ use Rattle.tpcc_rows.specs.Lists.{is_ascending}
 use Rattle.tpcc_keyed.specs.Searches.{is_same_key}
 use Rattle.tpcc_keyed.specs.Parts.{PartsView, district_numbers}
 use Rattle.tpcc_keyed.specs.PartWords.{rows_in, is_part}
-use Rattle.tpcc_keyed.proofs.Search.{none_found}
+use Rattle.tpcc_keyed.proofs.Halves.{none_found}
 use Rattle.tpcc_keyed.proofs.Part.{asks_key, no_row, part_found, placed, rows_found}
 use Rattle.tpcc_keyed.proofs.Put.{part_keyed}
 use Rattle.tpcc_keyed.proofs.parts.Parts.find.Goals as goal

@@ -3,7 +3,7 @@ use Rattle.std.proofs.lemmas.List.Sorted.{IsPartitionPoint-from_clause}
 use Rattle.tpcc_rows.specs.Lists.{key_before}
 use Rattle.tpcc_keyed.specs.Parts.{district_numbers}
 use Rattle.tpcc_keyed.specs.PartWords.{part_numbers}
-use Rattle.tpcc_keyed.proofs.Search.{place_is_prefix, not_after}
+use Rattle.tpcc_keyed.proofs.Halves.{place_is_prefix, not_after}
 use Rattle.tpcc_keyed.proofs.parts.place.place_for.Goals as goal
 
 pub returns : goal.returns

@@ -3,7 +3,7 @@ use Rattle.std.proofs.lemmas.List.Sorted.{IsPartitionPoint-from_clause}
 use Rattle.tpcc_rows.specs.Lists.{key_before}
 use Rattle.tpcc_keyed.specs.Parts.{district_numbers}
 use Rattle.tpcc_keyed.specs.PartWords.{part_numbers}
-use Rattle.tpcc_keyed.proofs.Search.{place_is_prefix, before_key, some_at, none_at, halves_found, halves_other, halves_past}
+use Rattle.tpcc_keyed.proofs.Halves.{place_is_prefix, before_key, some_at, none_at, halves_found, halves_other, halves_past}
 use Rattle.tpcc_keyed.proofs.parts.place.search_by_halves.Goals as goal
 
 pub returns-in_err-part : goal.returns-in_err-part

@@ -1,7 +1,7 @@
 use Rattle.std.proofs.Common.{◌∙◌, sym}
 use Rattle.tpcc_keyed.specs.Parts.{district_numbers}
 use Rattle.tpcc_keyed.specs.PartWords.{part_numbers}
-use Rattle.tpcc_keyed.proofs.Search.{some_at, guessed_there}
+use Rattle.tpcc_keyed.proofs.Halves.{some_at, guessed_there}
 use Rattle.tpcc_keyed.proofs.parts.place.try_likely_place.Goals as goal
 
 pub returns-then-is_same : goal.returns-then-is_same

@@ -3,7 +3,7 @@ use Rattle.std.proofs.lemmas.List.Sorted.{IsPartitionPoint-from_clause}
 use Rattle.tpcc_rows.specs.Lists.{key_before}
 use Rattle.tpcc_keyed.specs.Parts.{district_numbers}
 use Rattle.tpcc_keyed.proofs.Read.{not_later_before}
-use Rattle.tpcc_keyed.proofs.Search.{in_front, place_is_prefix}
+use Rattle.tpcc_keyed.proofs.Halves.{in_front, place_is_prefix}
 use Rattle.tpcc_keyed.proofs.parts.reading.run_len.Goals as goal
 
 pub returns : goal.returns

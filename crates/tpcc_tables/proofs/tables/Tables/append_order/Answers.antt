@@ -9,7 +9,7 @@ use Rattle.tpcc_tables.proofs.SumRanges.{held_grow}
 use Rattle.tpcc_tables.proofs.SumWrites.{order_entered, entered_lines}
 use Rattle.tpcc_tables.specs.View.{rows_of}
 use Rattle.tpcc_tables.specs.Writes.{IsOrder, with_entered_order}
-use Rattle.tpcc_tables.proofs.Supply.{near_starts}
+use Rattle.tpcc_tables.proofs.Supplies.{near_starts}
 use Rattle.tpcc_tables.proofs.Enter.{district_fits, enterable, entered_is_well_keyed, lines_in_order, written_rows, owned}
 use Rattle.tpcc_tables.proofs.tables.Tables.append_order.Goals as goal
 

@@ -1,5 +1,5 @@
 use Rattle.std.proofs.Common.{◌≤◌, ◌+◌, ◌∙◌, ap, drop, refl, arith, length, length-drop, insert}
-use Rattle.tpcc_keyed.proofs.Tail.{drop-insert}
+use Rattle.tpcc_keyed.proofs.Tails.{drop-insert}
 use Rattle.tpcc_keyed.specs.Tails.{Left}
 use Rattle.tpcc_keyed.proofs.parts.tail.Tail.insert.Goals as goal
 

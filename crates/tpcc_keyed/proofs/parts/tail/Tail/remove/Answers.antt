@@ -1,5 +1,5 @@
 use Rattle.std.proofs.Common.{◌+◌, ◌∙◌, ap, sym, drop, refl, remove}
-use Rattle.tpcc_keyed.proofs.Tail.{drop-first, drop-remove}
+use Rattle.tpcc_keyed.proofs.Tails.{drop-first, drop-remove}
 use Rattle.tpcc_keyed.specs.Tails.{Left}
 use Rattle.tpcc_keyed.proofs.parts.tail.Tail.remove.Goals as goal
 

@@ -8,7 +8,7 @@ use Rattle.tpcc_rows.specs.Lists.{is_ascending, key_before, inserted, inserted_a
 use Rattle.tpcc_laws.proofs.OrderKeys.{key_before_trans}
 use Rattle.tpcc_laws.proofs.Insert.{list_all-inserted}
 use Rattle.tpcc_keyed.specs.Searches.{is_same_key}
-use Rattle.tpcc_keyed.proofs.Key.{same_keys}
+use Rattle.tpcc_keyed.proofs.Keys.{same_keys}
 use Rattle.tpcc_keyed.proofs.Place.{none_before}
 
 pub all_at : {X : Type 0} (test : X → Bool) (xs : List X) (j : ℕ) (d : X) → list_all test xs ≡ true → j < length xs → test (get_or xs j d) ≡ true
