@@ -1,9 +1,10 @@
 -- What a seated purse is seen as.
-use Rattle.std.specs.Prelude.{ℕ, ◌≡◌, ◌+◌, List, [], ◌∷◌, map, Option, None}
+use Rattle.std.specs.Prelude.{ℕ, ◌≡◌, ◌+◌, ◌%◌, ◌^◌, List, [], ◌∷◌, map, Option, None}
 use Rattle.atomic_table.specs.Seated.{TableId}
 use Rattle.atomic_table.specs.Table.{Me}
+use Rattle.atomic_table.specs.declared.shared.Seat.{Seat}
 use Rattle.tpcc_rows.specs.declared.entry.Entry.{Entry}
-use Rattle.tpcc_book.specs.Purses.{PurseView}
+use Rattle.tpcc_book.specs.Purses.{PurseView, first_purse}
 use Rattle.tpcc_book.specs.declared.turns.knows.Knows.{Knows}
 use Rattle.tpcc_book.specs.declared.turns.knows.Stage.{Stage}
 use Rattle.tpcc_book.specs.declared.turns.knows.Stage.TheVariants.{Idle, Out, Holds}
@@ -13,7 +14,7 @@ use Rattle.std.specs.Result.{ForOk}
 use Rattle.tpcc_rows.specs.Replay.{count_of}
 use Rattle.tpcc_book.specs.Past.{Past, IsKept}
 use Rattle.tpcc_book.specs.AnswerView.{AnswerView}
-use Rattle.tpcc_book.specs.TurnRule.{knows, no_opening}
+use Rattle.tpcc_book.specs.TurnRule.{knows, no_opening, first}
 use Rattle.tpcc_book.specs.Serve.{IsServed}
 use Rattle.tpcc_population.specs.declared.opening.Opening.{Opening}
 
@@ -57,6 +58,27 @@ number_of (Holds t base) = t
 abbrev pub turn_holder : Me (Option Past) Knows → ℕ → Past → Me (Option Past) Knows
 turn_holder me parts book =
     (knows me.0.start book.entries parts (Holds (number_of me.0.stage) book.entries) [], (0, None) ∷ [])
+
+-- the table of turns of this name: two words, and the book's slot
+pub record IsTurnTable (name table : TableId) : Type 0 where
+  pub named : table ≡ name
+  pub words : table.words ≡ 2
+  pub slots : table.slots ≡ 1
+
+-- a turn that is kept: the seat of so many parts is at this table and has the turn of the ticket, with this book, which is out of its slot
+pub record IsHeldTurn (table : TableId) (seat : Seat (Option Past) Knows) (parts ticket : ℕ) (book : Past) : Type 0 where
+  pub placed : seat.table_id ≡ table
+  pub holds : seat.me ≡ turn_holder seat.me parts book
+  pub numbered : ticket ≡ number_of seat.me.0.stage % 2 ^ 64
+  pub opened : book.opening ≡ seat.me.0.start
+
+-- turns before they have a name: the first seat and the first purse are at hand
+pub record IsUnnamed (table : TableId) (opening : Opening) (seat : Seat (Option Past) Knows) (purse : PurseView) : Type 0 where
+  pub placed : seat.table_id ≡ table
+  pub words : table.words ≡ 2
+  pub slots : table.slots ≡ 1
+  pub seated : seat.me ≡ (first opening, [])
+  pub whole : purse ≡ first_purse
 
 -- an answer with the purse alone
 abbrev pub by_purse : AnswerView SeatedView → AnswerView PurseView

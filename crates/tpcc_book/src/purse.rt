@@ -1,6 +1,6 @@
 //! Purses: shares of a book's two totals.
 ghost use Rattle.std.specs.Prelude.{◌≡◌, ◌+◌, ◌-◌, ◌<◌, ◌≤◌, ◌^◌, ◌≤ℤ◌, ◌+ℤ◌, pos};
-ghost use Rattle.tpcc_book.specs.Purses.{all_parts, first_purse};
+ghost use Rattle.tpcc_book.specs.Purses.{all_parts, first_purse, most_purses};
 ghost use Rattle.tpcc_book.specs.Serve.{purse_after};
 
 mod pool;
@@ -34,20 +34,25 @@ pub struct Purse<N: Naming> {
     entry_share: Share<Entries<N>>,
     /// Its share of the ledger of cents: as many as it paid.
     cent_share: Share<PaidCents<N>>,
+    /// Each share has a part for this purse and one for each that can be split off it.
+    ghost entry_parts: { entry_share.parts ≡ room + 1 },
+    ghost cent_parts: { cent_share.parts ≡ room + 1 },
+    /// The shares' amounts are the purse's.
+    ghost entry_amount: { entry_share.amount ≡ entries },
+    ghost cent_amount: { cent_share.amount ≡ cents },
+    /// Neither is past what a book's first purse and its ledgers can have.
+    ghost few: { room ≤ most_purses },
+    ghost small: { cents < 2 ^ 63 },
 }
 
 impl<N: Naming> Model for Purse<N> {
-    ghost use Rattle.std.specs.Prelude.{◌≡◌, ◌+◌, ◌<◌, ◌≤◌, ◌^◌, pos};
-    ghost use Rattle.tpcc_book.specs.Purses.{PurseView, most_purses};
+    ghost use Rattle.std.specs.Prelude.{pos};
+    ghost use Rattle.tpcc_book.specs.Purses.{PurseView};
 
     ghost Value = { PurseView };
 
     ghost view = { λ p.
         record { terminal = p.terminal; entries = p.entries; paid = pos p.cents; room = p.room } };
-
-    ghost invariant = { λ p. (p.entry_share.parts ≡ p.room + 1) × (p.entry_share.amount ≡ p.entries)
-        × (p.cent_share.parts ≡ p.room + 1) × (p.cent_share.amount ≡ p.cents) × (p.room ≤ most_purses)
-        × (p.cents < 2 ^ 63) };
 }
 
 impl<N: Naming> Purse<N> {

@@ -46,15 +46,14 @@ pub struct Turns<N: Naming, T: Seating> {
 }
 
 impl<N: Naming, T: Seating> Model for Turns<N, T> {
-    ghost use Rattle.std.specs.Prelude.{◌≡◌};
     ghost use Rattle.tpcc_population.specs.declared.opening.Opening.{Opening};
+    ghost use Rattle.tpcc_book.specs.Seats.{IsTurnTable};
 
     ghost Value = { Opening };
 
     ghost view = { λ t. t.table.shared.key };
 
-    ghost invariant = { λ t. (t.table.shared.table_id ≡ T.table)
-        × (t.table.shared.table_id.words ≡ 2) × (t.table.shared.table_id.slots ≡ 1) };
+    ghost invariant = { λ t. IsTurnTable T.table t.table.shared.table_id };
 }
 
 impl<N: Naming, T: Seating> Turns<N, T> {

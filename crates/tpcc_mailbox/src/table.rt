@@ -1,7 +1,7 @@
 //! The mailboxes as threads share them.
 ghost use Rattle.std.specs.Prelude.{◌≡◌, ◌≤◌};
 ghost use Rattle.tpcc_mailbox.specs.declared.table.TheConstants.{MOST_MAILBOXES};
-ghost use Rattle.tpcc_mailbox.specs.Rule.{word_of, words_of};
+ghost use Rattle.tpcc_mailbox.specs.Rule.{IsSized, word_of, words_of};
 
 use crate::answers::Answers;
 use crate::rule::{Mail, MailboxRule, View};
@@ -27,10 +27,9 @@ pub struct Mailboxes<J, A: Answers<J>> {
     pub(crate) count: usize,
     /// Where `reclaim` takes memory.
     pub(crate) alloc: Global,
-    /// Words and slots are as many as so many mailboxes take.
-    ghost sized: { (table.shared.table_id.slots ≡ count)
-        × (table.shared.table_id.words ≡ words_of count)
-        × (count ≤ MOST_MAILBOXES) },
+    /// A slot for each, and as many words as they take.
+    ghost counted: { table.shared.table_id.slots ≡ count },
+    ghost sized: { IsSized table.shared.table_id },
 }
 
 // One word in so many is used, so that threads at different mailboxes share no cache line.

@@ -1,5 +1,5 @@
 //! The shares of purses, put together.
-ghost use Rattle.std.specs.Prelude.{◌≡◌, ◌<◌, ◌^◌, pos};
+ghost use Rattle.std.specs.Prelude.{◌≡◌, ◌<◌, ◌≤◌, ◌*◌, ◌^◌, pos};
 ghost use Rattle.tpcc_book.specs.Purses.{all_parts, pool_of, pool_with};
 
 use crate::naming::{Entries, Naming, PaidCents};
@@ -22,19 +22,25 @@ pub(crate) struct Pool<N: Naming> {
     entry_share: Share<Entries<N>>,
     /// Their shares of the ledger of cents, as one.
     cent_share: Share<PaidCents<N>>,
+    /// Each share has the purses' parts.
+    ghost entry_parts: { entry_share.parts ≡ parts },
+    ghost cent_parts: { cent_share.parts ≡ parts },
+    /// The shares' amounts are the purses'.
+    ghost entry_amount: { entry_share.amount ≡ entries },
+    ghost cent_amount: { cent_share.amount ≡ cents },
+    /// No more parts than a book has, of which none has more than a purse can have.
+    ghost few: { parts ≤ all_parts },
+    ghost entries_small: { entries ≤ parts * 2 ^ 64 },
+    ghost cents_small: { cents ≤ parts * 2 ^ 64 },
 }
 
 impl<N: Naming> Model for Pool<N> {
-    ghost use Rattle.std.specs.Prelude.{◌≡◌, ◌*◌, ◌≤◌, ◌^◌, pos};
-    ghost use Rattle.tpcc_book.specs.Purses.{PoolView, all_parts};
+    ghost use Rattle.std.specs.Prelude.{pos};
+    ghost use Rattle.tpcc_book.specs.Purses.{PoolView};
 
     ghost Value = { PoolView };
 
     ghost view = { λ p. record { parts = p.parts; entries = p.entries; paid = pos p.cents } };
-
-    ghost invariant = { λ p. (p.entry_share.parts ≡ p.parts) × (p.entry_share.amount ≡ p.entries)
-        × (p.cent_share.parts ≡ p.parts) × (p.cent_share.amount ≡ p.cents) × (p.parts ≤ all_parts)
-        × (p.entries ≤ p.parts * 2 ^ 64) × (p.cents ≤ p.parts * 2 ^ 64) };
 }
 
 impl<N: Naming> Pool<N> {

@@ -33,17 +33,14 @@ pub struct HeldTurn<N: Naming, T: Seating> {
 }
 
 impl<N: Naming, T: Seating> Model for HeldTurn<N, T> {
-    ghost use Rattle.std.specs.Prelude.{◌≡◌, ◌+◌, ◌%◌, ◌^◌};
-    ghost use Rattle.tpcc_book.specs.Seats.{Keeper, turn_holder, number_of};
+    ghost use Rattle.std.specs.Prelude.{◌+◌};
+    ghost use Rattle.tpcc_book.specs.Seats.{IsHeldTurn, Keeper};
 
     ghost Value = { Keeper };
 
     ghost view = { λ h. record { purse = h.purse; start = h.seat.me.0.start } };
 
-    ghost invariant = { λ h. (h.seat.table_id ≡ T.table)
-        × (h.seat.me ≡ turn_holder h.seat.me (h.purse.room + 1) h.book)
-        × (h.ticket ≡ number_of h.seat.me.0.stage % 2 ^ 64)
-        × (h.book.opening ≡ h.seat.me.0.start) };
+    ghost invariant = { λ h. IsHeldTurn T.table h.seat (h.purse.room + 1) h.ticket h.book };
 }
 
 impl<N: Naming, T: Seating> Turns<N, T> {

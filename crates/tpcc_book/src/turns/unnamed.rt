@@ -30,19 +30,14 @@ pub struct UnnamedTurns<N: Naming> {
 }
 
 impl<N: Naming> Model for UnnamedTurns<N> {
-    ghost use Rattle.std.specs.Prelude.{◌≡◌, []};
-    ghost use Rattle.tpcc_book.specs.Purses.{first_purse};
-    ghost use Rattle.tpcc_book.specs.Seats.{UnnamedView};
-    ghost use Rattle.tpcc_book.specs.TurnRule.{first};
+    ghost use Rattle.tpcc_book.specs.Seats.{IsUnnamed, UnnamedView};
 
     ghost Value = { UnnamedView };
 
     ghost view = { λ t. record { opening = t.table.shared.key; table = t.table.shared.table_id } };
 
-    ghost invariant = { λ t. (t.seat.table_id ≡ t.table.shared.table_id)
-        × (t.table.shared.table_id.words ≡ 2) × (t.table.shared.table_id.slots ≡ 1)
-        × (t.seat.me ≡ (first t.table.shared.key, []))
-        × (t.purse ≡ first_purse) };
+    ghost invariant = { λ t.
+        IsUnnamed t.table.shared.table_id t.table.shared.key t.seat t.purse };
 }
 
 impl<N: Naming> UnnamedTurns<N> {

@@ -5,4 +5,4 @@ use Rattle.tpcc_book.proofs.turns.Turns.end.Goals as goal
 pub give-requires-clause-giving : goal.give-requires-clause-giving
 give-requires-clause-giving g c =
     let h = c.held.inside in
-    let i = c.held.invariant in gives_held h.seat.me h.ticket (h.purse.room + 1) h.book i.1 i.2 i.3
+    let i = c.held.invariant in gives_held h.seat.me h.ticket (h.purse.room + 1) h.book i.holds i.numbered i.opened

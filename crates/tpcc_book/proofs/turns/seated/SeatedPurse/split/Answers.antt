@@ -13,7 +13,7 @@ split_seat-given-requires g c =
     let is : me.0 ≡ knows (start_of views) (front_of views) (c.self.inside.purse.room + 1) Idle [] = alone me.0 _ (sym c.into_seat-seat.ensures.2 ∙ (ap (λ b. b.views) c.replace-badge.ensures.value ∙ c.self.invariant.1)) in
     let room = ap (λ (p : SeatedView). p.purse.room) c.self.view_is in
     let some : 1 < me.0.parts = omega (arith, ap (λ (v : Knows). v.parts) is, room, c.requires) in (
-      c.into_seat-seat.ensures.0 ∙ (ap (λ b. b.table_id) c.replace-badge.ensures.value ∙ (c.self.invariant.0 ∙ sym c.turns.invariant.0)),
-      omega (arith, c.turns.invariant.1),
+      c.into_seat-seat.ensures.0 ∙ (ap (λ b. b.table_id) c.replace-badge.ensures.value ∙ (c.self.invariant.0 ∙ sym c.turns.invariant.named)),
+      omega (arith, c.turns.invariant.words),
       splits c.turns.inside.table.shared.key c.into_seat-seat.result.id me.0 (ap (λ (v : Knows). v.stage) is) some,
     )
