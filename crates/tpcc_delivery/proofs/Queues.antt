@@ -1,9 +1,10 @@
 -- A queue that grows by a ticket, and one after a run of its first ticket.
-use Rattle.std.proofs.Common.{◌≡◌, ◌∙◌, ℕ, ◌+◌, ◌^◌, ◌<◌, Bool, true, List, [], ◌∷◌, Some, get_or, set, refl, arith}
+use Rattle.std.proofs.Common.{◌≡◌, ◌∙◌, ℕ, ◌+◌, ◌^◌, ◌<◌, ◌≤◌, Bool, true, List, [], ◌∷◌, Some, get_or, set, refl, arith}
 use Rattle.std.specs.Prelude.{◌&&◌, slice_get}
 use Rattle.std.specs.List.{list_all}
 use Rattle.std.proofs.lemmas.Bool.Decides.{nat_tests}
 use Rattle.std.proofs.lemmas.List.Folds.{list_all-append}
+use Rattle.tpcc_money.specs.declared.moment.TheConstants.Moment.{LAST_SECOND}
 use Rattle.tpcc_rows.specs.declared.requests.Ticket.{Ticket}
 use Rattle.tpcc_rows.specs.declared.requests.QueuedTicket.{QueuedTicket}
 use Rattle.tpcc_rows.specs.Delivery.{queue_with}
@@ -12,7 +13,7 @@ use Rattle.tpcc_rows.specs.WellKeyed.{IsQueueInRange}
 use Rattle.tpcc_laws.proofs.Numbers.{within, is_in}
 use Rattle.tpcc_rows.proofs.Booleans.{split}
 
-moment_in : (n : ℕ) → n < 4102444800 → is_moment n ≡ true
+moment_in : (n : ℕ) → n ≤ LAST_SECOND → is_moment n ≡ true
 moment_in n h = grind (arith, nat_tests)
 
 both : (a b : Bool) → a ≡ true → b ≡ true → (a && b) ≡ true
@@ -22,7 +23,7 @@ fresh_in_range : (t : Ticket) → is_carrier t.carrier ≡ true → is_moment t.
 unfolding is_queued_ticket
 fresh_in_range t carrier moment = λ i. carrier i && moment i && true
 
-pub pushed_in_range : (queue : List QueuedTicket) (t : Ticket) → IsQueueInRange queue → is_carrier t.carrier ≡ true → t.queued < 4102444800 → IsQueueInRange (queue_with queue t)
+pub pushed_in_range : (queue : List QueuedTicket) (t : Ticket) → IsQueueInRange queue → is_carrier t.carrier ≡ true → t.queued ≤ LAST_SECOND → IsQueueInRange (queue_with queue t)
 pushed_in_range queue t all carrier below =
     let fresh = fresh_in_range t carrier (moment_in t.queued below) in
     list_all-append is_queued_ticket queue (record { ticket = t; next = 1 } ∷ []) ∙ both (list_all is_queued_ticket queue) _ all (both _ true fresh refl)

@@ -2,4 +2,4 @@ pub mod Brands
 pub mod Supplies
 pub mod Refusal
 pub mod OrderLines
-pub mod Prepare
+pub mod Preparations

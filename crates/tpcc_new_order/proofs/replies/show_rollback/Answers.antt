@@ -1,4 +1,4 @@
-use Rattle.tpcc_new_order.proofs.Prepare.{rolled_back_is}
+use Rattle.tpcc_new_order.proofs.Preparations.{rolled_back_is}
 use Rattle.tpcc_new_order.proofs.replies.show_rollback.Goals as goal
 
 pub returns : goal.returns

@@ -3,7 +3,7 @@ use Rattle.tpcc_laws.proofs.Numbers.{is_in}
 use Rattle.tpcc_tables.proofs.Enter.{order_is}
 use Rattle.tpcc_rows.specs.declared.rows.OrderLineRow.{OrderLineRow}
 use Rattle.tpcc_new_order.specs.Prepares.{order_row_from}
-use Rattle.tpcc_new_order.proofs.Prepare.{few_lines, lines_length, number_shown, written_is}
+use Rattle.tpcc_new_order.proofs.Preparations.{few_lines, lines_length, number_shown, written_is}
 use Rattle.tpcc_new_order.proofs.rows.write_order.Goals as goal
 
 pub order_row-requires : goal.order_row-requires

@@ -3,7 +3,7 @@ use Rattle.std.specs.Prelude.{is_none}
 use Rattle.std.specs.List.{list_any}
 use Rattle.tpcc_rows.specs.declared.requests.Line.{Line}
 use Rattle.tpcc_rows.specs.Tables.{find_item}
-use Rattle.tpcc_new_order.proofs.Prepare.{servable}
+use Rattle.tpcc_new_order.proofs.Preparations.{servable}
 use Rattle.tpcc_new_order.proofs.transaction.judge.Goals as goal
 
 pub range_refusal-requires-clause-servable : goal.range_refusal-requires-clause-servable

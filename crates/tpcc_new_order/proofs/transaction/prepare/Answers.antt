@@ -1,4 +1,4 @@
-use Rattle.tpcc_new_order.proofs.Prepare.{few_lines}
+use Rattle.tpcc_new_order.proofs.Preparations.{few_lines}
 use Rattle.tpcc_new_order.proofs.transaction.prepare.Goals as goal
 
 pub make_room-requires : goal.make_room-requires

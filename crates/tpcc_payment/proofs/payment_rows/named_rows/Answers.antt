@@ -1,6 +1,6 @@
 use Rattle.std.proofs.Common.{◌∙◌, sym}
 use Rattle.tpcc_laws.proofs.PaymentFacts.{payment_facts}
-use Rattle.tpcc_payment.proofs.Prepare.{chosen_is}
+use Rattle.tpcc_payment.proofs.Preparations.{chosen_is}
 use Rattle.tpcc_payment.proofs.Refusal.{copy_is_some, look_up_is_some}
 use Rattle.tpcc_payment.proofs.payment_rows.named_rows.Goals as goal
 

@@ -4,7 +4,7 @@ use Rattle.std.proofs.lemmas.Int.{ints}
 use Rattle.tpcc_laws.proofs.Numbers.{is_in, amount_within}
 use Rattle.tpcc_laws.proofs.PaymentFacts.{payment_facts}
 use Rattle.tpcc_tables.proofs.Pay.{payment_is}
-use Rattle.tpcc_payment.proofs.Prepare.{named_fits, shown_reply, writes_of}
+use Rattle.tpcc_payment.proofs.Preparations.{named_fits, shown_reply, writes_of}
 use Rattle.tpcc_payment.proofs.transaction.finish.Goals as goal
 
 pub information_after-information-requires : goal.information_after-information-requires

@@ -1,4 +1,4 @@
-use Rattle.tpcc_payment.proofs.Prepare.{prepared_is}
+use Rattle.tpcc_payment.proofs.Preparations.{prepared_is}
 use Rattle.tpcc_payment.proofs.transaction.judge.Goals as goal
 
 pub returns-clause-ok : goal.returns-clause-ok
