@@ -1,5 +1,5 @@
 -- 5.2.4.2: what a terminal asks: a deck's cards in their order, and the draws of each card in theirs.
-use Rattle.std.specs.Prelude.{ℕ, zero, suc, ◌+◌, ◌-◌, ◌/◌, ◌%◌, ◌==◌, ◌&&◌, ◌||◌, Bool, List, [], ◌∷◌, ◌++◌, min, pos, nat_lt, nat_le, if◌then◌else◌}
+use Rattle.std.specs.Prelude.{ℕ, zero, suc, ◌+◌, ◌-◌, ◌/◌, ◌%◌, ◌==◌, ◌&&◌, ◌||◌, Bool, List, [], ◌∷◌, ◌++◌, min, pos, unsigned_abs, nat_lt, nat_le, if◌then◌else◌}
 use Rattle.rand_core.specs.Stream.{Stream}
 use Rattle.tpcc_draws.specs.Draws.{between, nurand}
 use Rattle.tpcc_draws.specs.declared.cards.Card.{Card}
@@ -14,7 +14,9 @@ use Rattle.tpcc_rows.specs.declared.requests.Who.{Who}
 use Rattle.tpcc_rows.specs.declared.requests.Who.TheVariants as who
 use Rattle.tpcc_rows.specs.declared.requests.Request.{Request}
 use Rattle.tpcc_rows.specs.declared.requests.Request.TheVariants as requests
+use Rattle.tpcc_rows.specs.declared.limits.TheConstants.{LEAST_PAYMENT, GREATEST_PAYMENT}
 use Rattle.tpcc_terminal.specs.declared.home.Home.{Home}
+use Rattle.tpcc_terminal.specs.declared.drafts.TheConstants.{LAST_NAMES}
 use Rattle.tpcc_terminal.specs.declared.drafts.DrawnCustomer.{DrawnCustomer}
 use Rattle.tpcc_terminal.specs.declared.drafts.DrawnCustomer.TheVariants as customers
 use Rattle.tpcc_terminal.specs.declared.drafts.OrderDraft.{OrderDraft}
@@ -75,7 +77,7 @@ drawn_order home s =
 unfoldable pub drawn_customer : Home → Stream → DrawnCustomer × Stream
 drawn_customer home s =
     let percent = between 1 100 s in
-    if nat_le percent.0 60 then (let n = nurand 255 187 0 (min home.scale.customers 1000 - 1) percent.1 in (customers.Name n.0, n.1))
+    if nat_le percent.0 60 then (let n = nurand 255 187 0 (min home.scale.customers LAST_NAMES - 1) percent.1 in (customers.Name n.0, n.1))
     else (let n = nurand 1023 259 1 home.scale.customers percent.1 in (customers.Number n.0, n.1))
 
 -- 2.5.1.2: 15 of a hundred pay from a district of another warehouse, where there is one
@@ -91,7 +93,7 @@ drawn_payment home s =
     let district = between 1 10 s in
     let from = payer home district.0 district.1 in
     let customer = drawn_customer home from.1 in
-    let cents = between 100 500000 customer.1 in (
+    let cents = between (unsigned_abs LEAST_PAYMENT) (unsigned_abs GREATEST_PAYMENT) customer.1 in (
       record {
         district = district.0;
         customer_warehouse = from.0.warehouse;

@@ -1,6 +1,7 @@
 //! What a card's draws gave: the numbers of a request, before its texts are made.
 ghost use Rattle.std.specs.Prelude.{◌≡◌, ◌<◌, IfOk};
 ghost use Rattle.tpcc_terminal.specs.Cards.{who_of, order_of, payment_of, request_of};
+ghost use Rattle.tpcc_terminal.specs.declared.drafts.TheConstants.{LAST_NAMES};
 
 use crate::home::Home;
 use std::alloc::Global;
@@ -9,7 +10,10 @@ use tpcc_draws::last_name;
 use tpcc_money::{Cents, Moment, NoMemory};
 use tpcc_rows::{Few, Line, Lines, Order, Payment, Request, StatusQuery, StockQuery, Ticket, Who};
 
-/// The number of a last name (4.3.2.3), 0 to 999, seen as that number.
+/// How many last names there are (4.3.2.3): one for each number of three digits.
+pub const LAST_NAMES: u32 = 1_000;
+
+/// The number of a last name, less than [`LAST_NAMES`], seen as that number.
 #[derive(Clone, Copy)]
 pub struct NameNumber {
     /// Its three digits are the name's three syllables.
@@ -18,6 +22,7 @@ pub struct NameNumber {
 
 impl Model for NameNumber {
     ghost use Rattle.std.specs.Prelude.{ℕ, ◌<◌};
+    ghost use Rattle.tpcc_terminal.specs.declared.drafts.TheConstants.{LAST_NAMES};
 
     ghost Value = { ℕ };
 
@@ -25,13 +30,13 @@ impl Model for NameNumber {
 
     ghost inverse = { λ n. record { number = n } };
 
-    ghost invariant = { λ n. n.number < 1000 };
+    ghost invariant = { λ n. n.number < LAST_NAMES };
 }
 
 impl NameNumber {
     /// The name of this number.
     pub fn new(number: u32) -> NameNumber
-        requires small { number < 1000 }
+        requires small { number < LAST_NAMES }
         ensures number { result ≡ number }
     {
         NameNumber { number }
@@ -39,7 +44,7 @@ impl NameNumber {
 
     fn get(self) -> u32
         ensures number { result ≡ self }
-        ensures small { result < 1000 }
+        ensures small { result < LAST_NAMES }
     {
         self.number
     }

@@ -3,9 +3,12 @@ ghost use Rattle.std.specs.Prelude.{◌≡◌, ◌+◌, ◌==◌, ◌&&◌, ◌<
 ghost use Rattle.tpcc_draws.specs.Draws.{answers};
 ghost use Rattle.tpcc_terminal.specs.Cards.{other_warehouse, supplier, drawn_line, drawn_lines, drawn_customer, payer, drawn_order, drawn_payment, drawn_status, drawn_draft};
 
-use crate::drafts::{Draft, DrawnCustomer, NameNumber, OrderDraft, PaymentDraft, StatusDraft};
+use crate::drafts::{
+    Draft, DrawnCustomer, LAST_NAMES, NameNumber, OrderDraft, PaymentDraft, StatusDraft,
+};
 use crate::home::Home;
 use tpcc_draws::{Card, Stream};
+use tpcc_rows::limits::{GREATEST_PAYMENT, LEAST_PAYMENT};
 use tpcc_rows::{DistrictKey, Few, Line};
 
 #[tactic(auto, unfolding(crate::specs::Cards::other_warehouse))]
@@ -92,7 +95,7 @@ fn customer(stream: &mut Stream, home: &Home) -> DrawnCustomer
 {
     let customers = home.scale.customers();
     if stream.between(1, 100) <= 60 {
-        let number = stream.nurand(255, 187, 0, customers.min(1000) - 1);
+        let number = stream.nurand(255, 187, 0, customers.min(LAST_NAMES) - 1);
         DrawnCustomer::Name(NameNumber::new(number))
     } else {
         DrawnCustomer::Number(stream.nurand(1023, 259, 1, customers))
@@ -124,7 +127,7 @@ fn payment(stream: &mut Stream, home: &Home) -> PaymentDraft
     let district = stream.between(1, 10);
     let payer = payer(stream, home, district);
     let customer = customer(stream, home);
-    let cents = stream.between(100, 500_000);
+    let cents = stream.between(LEAST_PAYMENT as u32, GREATEST_PAYMENT as u32);
     PaymentDraft {
         district,
         customer_warehouse: payer.warehouse,
