@@ -42,7 +42,14 @@ impl Model for Terminal {
 
     ghost Value = { Station };
 
-    ghost view = { λ t. record { number = t.number; scale = t.scale; draft = t.draft; cards = t.cards.items; generator = t.stream; receipts = t.receipts.items } };
+    ghost view = { λ t. record {
+      number = t.number;
+      scale = t.scale;
+      draft = t.draft;
+      cards = t.cards.items;
+      generator = t.stream;
+      receipts = t.receipts.items;
+    } };
 
     ghost invariant = { λ t. 1 ≤ t.number };
 }
