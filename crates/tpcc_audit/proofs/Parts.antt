@@ -4,7 +4,7 @@ use Rattle.std.specs.Prelude.{Result, Ok, Err, OnOk, OnErr}
 use Rattle.std.specs.Io.KnownBytes.{Appends, Keeps}
 use Rattle.std.proofs.Math.Seq.{take-add, take-append-add}
 use Rattle.std.proofs.lemmas.List.{length-append, take_rest, take_all, take-append-le}
-use Rattle.tpcc_audit.specs.Part.{AppendsPart, Passes}
+use Rattle.tpcc_audit.specs.Part.{AppendsPart, PassesBytes}
 
 -- bytes added in two turns
 pub appends-more : (a b c : Option (List ℕ)) (xs ys : List ℕ) → Appends a b xs → Appends b c ys → Appends a c (xs ++ ys)
@@ -31,11 +31,11 @@ part_of_more a b xs ys p =
     record { count = p.count; within = omega (arith, length-append xs ys, p.within); added = subst (Appends a b) (sym (take-append-le p.count xs ys p.within)) p.added }
 
 -- all of them wait
-pub all_wait : (a : Option (List ℕ)) (xs : List ℕ) → Passes a a xs xs
+pub all_wait : (a : Option (List ℕ)) (xs : List ℕ) → PassesBytes a a xs xs
 all_wait a xs = record { sent = []; bytes_are = refl; added = appends-none a }
 
 -- none of them waits
-pub none_waits : (a b : Option (List ℕ)) (xs : List ℕ) → Appends a b xs → Passes a b xs []
+pub none_waits : (a b : Option (List ℕ)) (xs : List ℕ) → Appends a b xs → PassesBytes a b xs []
 none_waits a b xs h = record { sent = xs; bytes_are = sym (append-nil xs); added = h }
 
 append_regroups : (bytes sent waits more : List ℕ) → bytes ≡ sent ++ waits → bytes ++ more ≡ sent ++ (waits ++ more)
@@ -43,7 +43,7 @@ append_regroups bytes sent waits more e = ap (λ z. z ++ more) e ∙ append_asso
 
 -- more bytes behind those that wait: again some are written and others wait
 pub passes-on : (a b c : Option (List ℕ)) (bytes waits more left : List ℕ)
-    → Passes a b bytes waits → Passes b c (waits ++ more) left → Passes a c (bytes ++ more) left
+    → PassesBytes a b bytes waits → PassesBytes b c (waits ++ more) left → PassesBytes a c (bytes ++ more) left
 passes-on a b c bytes waits more left h k = record {
   sent = h.sent ++ k.sent;
   bytes_are = append_regroups bytes h.sent waits more h.bytes_are ∙ ap (λ z. h.sent ++ z) k.bytes_are ∙ sym (append_assoc h.sent k.sent left);
@@ -51,12 +51,12 @@ passes-on a b c bytes waits more left h k = record {
 }
 
 -- or all of them are written
-pub passes-all : (a b c : Option (List ℕ)) (bytes waits : List ℕ) → Passes a b bytes waits → Appends b c waits → Appends a c bytes
+pub passes-all : (a b c : Option (List ℕ)) (bytes waits : List ℕ) → PassesBytes a b bytes waits → Appends b c waits → Appends a c bytes
 passes-all a b c bytes waits h k = subst (Appends a c) (sym h.bytes_are) (appends-more a b c h.sent waits h.added k)
 
 -- or a part of them
 pub passes-part : (a b c : Option (List ℕ)) (bytes waits more : List ℕ)
-    → Passes a b bytes waits → AppendsPart b c (waits ++ more) → AppendsPart a c (bytes ++ more)
+    → PassesBytes a b bytes waits → AppendsPart b c (waits ++ more) → AppendsPart a c (bytes ++ more)
 passes-part a b c bytes waits more h p =
     let e = append_regroups bytes h.sent waits more h.bytes_are in
     subst (AppendsPart a c) (sym e) (record {
@@ -65,14 +65,14 @@ passes-part a b c bytes waits more h p =
       added = subst (Appends a c) (sym (take-append-add h.sent (waits ++ more) p.count)) (appends-more a b c h.sent (take p.count (waits ++ more)) h.added p.added);
     })
 
-pub passes-some : (a b c : Option (List ℕ)) (bytes waits : List ℕ) → Passes a b bytes waits → AppendsPart b c waits → AppendsPart a c bytes
+pub passes-some : (a b c : Option (List ℕ)) (bytes waits : List ℕ) → PassesBytes a b bytes waits → AppendsPart b c waits → AppendsPart a c bytes
 passes-some a b c bytes waits h p =
     subst (AppendsPart a c) (append-nil bytes)
     (passes-part a b c bytes waits [] h (subst (AppendsPart b c) (sym (append-nil waits)) p))
 
 -- a screen behind all that waited, which was written
 pub put_behind : {E : Type 0} (a b c : Option (List ℕ)) (old waits screen mid now : List ℕ) (r : Result (Unit {0}) E)
-    → waits ≡ old → mid ≡ [] → now ≡ mid → Appends a b waits → OnOk r (Appends b c screen) → OnOk r (Passes a c (old ++ screen) now)
+    → waits ≡ old → mid ≡ [] → now ≡ mid → Appends a b waits → OnOk r (Appends b c screen) → OnOk r (PassesBytes a c (old ++ screen) now)
 put_behind a b c old waits screen mid now (Ok done) same none kept before added =
     rw (sym same, kept, none) (none_waits a c (waits ++ screen) (appends-more a b c waits screen before added))
 put_behind a b c old waits screen mid now (Err e) same none kept before added = tt
@@ -85,12 +85,12 @@ broken_behind a b c old waits screen (Err e) same before part =
 
 -- what waits is written
 pub flush_passes : {E : Type 0} (a b c : Option (List ℕ)) (bytes waits now : List ℕ) (r : Result (Unit {0}) E)
-    → Passes a b bytes waits → OnOk r (Appends b c waits) → OnOk r (now ≡ []) → OnOk r (Passes a c bytes now)
+    → PassesBytes a b bytes waits → OnOk r (Appends b c waits) → OnOk r (now ≡ []) → OnOk r (PassesBytes a c bytes now)
 flush_passes a b c bytes waits now (Ok done) before added none = rw none (none_waits a c bytes (passes-all a b c bytes waits before added))
 flush_passes a b c bytes waits now (Err e) before added none = tt
 
 pub flush_broken : {E : Type 0} (a b c : Option (List ℕ)) (bytes waits : List ℕ) (r : Result (Unit {0}) E)
-    → Passes a b bytes waits → OnErr r (AppendsPart b c waits) → OnErr r (AppendsPart a c bytes)
+    → PassesBytes a b bytes waits → OnErr r (AppendsPart b c waits) → OnErr r (AppendsPart a c bytes)
 flush_broken a b c bytes waits (Ok done) before part = tt
 flush_broken a b c bytes waits (Err e) before part = passes-some a b c bytes waits before part
 
@@ -100,9 +100,9 @@ none_part a xs = record { count = 0; within = omega arith; added = appends-none 
 
 -- two texts behind what waits
 pub in_turn : (a b c : Option (List ℕ)) (waited xs ys waits left : List ℕ)
-    → Passes a b (waited ++ xs) waits → Passes b c (waits ++ ys) left → Passes a c (waited ++ (xs ++ ys)) left
+    → PassesBytes a b (waited ++ xs) waits → PassesBytes b c (waits ++ ys) left → PassesBytes a c (waited ++ (xs ++ ys)) left
 in_turn a b c waited xs ys waits left h k =
-    subst (λ z. Passes a c z left) (append_assoc waited xs ys) (passes-on a b c (waited ++ xs) waits ys left h k)
+    subst (λ z. PassesBytes a c z left) (append_assoc waited xs ys) (passes-on a b c (waited ++ xs) waits ys left h k)
 
 -- cut off in the first of them
 pub cut_first : (a b : Option (List ℕ)) (waited xs ys : List ℕ) → AppendsPart a b (waited ++ xs) → AppendsPart a b (waited ++ (xs ++ ys))
@@ -110,20 +110,20 @@ cut_first a b waited xs ys p = subst (AppendsPart a b) (append_assoc waited xs y
 
 -- or in the second
 pub cut_later : (a b c : Option (List ℕ)) (waited xs ys waits : List ℕ)
-    → Passes a b (waited ++ xs) waits → AppendsPart b c (waits ++ ys) → AppendsPart a c (waited ++ (xs ++ ys))
+    → PassesBytes a b (waited ++ xs) waits → AppendsPart b c (waits ++ ys) → AppendsPart a c (waited ++ (xs ++ ys))
 cut_later a b c waited xs ys waits h p =
     subst (AppendsPart a c) (append_assoc waited xs ys) (passes-part a b c (waited ++ xs) waits ys h p)
 
 -- or between them
 pub cut_between : (a b : Option (List ℕ)) (waited xs ys waits : List ℕ)
-    → Passes a b (waited ++ xs) waits → AppendsPart a b (waited ++ (xs ++ ys))
+    → PassesBytes a b (waited ++ xs) waits → AppendsPart a b (waited ++ (xs ++ ys))
 cut_between a b waited xs ys waits h = cut_later a b b waited xs ys waits h (none_part b (waits ++ ys))
 
 -- a text that was put where nothing waited, and then all that waits
-pub ends_whole : (a b c : Option (List ℕ)) (text waits : List ℕ) → Passes a b ([] ++ text) waits → Appends b c waits → Appends a c text
+pub ends_whole : (a b c : Option (List ℕ)) (text waits : List ℕ) → PassesBytes a b ([] ++ text) waits → Appends b c waits → Appends a c text
 ends_whole a b c text waits h k = passes-all a b c text waits h k
 
-pub ends_part : (a b c : Option (List ℕ)) (text waits : List ℕ) → Passes a b ([] ++ text) waits → AppendsPart b c waits → AppendsPart a c text
+pub ends_part : (a b c : Option (List ℕ)) (text waits : List ℕ) → PassesBytes a b ([] ++ text) waits → AppendsPart b c waits → AppendsPart a c text
 ends_part a b c text waits h p = passes-some a b c text waits h p
 
 -- what holds of the sink holds at the fault

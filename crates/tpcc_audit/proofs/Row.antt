@@ -12,7 +12,7 @@ use Rattle.tpcc_rows.specs.declared.row.Table.TheVariants as table
 use Rattle.tpcc_rows.specs.Tables.{Rows}
 use Rattle.tpcc_tables.specs.Positions.{count_of, row_at}
 use Rattle.tpcc_audit.specs.Dump.{rows_of, records_from, records_text}
-use Rattle.tpcc_audit.specs.Part.{AppendsPart, Passes}
+use Rattle.tpcc_audit.specs.Part.{AppendsPart, PassesBytes}
 use Rattle.tpcc_audit.specs.Records.{record_of}
 use Rattle.tpcc_audit.proofs.Parts.{in_turn, cut_first, cut_later, cut_between}
 
@@ -115,23 +115,23 @@ all_text rows t = records_text (map record_of (rows_of rows t))
 
 -- the records of more rows were put
 pub put_more : (rows : Rows) (t : Table) (k n : ℕ) (a b c : Option (List ℕ)) (waited waits left bytes : List ℕ)
-    → Passes a b (waited ++ first_text rows t k) waits → bytes ≡ records_text (records_from rows t k n) → Passes b c (waits ++ bytes) left
-    → Passes a c (waited ++ first_text rows t (k + n)) left
+    → PassesBytes a b (waited ++ first_text rows t k) waits → bytes ≡ records_text (records_from rows t k n) → PassesBytes b c (waits ++ bytes) left
+    → PassesBytes a c (waited ++ first_text rows t (k + n)) left
 put_more rows t k n a b c waited waits left bytes before is more =
-    let behind = subst (λ z. Passes b c (waits ++ z) left) is more in
-    subst (λ z. Passes a c (waited ++ z) left) (records_more rows t k n)
+    let behind = subst (λ z. PassesBytes b c (waits ++ z) left) is more in
+    subst (λ z. PassesBytes a c (waited ++ z) left) (records_more rows t k n)
     (in_turn a b c waited (first_text rows t k) (records_text (records_from rows t k n)) waits left before behind)
 
 -- cut off before them
 pub cut_before : (rows : Rows) (t : Table) (k : ℕ) (a b : Option (List ℕ)) (waited waits : List ℕ)
-    → Passes a b (waited ++ first_text rows t k) waits → AppendsPart a b (waited ++ all_text rows t)
+    → PassesBytes a b (waited ++ first_text rows t k) waits → AppendsPart a b (waited ++ all_text rows t)
 cut_before rows t k a b waited waits before =
     subst (λ z. AppendsPart a b (waited ++ z)) (records_rest rows t k)
     (cut_between a b waited (first_text rows t k) (records_text (map record_of (drop k (rows_of rows t)))) waits before)
 
 -- or within them
 pub cut_within : (rows : Rows) (t : Table) (k n : ℕ) (a b c : Option (List ℕ)) (waited waits bytes : List ℕ)
-    → Passes a b (waited ++ first_text rows t k) waits → bytes ≡ records_text (records_from rows t k n) → AppendsPart b c (waits ++ bytes)
+    → PassesBytes a b (waited ++ first_text rows t k) waits → bytes ≡ records_text (records_from rows t k n) → AppendsPart b c (waits ++ bytes)
     → AppendsPart a c (waited ++ all_text rows t)
 cut_within rows t k n a b c waited waits bytes before is more =
     let behind = subst (λ z. AppendsPart b c (waits ++ z)) is more in
@@ -142,8 +142,8 @@ cut_within rows t k n a b c waited waits bytes before is more =
 
 -- all rows
 pub put_whole : (rows : Rows) (t : Table) (k : ℕ) (a b : Option (List ℕ)) (waited waits : List ℕ) → count_of rows t ≤ k
-    → Passes a b (waited ++ first_text rows t k) waits → Passes a b (waited ++ all_text rows t) waits
+    → PassesBytes a b (waited ++ first_text rows t k) waits → PassesBytes a b (waited ++ all_text rows t) waits
 put_whole rows t k a b waited waits most before =
     let n = count_of_rows rows t in
     let all = take_all k (rows_of rows t) (omega arith) in
-    subst (λ z. Passes a b (waited ++ records_text (map record_of z)) waits) all before
+    subst (λ z. PassesBytes a b (waited ++ records_text (map record_of z)) waits) all before

@@ -5,7 +5,7 @@ use Rattle.csv.specs.Writing.{default_writer, writer_setup, fields_written, has_
 use Rattle.csv.specs.declared.writer.Writer.{Writer}
 
 -- between two records of a default writer, which has taken this text
-pub record HasTaken (text : List ℕ) (w : Writer (Vec ℕ Global)) : Type 0 where
+pub record HasTakenText (text : List ℕ) (w : Writer (Vec ℕ Global)) : Type 0 where
   pub setup : writer_setup w ≡ default_writer
   pub fields : fields_written w ≡ 0
   pub wrote : has_written w ≡ false

@@ -1,7 +1,7 @@
 //! Output in blocks, in place of a call of the system for each line.
 ghost use Rattle.std.specs.Prelude.{◌≡◌, [], ◌++◌, OnErr, OnOk, if◌then◌else◌};
 ghost use Rattle.std.specs.Io.KnownBytes.{Appends};
-ghost use Rattle.tpcc_audit.specs.Part.{AppendsPart, Passes};
+ghost use Rattle.tpcc_audit.specs.Part.{AppendsPart, PassesBytes};
 
 use crate::fault::Unwritten;
 use crate::writing::put_all;
@@ -49,7 +49,7 @@ impl Blocks {
     /// Lets bytes wait; where there is no room, what waits is written, and these too where they are too many to wait
     /// or are refused memory. An interrupted write is made again, at most 1,000 times in a row.
     pub fn put<W: Write>(&mut self, out: &mut W, bytes: &[u8]) -> Result<(), Unwritten>
-        ensures written { OnOk result (Passes (W.contents out.old) (W.contents out.new)
+        ensures written { OnOk result (PassesBytes (W.contents out.old) (W.contents out.new)
             (self.old ++ bytes.now) self.new) }
         ensures part { OnErr result (AppendsPart (W.contents out.old) (W.contents out.new)
             (self.old ++ bytes.now)) }

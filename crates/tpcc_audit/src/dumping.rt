@@ -4,8 +4,8 @@ ghost use Rattle.std.specs.Io.KnownBytes.{Appends};
 ghost use Rattle.csv.specs.Writing.{default_writer, row_text};
 ghost use Rattle.tpcc_audit.specs.Columns as columns;
 ghost use Rattle.tpcc_audit.specs.Dump.{dump_text, records_from, records_text, rows_of};
-ghost use Rattle.tpcc_audit.specs.Output.{HasTaken};
-ghost use Rattle.tpcc_audit.specs.Part.{AppendsPart, Passes};
+ghost use Rattle.tpcc_audit.specs.Output.{HasTakenText};
+ghost use Rattle.tpcc_audit.specs.Part.{AppendsPart, PassesBytes};
 ghost use Rattle.tpcc_audit.specs.Records.{record_of};
 
 use crate::blocks::Blocks;
@@ -73,7 +73,7 @@ pub fn put_dump<W: Write>(
     blocks: &mut Blocks,
     out: &mut W,
 ) -> Result<(), DumpFault>
-    ensures written { OnOk result (Passes (W.contents out.old) (W.contents out.new)
+    ensures written { OnOk result (PassesBytes (W.contents out.old) (W.contents out.new)
         (blocks.old ++ dump_text tables.now.rows table) blocks.new) }
     ensures part { OnErr result (AppendsPart (W.contents out.old) (W.contents out.new)
         (blocks.old ++ dump_text tables.now.rows table)) }
@@ -93,7 +93,7 @@ fn put_columns<W: Write>(
     out: &mut W,
 ) -> Result<(), DumpFault>
     requires { fields.old ≡ [] }
-    ensures written { OnOk result (Passes (W.contents out.old) (W.contents out.new)
+    ensures written { OnOk result (PassesBytes (W.contents out.old) (W.contents out.new)
         (blocks.old ++ row_text default_writer (columns.columns table)) blocks.new) }
     ensures part { OnErr result (AppendsPart (W.contents out.old) (W.contents out.new)
         (blocks.old ++ row_text default_writer (columns.columns table))) }
@@ -123,7 +123,7 @@ fn put_rows<W: Write>(
     blocks: &mut Blocks,
     out: &mut W,
 ) -> Result<(), DumpFault>
-    ensures written { OnOk result (Passes (W.contents out.old) (W.contents out.new)
+    ensures written { OnOk result (PassesBytes (W.contents out.old) (W.contents out.new)
         (blocks.old ++ records_text (map record_of (rows_of tables.now.rows table))) blocks.new) }
     ensures part { OnErr result (AppendsPart (W.contents out.old) (W.contents out.new)
         (blocks.old ++ records_text (map record_of (rows_of tables.now.rows table)))) }
@@ -166,8 +166,8 @@ fn take_rows(
     count: usize,
 ) -> Result<(), NoMemory>
     requires fits { from + count ≤ 2 ^ 64 - 1 }
-    ensures { OnOk result ((text : List ℕ) → HasTaken text writer.old
-        → HasTaken (text ++ records_text (records_from tables.now.rows table from count))
+    ensures { OnOk result ((text : List ℕ) → HasTakenText text writer.old
+        → HasTakenText (text ++ records_text (records_from tables.now.rows table from count))
         writer.new) }
 {
     for place in 0..count {

@@ -5,7 +5,7 @@ use Rattle.std.proofs.Math.Seq.{take-suc}
 use Rattle.std.proofs.lemmas.List.{take-append-drop}
 use Rattle.std.proofs.lemmas.List.Concat.{flat_map-append}
 use Rattle.std.proofs.lemmas.Option.{slice_get_within, slice_get_read, get_or_from_slice_get}
-use Rattle.tpcc_audit.specs.Part.{AppendsPart, Passes}
+use Rattle.tpcc_audit.specs.Part.{AppendsPart, PassesBytes}
 use Rattle.tpcc_audit.proofs.Parts.{in_turn, cut_first, cut_later}
 
 one_more : {X : Type 0} (xs : List X) (k : ℕ) (x : X) → slice_get xs k ≡ Some x → take (k + 1) xs ≡ take k xs ++ x ∷ []
@@ -28,15 +28,15 @@ next_text f xs k x e =
 
 -- the next of several texts
 pub put_next : {X : Type 0} (f : X → List ℕ) (xs : List X) (k : ℕ) (x : X) (a b c : Option (List ℕ)) (waited waits left : List ℕ)
-    → slice_get xs k ≡ Some x → Passes a b (waited ++ flat_map f (take k xs)) waits → Passes b c (waits ++ f x) left
-    → Passes a c (waited ++ flat_map f (take (k + 1) xs)) left
+    → slice_get xs k ≡ Some x → PassesBytes a b (waited ++ flat_map f (take k xs)) waits → PassesBytes b c (waits ++ f x) left
+    → PassesBytes a c (waited ++ flat_map f (take (k + 1) xs)) left
 put_next f xs k x a b c waited waits left at before more =
-    subst (λ z. Passes a c (waited ++ z) left) (next_text f xs k x at)
+    subst (λ z. PassesBytes a c (waited ++ z) left) (next_text f xs k x at)
     (in_turn a b c waited (flat_map f (take k xs)) (f x) waits left before more)
 
 -- or cut off in it
 pub cut_next : {X : Type 0} (f : X → List ℕ) (xs : List X) (k : ℕ) (x : X) (a b c : Option (List ℕ)) (waited waits : List ℕ)
-    → slice_get xs k ≡ Some x → Passes a b (waited ++ flat_map f (take k xs)) waits → AppendsPart b c (waits ++ f x)
+    → slice_get xs k ≡ Some x → PassesBytes a b (waited ++ flat_map f (take k xs)) waits → AppendsPart b c (waits ++ f x)
     → AppendsPart a c (waited ++ flat_map f xs)
 cut_next f xs k x a b c waited waits at before part =
     let first = subst (λ z. AppendsPart a c (waited ++ z)) (next_text f xs k x at)
@@ -52,15 +52,15 @@ under name text =
 
 -- a part behind its heading
 pub part_with_heading : (a b c : Option (List ℕ)) (waited name text waits left : List ℕ)
-    → Passes a b (waited ++ (codes "== " ++ (name ++ (10 ∷ [])))) waits → Passes b c (waits ++ text) left
-    → Passes a c (waited ++ (codes "== " ++ (name ++ (10 ∷ text)))) left
+    → PassesBytes a b (waited ++ (codes "== " ++ (name ++ (10 ∷ [])))) waits → PassesBytes b c (waits ++ text) left
+    → PassesBytes a c (waited ++ (codes "== " ++ (name ++ (10 ∷ text)))) left
 part_with_heading a b c waited name text waits left before more =
-    subst (λ z. Passes a c (waited ++ z) left) (under name text)
+    subst (λ z. PassesBytes a c (waited ++ z) left) (under name text)
     (in_turn a b c waited (codes "== " ++ (name ++ (10 ∷ []))) text waits left before more)
 
 -- cut off in it
 pub headed_cut : (a b c : Option (List ℕ)) (waited name text waits : List ℕ)
-    → Passes a b (waited ++ (codes "== " ++ (name ++ (10 ∷ [])))) waits → AppendsPart b c (waits ++ text)
+    → PassesBytes a b (waited ++ (codes "== " ++ (name ++ (10 ∷ [])))) waits → AppendsPart b c (waits ++ text)
     → AppendsPart a c (waited ++ (codes "== " ++ (name ++ (10 ∷ text))))
 headed_cut a b c waited name text waits before part =
     subst (λ z. AppendsPart a c (waited ++ z)) (under name text)

@@ -1,6 +1,6 @@
 //! The journal's entries, one after another.
 ghost use Rattle.std.specs.Prelude.{◌≡◌, ◌++◌, IfOk, OnErr, OnOk, flat_map};
-ghost use Rattle.tpcc_audit.specs.Part.{AppendsPart, Passes};
+ghost use Rattle.tpcc_audit.specs.Part.{AppendsPart, PassesBytes};
 ghost use Rattle.tpcc_terminal.specs.RequestLines as lines;
 ghost use Rattle.tpcc_terminal.specs.Screens as screens;
 
@@ -53,7 +53,7 @@ fn put_entry<T: EntryText, W: Write>(
     out: &mut W,
     entry: &Entry,
 ) -> Result<(), DumpFault>
-    ensures written { OnOk result (Passes (W.contents out.old) (W.contents out.new)
+    ensures written { OnOk result (PassesBytes (W.contents out.old) (W.contents out.new)
         (blocks.old ++ T.text entry.now) blocks.new) }
     ensures part { OnErr result (AppendsPart (W.contents out.old) (W.contents out.new)
         (blocks.old ++ T.text entry.now)) }
@@ -70,7 +70,7 @@ pub fn put_each<T: EntryText, W: Write>(
     out: &mut W,
     entries: &[Entry],
 ) -> Result<(), DumpFault>
-    ensures written { OnOk result (Passes (W.contents out.old) (W.contents out.new)
+    ensures written { OnOk result (PassesBytes (W.contents out.old) (W.contents out.new)
         (blocks.old ++ flat_map T.text entries.now) blocks.new) }
     ensures part { OnErr result (AppendsPart (W.contents out.old) (W.contents out.new)
         (blocks.old ++ flat_map T.text entries.now)) }

@@ -1,7 +1,7 @@
 //! The requests that a terminal asks, as a script.
 ghost use Rattle.std.specs.Prelude.{◌≤◌, ◌++◌, OnErr, OnOk};
 ghost use Rattle.std.specs.Io.KnownBytes.{Appends};
-ghost use Rattle.tpcc_audit.specs.Part.{AppendsPart, Passes};
+ghost use Rattle.tpcc_audit.specs.Part.{AppendsPart, PassesBytes};
 ghost use Rattle.tpcc_show.specs.Requests.{IsTold, asked_by, asked_next, next_line, request_lines};
 
 use std::alloc::Global;
@@ -49,7 +49,7 @@ fn put_cards<W: Write>(
     blocks: &mut Blocks,
     out: &mut W,
 ) -> Result<(), DumpFault>
-    ensures written { OnOk result (Passes (W.contents out.old) (W.contents out.new)
+    ensures written { OnOk result (PassesBytes (W.contents out.old) (W.contents out.new)
         (blocks.old ++ request_lines (asked_next terminal.old moment cards)) blocks.new) }
     ensures part { OnErr result (AppendsPart (W.contents out.old) (W.contents out.new)
         (blocks.old ++ request_lines (asked_next terminal.old moment cards))) }
@@ -70,7 +70,7 @@ fn put_next<W: Write>(
     out: &mut W,
 ) -> Result<(), DumpFault>
     ensures told { OnOk result (IsTold terminal.old terminal.new) }
-    ensures written { OnOk result (Passes (W.contents out.old) (W.contents out.new)
+    ensures written { OnOk result (PassesBytes (W.contents out.old) (W.contents out.new)
         (blocks.old ++ next_line terminal.old moment) blocks.new) }
     ensures part { OnErr result (AppendsPart (W.contents out.old) (W.contents out.new)
         (blocks.old ++ next_line terminal.old moment)) }

@@ -3,7 +3,7 @@ ghost use Rattle.std.specs.Prelude.{◌≡◌, ◌++◌, OnErr, OnOk, Some, flat
 ghost use Rattle.std.specs.Io.KnownBytes.{Appends};
 ghost use Rattle.tpcc_rows.specs.Conditions.{first_broken};
 ghost use Rattle.tpcc_rows.specs.Replay.{results_of};
-ghost use Rattle.tpcc_audit.specs.Part.{AppendsPart, Passes};
+ghost use Rattle.tpcc_audit.specs.Part.{AppendsPart, PassesBytes};
 ghost use Rattle.tpcc_terminal.specs.Screens as screens;
 ghost use Rattle.tpcc_show.specs.Shown.{book_report, headed_text, heading, named_line, part_text, parts_text, screens_shown, served_text, shown_text};
 
@@ -69,7 +69,7 @@ fn show_parts<N: Naming, W: Write>(
     blocks: &mut Blocks,
     out: &mut W,
 ) -> Result<(), DumpFault>
-    ensures written { OnOk result (Passes (W.contents out.old) (W.contents out.new)
+    ensures written { OnOk result (PassesBytes (W.contents out.old) (W.contents out.new)
         (blocks.old ++ parts_text (option_map (λ s. s.now) screens.entry) book.now parts.now)
         blocks.new) }
     ensures part { OnErr result (AppendsPart (W.contents out.old) (W.contents out.new)
@@ -89,7 +89,7 @@ fn show_all<N: Naming, W: Write>(
     blocks: &mut Blocks,
     out: &mut W,
 ) -> Result<(), DumpFault>
-    ensures written { OnOk result (Passes (W.contents out.old) (W.contents out.new)
+    ensures written { OnOk result (PassesBytes (W.contents out.old) (W.contents out.new)
         (blocks.old
         ++ flat_map (headed_text (option_map (λ s. s.now) screens.entry) book.now) parts.now)
         blocks.new) }
@@ -112,7 +112,7 @@ fn show_headed<N: Naming, W: Write>(
     blocks: &mut Blocks,
     out: &mut W,
 ) -> Result<(), DumpFault>
-    ensures written { OnOk result (Passes (W.contents out.old) (W.contents out.new)
+    ensures written { OnOk result (PassesBytes (W.contents out.old) (W.contents out.new)
         (blocks.old ++ headed_text (option_map (λ s. s.now) screens.entry) book.now part)
         blocks.new) }
     ensures part { OnErr result (AppendsPart (W.contents out.old) (W.contents out.new)
@@ -124,7 +124,7 @@ fn show_headed<N: Naming, W: Write>(
 }
 
 fn put_heading<W: Write>(blocks: &mut Blocks, out: &mut W, part: Part) -> Result<(), Unwritten>
-    ensures written { OnOk result (Passes (W.contents out.old) (W.contents out.new)
+    ensures written { OnOk result (PassesBytes (W.contents out.old) (W.contents out.new)
         (blocks.old ++ heading part) blocks.new) }
     ensures part { OnErr result (AppendsPart (W.contents out.old) (W.contents out.new)
         (blocks.old ++ heading part)) }
@@ -136,7 +136,7 @@ fn put_heading<W: Write>(blocks: &mut Blocks, out: &mut W, part: Part) -> Result
 
 #[tactic(auto, using(tpcc_audit::proofs::Parts::in_turn, tpcc_audit::proofs::Parts::cut_first, tpcc_audit::proofs::Parts::cut_later))]
 fn put_name<W: Write>(blocks: &mut Blocks, out: &mut W, part: Part) -> Result<(), Unwritten>
-    ensures written { OnOk result (Passes (W.contents out.old) (W.contents out.new)
+    ensures written { OnOk result (PassesBytes (W.contents out.old) (W.contents out.new)
         (blocks.old ++ named_line part) blocks.new) }
     ensures part { OnErr result (AppendsPart (W.contents out.old) (W.contents out.new)
         (blocks.old ++ named_line part)) }
@@ -155,7 +155,7 @@ fn show_part<N: Naming, W: Write>(
     blocks: &mut Blocks,
     out: &mut W,
 ) -> Result<(), DumpFault>
-    ensures written { OnOk result (Passes (W.contents out.old) (W.contents out.new)
+    ensures written { OnOk result (PassesBytes (W.contents out.old) (W.contents out.new)
         (blocks.old ++ part_text (option_map (λ s. s.now) screens.entry) book.now part)
         blocks.new) }
     ensures part { OnErr result (AppendsPart (W.contents out.old) (W.contents out.new)
@@ -178,7 +178,7 @@ fn put_shown<N: Naming, W: Write>(
     book: &Book<N>,
     screens: Option<&[u8]>,
 ) -> Result<(), DumpFault>
-    ensures written { OnOk result (Passes (W.contents out.old) (W.contents out.new)
+    ensures written { OnOk result (PassesBytes (W.contents out.old) (W.contents out.new)
         (blocks.old ++ screens_shown (option_map (λ s. s.now) screens.entry) book.now)
         blocks.new) }
     ensures part { OnErr result (AppendsPart (W.contents out.old) (W.contents out.new)
@@ -200,7 +200,7 @@ fn put_check<W: Write>(
     out: &mut W,
     tables: &Tables,
 ) -> Result<(), DumpFault>
-    ensures written { OnOk result (Passes (W.contents out.old) (W.contents out.new)
+    ensures written { OnOk result (PassesBytes (W.contents out.old) (W.contents out.new)
         (blocks.old ++ screens.check_screen (first_broken tables.now.rows)) blocks.new) }
     ensures part { OnErr result (AppendsPart (W.contents out.old) (W.contents out.new)
         (blocks.old ++ screens.check_screen (first_broken tables.now.rows))) }
@@ -217,7 +217,7 @@ fn put_results<W: Write>(
     out: &mut W,
     journal: &Journal,
 ) -> Result<(), DumpFault>
-    ensures written { OnOk result (Passes (W.contents out.old) (W.contents out.new)
+    ensures written { OnOk result (PassesBytes (W.contents out.old) (W.contents out.new)
         (blocks.old ++ screens.results_screen (results_of journal.now.entries)) blocks.new) }
     ensures part { OnErr result (AppendsPart (W.contents out.old) (W.contents out.new)
         (blocks.old ++ screens.results_screen (results_of journal.now.entries))) }
@@ -234,7 +234,7 @@ fn put_report<N: Naming, W: Write>(
     out: &mut W,
     book: &Book<N>,
 ) -> Result<(), DumpFault>
-    ensures written { OnOk result (Passes (W.contents out.old) (W.contents out.new)
+    ensures written { OnOk result (PassesBytes (W.contents out.old) (W.contents out.new)
         (blocks.old ++ book_report book.now) blocks.new) }
     ensures part { OnErr result (AppendsPart (W.contents out.old) (W.contents out.new)
         (blocks.old ++ book_report book.now)) }

@@ -1,13 +1,13 @@
 use Rattle.std.proofs.Common.{◌≤◌, ◌-◌, ◌++◌, map, take}
 use Rattle.tpcc_audit.specs.Dump.{records_text, rows_of}
-use Rattle.tpcc_audit.specs.Part.{Passes}
+use Rattle.tpcc_audit.specs.Part.{PassesBytes}
 use Rattle.tpcc_audit.specs.Records.{record_of}
 use Rattle.tpcc_audit.proofs.dumping.put_rows.Given as goal
 
 abbrev pub invariant-turns : goal.invariant-turns
 invariant-turns g l = record {
   within : l.done ≤ l.end;
-  written : Passes (g.W.Write.contents l.initial.out) (g.W.Write.contents l.out) (l.initial.blocks ++ records_text (map record_of (take l.done (rows_of l.tables.rows l.table)))) l.blocks;
+  written : PassesBytes (g.W.Write.contents l.initial.out) (g.W.Write.contents l.out) (l.initial.blocks ++ records_text (map record_of (take l.done (rows_of l.tables.rows l.table)))) l.blocks;
 }
 
 abbrev pub decreases-turns : goal.decreases-turns

@@ -2,7 +2,7 @@ use Rattle.std.proofs.Common.{arith, ◌≡◌, ◌++◌, ◌+◌, sym, subst}
 use Rattle.std.specs.Prelude.{None}
 use Rattle.tpcc_tables.specs.Positions.{row_at, lent_row}
 use Rattle.tpcc_audit.specs.Dump.{records_text, records_from}
-use Rattle.tpcc_audit.specs.Output.{HasTaken}
+use Rattle.tpcc_audit.specs.Output.{HasTakenText}
 use Rattle.tpcc_audit.proofs.Row.{one_record, no_record}
 use Rattle.tpcc_audit.proofs.dumping.take_rows.Goals.{in-Some+in_ok-put_row+in_ok-put, in_default}
 use Rattle.tpcc_audit.proofs.dumping.take_rows.Goals as goal
@@ -24,4 +24,4 @@ loop-place-preserved c = λ text before. elim c.match-row.branch [
 pub returns : goal.returns
 returns c = λ text before.
     let all : c.loop-place.place ≡ c.args.count = omega (arith, c.loop-place.auto.place-end, c.loop-place-test.false) in
-    subst (λ n. HasTaken (text ++ records_text (records_from c.args.tables.now.rows c.args.table c.args.from n)) c.loop-place.writer) all (c.loop-place.invariant text before)
+    subst (λ n. HasTakenText (text ++ records_text (records_from c.args.tables.now.rows c.args.table c.args.from n)) c.loop-place.writer) all (c.loop-place.invariant text before)

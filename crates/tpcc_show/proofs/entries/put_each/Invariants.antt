@@ -1,7 +1,7 @@
 use Rattle.std.proofs.Common.{◌++◌, take}
 use Rattle.std.specs.Prelude.{flat_map}
-use Rattle.tpcc_audit.specs.Part.{Passes}
+use Rattle.tpcc_audit.specs.Part.{PassesBytes}
 use Rattle.tpcc_show.proofs.entries.put_each.Given as goal
 
 abbrev pub invariant-loop-entry : goal.invariant-loop-entry
-invariant-loop-entry g l = Passes (g.W.Write.contents l.fn.out) (g.W.Write.contents l.out) (l.fn.blocks ++ flat_map g.T.EntryText.text (take l.entry-index l.entries)) l.blocks
+invariant-loop-entry g l = PassesBytes (g.W.Write.contents l.fn.out) (g.W.Write.contents l.out) (l.fn.blocks ++ flat_map g.T.EntryText.text (take l.entry-index l.entries)) l.blocks

@@ -1,8 +1,8 @@
 use Rattle.std.proofs.Common.{◌++◌, take}
 use Rattle.std.specs.Prelude.{flat_map, option_map}
-use Rattle.tpcc_audit.specs.Part.{Passes}
+use Rattle.tpcc_audit.specs.Part.{PassesBytes}
 use Rattle.tpcc_show.specs.Shown.{headed_text}
 use Rattle.tpcc_show.proofs.showing.show_all.Given as goal
 
 abbrev pub invariant-loop-part : goal.invariant-loop-part
-invariant-loop-part g l = Passes (g.W.Write.contents l.fn.out) (g.W.Write.contents l.out) (l.fn.blocks ++ flat_map (headed_text (option_map (λ s. s.now) l.screens) l.book) (take l.part-index l.parts)) l.blocks
+invariant-loop-part g l = PassesBytes (g.W.Write.contents l.fn.out) (g.W.Write.contents l.out) (l.fn.blocks ++ flat_map (headed_text (option_map (λ s. s.now) l.screens) l.book) (take l.part-index l.parts)) l.blocks
