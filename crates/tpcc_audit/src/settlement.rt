@@ -7,8 +7,7 @@ ghost use Rattle.tpcc_audit.specs.Settlement.{AllSeen, IsSettled, IsUnsettled};
 
 use thiserror::Error;
 use tpcc_book::{Book, Naming, SeatedPurse, Seating, Turns};
-use tpcc_terminal::laws::receipts_stay;
-use tpcc_terminal::{Receipt, Report};
+use tpcc_terminal::{Receipt, Report, receipts_stay};
 
 /// Why a book was not settled.
 #[derive(Clone, Copy, Debug, PartialEq, Eq, Error)]
@@ -19,8 +18,10 @@ pub enum Unsettled {
 }
 
 /// Ends the turns and settles their book with the purses: all entries and payments of the purses are the
-/// journal's length and the rise of W_YTD (3.3.2.1), which is read off the rows. Each receipt stands in the
-/// journal at its place, since it stands in the front of a purse that is handed in.
+/// journal's length and the rise of W_YTD (3.3.2.1), which is read off the rows.
+///
+/// Receipts are not compared with the journal when this runs. The condition of a call is that each of them stands in
+/// the front of a purse that is handed in, and it follows that each stands in the journal at its place.
 ///
 /// Missing is the one refusal; the purses are spent all the same. Then there is no book where a turn was
 /// drawn and not ended, which needs a purse that is held back in the middle of a call. It takes no memory
