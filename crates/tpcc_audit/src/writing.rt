@@ -6,8 +6,8 @@ ghost use Rattle.tpcc_audit.specs.Part.{AppendsPart};
 use crate::fault::Unwritten;
 use std::io::{ErrorKind, Write};
 
-/// How often in a row an interrupted write is made again.
-const MOST_RETRIES: u32 = 1_000;
+/// How often in a row an interrupted call of a reader or a writer is made again.
+pub const MOST_RETRIES: u32 = 1_000;
 
 /// Writes all the bytes; at a fault some first bytes of them.
 #[tactic(auto, using(crate::proofs::Parts::add_part))]
