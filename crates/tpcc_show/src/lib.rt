@@ -1,4 +1,17 @@
 //! What is shown of a book: screens, report, journal, delivery results, check and tables, as text.
+//!
+//! Each of these is a `Part`; `part_named` finds it by its word, and a command line has room for 16 of them (`ShownParts`).
+//! `show` writes parts in the order in which they are given: one alone as it is, several each under a heading with its word. The
+//! screens that it shows are those of the journal's replies; `show_served` shows screens that were kept as they were written.
+//!
+//! `check_screen` and `results_screen` answer the two calls of a script that are no requests, and leave the book as it is.
+//! `put_requests` writes what a terminal asks, a line for each card; it needs no book.
+//!
+//! A writer that is interrupted is called again, as often in a row as `tpcc_audit` says; at a fault a first part of the text is
+//! written.
+//!
+//! Not promised: that the writer is flushed, and that memory is found. A text is made whole before it is put, a journal and a
+//! table some rows at a time.
 #![tactic(auto)]
 
 mod entries;
