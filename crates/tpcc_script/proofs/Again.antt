@@ -23,12 +23,13 @@ use Rattle.tpcc_book.specs.Past.{Past}
 use Rattle.tpcc_book.specs.Turn.{turn_refusal}
 use Rattle.tpcc_terminal.specs.Screens.{reply_screen, refused_screen}
 use Rattle.tpcc_show.specs.Shown.{journal_screens}
+use Rattle.tpcc_script.specs.declared.reader.TheConstants.{MOST_LINES}
 use Rattle.tpcc_script.specs.declared.call.Call.{Call}
 use Rattle.tpcc_script.specs.declared.call.Call.TheVariants.{Ask, Check, Results}
 use Rattle.tpcc_script.specs.declared.fault.ScriptFault.{ScriptFault}
 use Rattle.tpcc_script.specs.declared.fault.ScriptFault.TheVariants.{Bad, Cut, LongLine, TooManyLines, Read, Write, NoMemory}
 use Rattle.tpcc_script.specs.Script.{Script}
-use Rattle.tpcc_script.specs.Book.{Book, book_with_entry, request_refusal, screen_of, screen_by, screens_of, book_after, book_by, books_after}
+use Rattle.tpcc_script.specs.ScriptBook.{ScriptBook, book_with_entry, request_refusal, screen_of, screen_by, screens_of, book_after, book_by, books_after}
 use Rattle.tpcc_script.specs.Run.{Shows, Prints, IsOutOfMemory, IsRun, Wrote}
 use Rattle.tpcc_script.specs.Sayable.{has_words, fits_line, is_sayable, is_amount}
 use Rattle.tpcc_script.specs.Session.{opened_book}
@@ -98,7 +99,7 @@ reads_again book w = journal_is_read book.entries (sayable (opening_state book.o
 -- ---- entries served again
 
 -- the entries' screens, and the book behind them
-record Follows (b : Book) (entries : List Entry) (text : List ℕ) (left : Book) : Type 0 where
+record Follows (b : ScriptBook) (entries : List Entry) (text : List ℕ) (left : ScriptBook) : Type 0 where
   screens : text ≡ journal_screens entries
   opening : left.opening ≡ b.opening
   state : left.state ≡ replay b.state entries
@@ -109,7 +110,7 @@ same_number : (n : ℕ) → (n == n) ≡ true
 same_number n = grind (arith, nat_tests)
 
 -- what the rows accept, a purse that made each entry of its terminal may ask
-accepts : (b : Book) (request : Request) → refusal b.state request ≡ None → length b.journal < 1000000000 → request_refusal b request ≡ None
+accepts : (b : ScriptBook) (request : Request) → refusal b.state request ≡ None → length b.journal < 1000000000 → request_refusal b request ≡ None
 unfolding turn_refusal
 accepts b request none few =
     let room : nat_lt (length b.journal) 1000000000 ≡ true = grind (arith, nat_tests) in
@@ -120,7 +121,7 @@ field : {X : Type 0} (f : Entry → X) (journal : List Entry) (e : Entry) (x : X
 field f journal e x rest is =
     ap (λ z. z ++ rest) (map-append f journal (e ∷ [])) ∙ append_assoc (map f journal) (f e ∷ []) rest ∙ ap (λ z. map f journal ++ z ∷ rest) is
 
-follows : (b : Book) (before entries : List Entry) → IsServedAfter b.state before entries → length b.journal + length entries ≤ 1000000
+follows : (b : ScriptBook) (before entries : List Entry) → IsServedAfter b.state before entries → length b.journal + length entries ≤ MOST_LINES
     → Follows b entries (screens_of b (map (λ e. Ask e.request) entries)) (books_after b (map (λ e. Ask e.request) entries))
 unfolding screen_of book_after
 follows b before [] served few =
@@ -136,12 +137,12 @@ follows b before (e ∷ es) served few =
     let f = follows next (before ++ e ∷ []) es served.1 (omega (arith, few, longer)) in
     record {
       screens = ap (λ z. z ++ screens_of (book_after b (Ask e.request)) calls) shown
-          ∙ ap (λ (n : Book). reply_screen e.reply ++ screens_of n calls) after ∙ ap (λ z. reply_screen e.reply ++ z) f.screens;
-      opening = ap (λ (n : Book). (books_after n calls).opening) after ∙ f.opening;
-      state = ap (λ (n : Book). (books_after n calls).state) after ∙ f.state;
-      requests = ap (λ (n : Book). map (λ (x : Entry). x.request) (books_after n calls).journal) after ∙ f.requests
+          ∙ ap (λ (n : ScriptBook). reply_screen e.reply ++ screens_of n calls) after ∙ ap (λ z. reply_screen e.reply ++ z) f.screens;
+      opening = ap (λ (n : ScriptBook). (books_after n calls).opening) after ∙ f.opening;
+      state = ap (λ (n : ScriptBook). (books_after n calls).state) after ∙ f.state;
+      requests = ap (λ (n : ScriptBook). map (λ (x : Entry). x.request) (books_after n calls).journal) after ∙ f.requests
           ∙ field (λ (x : Entry). x.request) b.journal made e.request (map (λ (x : Entry). x.request) es) refl;
-      replies = ap (λ (n : Book). map (λ (x : Entry). x.reply) (books_after n calls).journal) after ∙ f.replies
+      replies = ap (λ (n : ScriptBook). map (λ (x : Entry). x.reply) (books_after n calls).journal) after ∙ f.replies
           ∙ field (λ (x : Entry). x.reply) b.journal made e.reply (map (λ (x : Entry). x.reply) es) (sym served.0.replied);
     }
 
@@ -156,16 +157,16 @@ same_again book w =
 
 -- ---- whatever a run prints is the screens that are computed, up to a request that was refused for want of memory
 
-abbrev Plainly : Book → List Call → List ℕ → Book → Type 0
+abbrev Plainly : ScriptBook → List Call → List ℕ → ScriptBook → Type 0
 Plainly b calls text left = ((text ≡ screens_of b calls) × (left ≡ books_after b calls)) ⊎ IsShort b calls text
 
-out_of_memory : (b mid : Book) (call : Call) (calls : List Call) (text screen more : List ℕ) → IsOutOfMemory b call screen mid → text ≡ screen ++ more → IsShort b (call ∷ calls) text
+out_of_memory : (b mid : ScriptBook) (call : Call) (calls : List Call) (text screen more : List ℕ) → IsOutOfMemory b call screen mid → text ≡ screen ++ more → IsShort b (call ∷ calls) text
 out_of_memory b mid (Ask request) calls text screen more h e =
     record { done = []; request = request; rest = calls; calls_are = refl; free = h.free; more = more; shown = e ∙ ap (λ z. z ++ more) h.shown }
 out_of_memory b mid Check calls text screen more h e = let no = h.request in cc
 out_of_memory b mid Results calls text screen more h e = let no = h.request in cc
 
-served_then : (b : Book) (call : Call) (calls : List Call) (text screen more : List ℕ) (left : Book)
+served_then : (b : ScriptBook) (call : Call) (calls : List Call) (text screen more : List ℕ) (left : ScriptBook)
     → screen ≡ screen_of b call → text ≡ screen ++ more → Plainly (book_after b call) calls more left → Plainly b (call ∷ calls) text left
 served_then b call calls text screen more left shown e (inl h) = inl (e ∙ ap (λ z. z ++ more) shown ∙ ap (λ z. screen_of b call ++ z) h.0, h.1)
 served_then b call calls text screen more left shown e (inr h) =
@@ -180,38 +181,38 @@ served_then b call calls text screen more left shown e (inr h) =
           ∙ sym (append_assoc (screen_of b call) (screens_of (book_after b call) h.done) (refused_screen refused.NoMemory ++ h.more));
     })
 
-plainly-by : (b mid : Book) (call : Call) (calls : List Call) (text screen more : List ℕ) (left : Book)
-    → ((m : Book) → Prints m calls more left → Plainly m calls more left)
+plainly-by : (b mid : ScriptBook) (call : Call) (calls : List Call) (text screen more : List ℕ) (left : ScriptBook)
+    → ((m : ScriptBook) → Prints m calls more left → Plainly m calls more left)
     → Shows b call screen mid → text ≡ screen ++ more → Prints mid calls more left → Plainly b (call ∷ calls) text left
 plainly-by b mid call calls text screen more left goes (inl h) e prints =
-    served_then b call calls text screen more left h.shown e (goes (book_after b call) (subst (λ (m : Book). Prints m calls more left) h.left prints))
+    served_then b call calls text screen more left h.shown e (goes (book_after b call) (subst (λ (m : ScriptBook). Prints m calls more left) h.left prints))
 plainly-by b mid call calls text screen more left goes (inr h) e prints = inr (out_of_memory b mid call calls text screen more h e)
 
-plainly : (b : Book) (calls : List Call) (text : List ℕ) (left : Book) → Prints b calls text left → Plainly b calls text left
+plainly : (b : ScriptBook) (calls : List Call) (text : List ℕ) (left : ScriptBook) → Prints b calls text left → Plainly b calls text left
 plainly b [] text left h = inl h
 plainly b (call ∷ calls) text left h = plainly-by b h.2 call calls text h.0 h.1 left (λ m prints. plainly m calls h.1 left prints) h.3 h.4 h.5
 
-same-by : (book : Past) (text : List ℕ) (left : Book) → IsWritable book → Plainly (opened_book book.opening) (script_again book).calls text left
+same-by : (book : Past) (text : List ℕ) (left : ScriptBook) → IsWritable book → Plainly (opened_book book.opening) (script_again book).calls text left
     → IsSameAgain book text left ⊎ IsShort (opened_book book.opening) (script_again book).calls text
 same-by book text left w (inl h) =
     let s = same_again book w in
     inl (record {
       screens = h.0 ∙ s.screens;
-      opening = ap (λ (b : Book). b.opening) h.1 ∙ s.opening;
-      state = ap (λ (b : Book). b.state) h.1 ∙ s.state;
-      requests = ap (λ (b : Book). map (λ (e : Entry). e.request) b.journal) h.1 ∙ s.requests;
-      replies = ap (λ (b : Book). map (λ (e : Entry). e.reply) b.journal) h.1 ∙ s.replies;
+      opening = ap (λ (b : ScriptBook). b.opening) h.1 ∙ s.opening;
+      state = ap (λ (b : ScriptBook). b.state) h.1 ∙ s.state;
+      requests = ap (λ (b : ScriptBook). map (λ (e : Entry). e.request) b.journal) h.1 ∙ s.requests;
+      replies = ap (λ (b : ScriptBook). map (λ (e : Entry). e.reply) b.journal) h.1 ∙ s.replies;
     })
 same-by book text left w (inr h) = inr h
 
-done-so : (book : Past) (old new : Option (List ℕ)) (left : Book) → IsWritable book → Wrote (opened_book book.opening) (script_again book).calls old new left → IsDone book old new left
+done-so : (book : Past) (old new : Option (List ℕ)) (left : ScriptBook) → IsWritable book → Wrote (opened_book book.opening) (script_again book).calls old new left → IsDone book old new left
 done-so book old new left w wrote =
     record { text = wrote.text; added = wrote.added; same = same-by book wrote.text left w (plainly (opened_book book.opening) (script_again book).calls wrote.text left wrote.prints) }
 
 no_fault : {X : Type 0} (book : Past) (fault : ScriptFault) → IsWritable book → (script_again book).fault ≡ Some fault → X
 no_fault book fault w e = let none = ap (λ (s : Script). s.fault) (reads_again book w) in cc
 
-pub runs_again : (book : Past) (old new : Option (List ℕ)) (left : Book) (result : Result (Unit {0}) ScriptFault) → IsWritable book
+pub runs_again : (book : Past) (old new : Option (List ℕ)) (left : ScriptBook) (result : Result (Unit {0}) ScriptFault) → IsWritable book
     → IsRun (opened_book book.opening) (script_again book) old new left result → IsDoneAgain book old new left result
 runs_again book old new left (Ok done) w run = done-so book old new left w run.1
 runs_again book old new left (Err Read) w run = tt

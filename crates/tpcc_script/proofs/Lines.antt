@@ -6,16 +6,16 @@ use Rattle.std.proofs.lemmas.Grind.{common_steps}
 use Rattle.std.proofs.lemmas.Option.{none-some}
 use Rattle.std.proofs.lemmas.Bool.{lt-ltb, le-ltb}
 use Rattle.std.specs.Prelude.{Ok}
+use Rattle.tpcc_script.specs.declared.reader.TheConstants.{LONGEST_LINE, MOST_LINES}
 use Rattle.tpcc_script.specs.declared.call.Call.{Call}
 use Rattle.tpcc_script.specs.declared.fault.ScriptFault.{ScriptFault}
 use Rattle.tpcc_script.specs.declared.fault.ScriptFault.TheVariants.{Bad, Cut, LongLine, TooManyLines, Read, Write, NoMemory}
-use Rattle.tpcc_script.specs.Book.{Book}
+use Rattle.tpcc_script.specs.ScriptBook.{ScriptBook}
 use Rattle.tpcc_script.specs.Run.{Shows, HasServed}
 use Rattle.tpcc_script.specs.Script.{parts_of, with_byte, lines_say, rest_says, then_says, call_of, ends, fails}
-use Rattle.tpcc_script.specs.Steps.{says, IsLine, IsRead, IsFaultOf, IsLineServed, IsLineUnshown, IsLineHeld, IsAnswered, IsStopped, IsEnd, IsFault}
+use Rattle.tpcc_script.specs.Steps.{says, IsLine, IsRead, IsFaultOf, IsLineServed, IsLineUnshown, IsLineWaiting, IsAnswered, IsStopped, IsEnd, IsFault}
 use Rattle.tpcc_script.specs.Attempts.{HasGivenUp, IsNoWorse}
-use Rattle.tpcc_audit.specs.Part.{AppendsPart, Passes}
-use Rattle.tpcc_script.specs.declared.watch.Watch.{Watch}
+use Rattle.tpcc_audit.specs.Part.{AppendsPart, PassesBytes}
 use Rattle.std.specs.Io.KnownBytes.{Appends}
 use Rattle.tpcc_audit.proofs.Parts.{part_of_more}
 
@@ -76,12 +76,12 @@ reading_goes bytes line left left_new byte r e f other = record {
 }
 
 -- lines_say of a whole line
-whole-line : (number : ℕ) (line next : List ℕ) (parts : List (List ℕ)) (a b : Bool) → nat_lt 1000000 number ≡ a → nat_lt 4096 (length line) ≡ b → a ≡ false → b ≡ false
+whole-line : (number : ℕ) (line next : List ℕ) (parts : List (List ℕ)) (a b : Bool) → nat_lt MOST_LINES number ≡ a → nat_lt LONGEST_LINE (length line) ≡ b → a ≡ false → b ≡ false
     → lines_say number (line ∷ next ∷ parts) ≡ then_says number (call_of line) (lines_say (number + 1) (next ∷ parts))
 whole-line number line next parts a b e f g h = rw (e, f, g, h) refl
 
 pub line_so : (bytes line : List ℕ) (left left_new : Option (List ℕ)) (byte number : ℕ) (r : Reading bytes line left)
-    → Some byte ≡ slice_get r.rest 0 → left_new ≡ Some (drop 1 r.rest) → byte ≡ 10 → number ≤ 1000000 → length line ≤ 4096 → IsLine number bytes line left_new
+    → Some byte ≡ slice_get r.rest 0 → left_new ≡ Some (drop 1 r.rest) → byte ≡ 10 → number ≤ MOST_LINES → length line ≤ LONGEST_LINE → IsLine number bytes line left_new
 line_so bytes line left left_new byte number r e f same fits short =
     let rest = drop 1 r.rest in
     let has = parts-has 10 rest in
@@ -93,18 +93,18 @@ line_so bytes line left left_new byte number r e f same fits short =
       left_is = f;
       number_fits = fits;
       says_is = ap (lines_say number) parts ∙ ap (λ z. lines_say number (line ∷ z)) has.is
-          ∙ whole-line number line has.first has.others (nat_lt 1000000 number) (nat_lt 4096 (length line)) refl refl (le-ltb 1000000 number fits) (le-ltb 4096 (length line) short)
+          ∙ whole-line number line has.first has.others (nat_lt MOST_LINES number) (nat_lt LONGEST_LINE (length line)) refl refl (le-ltb MOST_LINES number fits) (le-ltb LONGEST_LINE (length line) short)
           ∙ ap (λ z. then_says number (call_of line) (lines_say (number + 1) z)) (sym has.is);
     }
 
 -- the fault of a part that is too far on or too long
-far : (number : ℕ) (part : List ℕ) (parts : List (List ℕ)) → 0 < length part ⊎ 0 < length parts → nat_lt 1000000 number ≡ true → lines_say number (part ∷ parts) ≡ fails TooManyLines
+far : (number : ℕ) (part : List ℕ) (parts : List (List ℕ)) → 0 < length part ⊎ 0 < length parts → nat_lt MOST_LINES number ≡ true → lines_say number (part ∷ parts) ≡ fails TooManyLines
 far number [] [] (inl h) e = absurd (omega arith)
 far number [] [] (inr h) e = absurd (omega arith)
 far number (b ∷ part) [] h e = rw e refl
 far number part (next ∷ parts) h e = rw e refl
 
-long : (number : ℕ) (part : List ℕ) (parts : List (List ℕ)) → nat_lt 1000000 number ≡ false → 4096 < length part → nat_lt 4096 (length part) ≡ true → lines_say number (part ∷ parts) ≡ fails (LongLine number)
+long : (number : ℕ) (part : List ℕ) (parts : List (List ℕ)) → nat_lt MOST_LINES number ≡ false → LONGEST_LINE < length part → nat_lt LONGEST_LINE (length part) ≡ true → lines_say number (part ∷ parts) ≡ fails (LongLine number)
 long number [] [] e h f = absurd (omega arith)
 long number (b ∷ part) [] e h f = rw (e, f) refl
 long number part (next ∷ parts) e h f = rw (e, f) refl
@@ -120,20 +120,20 @@ line_begins line byte parts h false =
     (byte ∷ h.first, h.others, ap (λ z. onto_all line (with_byte byte z)) h.is ∙ onto_all-cons line (byte ∷ h.first) h.others, inl (omega (arith, length-append line (byte ∷ h.first))))
 
 pub too_many : (bytes line : List ℕ) (left : Option (List ℕ)) (byte number : ℕ) (r : Reading bytes line left)
-    → Some byte ≡ slice_get r.rest 0 → 1000000 < number → says number bytes ≡ fails TooManyLines
+    → Some byte ≡ slice_get r.rest 0 → MOST_LINES < number → says number bytes ≡ fails TooManyLines
 too_many bytes line left byte number r e many =
     let rest = drop 1 r.rest in
     let b = line_begins line byte (parts_of 10 rest) (parts-has 10 rest) (byte == 10) in
-    ap (lines_say number) (r.parts ∙ ap (λ z. onto_all line (parts_of 10 z)) (first-byte r.rest byte e) ∙ b.2) ∙ far number (line ++ b.0) b.1 b.3 (lt-ltb 1000000 number many)
+    ap (lines_say number) (r.parts ∙ ap (λ z. onto_all line (parts_of 10 z)) (first-byte r.rest byte e) ∙ b.2) ∙ far number (line ++ b.0) b.1 b.3 (lt-ltb MOST_LINES number many)
 
 pub too_long : (bytes line : List ℕ) (left : Option (List ℕ)) (byte number : ℕ) (r : Reading bytes line left)
-    → Some byte ≡ slice_get r.rest 0 → (byte == 10) ≡ false → number ≤ 1000000 → 4096 ≤ length line → says number bytes ≡ fails (LongLine number)
+    → Some byte ≡ slice_get r.rest 0 → (byte == 10) ≡ false → number ≤ MOST_LINES → LONGEST_LINE ≤ length line → says number bytes ≡ fails (LongLine number)
 too_long bytes line left byte number r e other fits full =
     let rest = drop 1 r.rest in
     let b = onto_all-onto line byte (parts_of 10 rest) (parts-has 10 rest) in
-    let size : 4096 < length (line ++ byte ∷ b.0) = omega (arith, full, length-append line (byte ∷ b.0)) in
+    let size : LONGEST_LINE < length (line ++ byte ∷ b.0) = omega (arith, full, length-append line (byte ∷ b.0)) in
     ap (lines_say number) (r.parts ∙ ap (λ z. onto_all line (parts_of 10 z)) (first-byte r.rest byte e) ∙ ap (λ c. onto_all line (if c then [] ∷ parts_of 10 rest else with_byte byte (parts_of 10 rest))) other ∙ b.2)
-    ∙ long number (line ++ byte ∷ b.0) b.1 (le-ltb 1000000 number fits) size (lt-ltb 4096 (length (line ++ byte ∷ b.0)) size)
+    ∙ long number (line ++ byte ∷ b.0) b.1 (le-ltb MOST_LINES number fits) size (lt-ltb LONGEST_LINE (length (line ++ byte ∷ b.0)) size)
 
 -- at the end
 at-end : (bytes line : List ℕ) (left : Option (List ℕ)) (number : ℕ) (r : Reading bytes line left)
@@ -147,10 +147,10 @@ ends_there bytes [] left number r e none = at-end bytes [] left number r e
 ends_there bytes (b ∷ line) left number r e none = absurd (omega (arith, none))
 
 pub cut_there : (bytes line : List ℕ) (left : Option (List ℕ)) (number : ℕ) (r : Reading bytes line left)
-    → None ≡ slice_get r.rest 0 → 0 < length line → number ≤ 1000000 → length line ≤ 4096 → says number bytes ≡ fails (Cut number)
+    → None ≡ slice_get r.rest 0 → 0 < length line → number ≤ MOST_LINES → length line ≤ LONGEST_LINE → says number bytes ≡ fails (Cut number)
 cut_there bytes [] left number r e some fits short = absurd (omega (arith, some))
 cut_there bytes (b ∷ line) left number r e some fits short =
-    at-end bytes (b ∷ line) left number r e ∙ rw (le-ltb 1000000 number fits, le-ltb 4096 (length (b ∷ line)) short) refl
+    at-end bytes (b ∷ line) left number r e ∙ rw (le-ltb MOST_LINES number fits, le-ltb LONGEST_LINE (length (b ∷ line)) short) refl
 
 -- what a reading answered
 pub read_none : {L : Type 0} (view : L → List ℕ) (number : ℕ) (bytes : List ℕ) (o : Option L) (left : Option (List ℕ)) → o ≡ None → IsRead view number bytes (Ok o) left → says number bytes ≡ ends
@@ -164,7 +164,7 @@ read_some view number bytes line o left e h = rw e at h
 pub bad_line : (number : ℕ) (bytes line seen : List ℕ) (left : Option (List ℕ)) → IsLine number bytes line left → seen ≡ line → None ≡ call_of seen → says number bytes ≡ fails (Bad number)
 bad_line number bytes line seen left h same e = h.says_is ∙ ap (λ o. then_says number o (says (number + 1) h.rest)) (sym (e ∙ ap call_of same))
 
-pub served_line : (number : ℕ) (bytes line seen : List ℕ) (left : Option (List ℕ)) (call : Call) (old new : Book) (screen : List ℕ)
+pub served_line : (number : ℕ) (bytes line seen : List ℕ) (left : Option (List ℕ)) (call : Call) (old new : ScriptBook) (screen : List ℕ)
     → IsLine number bytes line left → seen ≡ line → Some call ≡ call_of seen → Shows old call screen new → IsLineServed number bytes old screen new left
 served_line number bytes line seen left call old new screen h same e shows = record {
   call = call;
@@ -175,12 +175,12 @@ served_line number bytes line seen left call old new screen h same e shows = rec
   shows = shows;
 }
 
-pub unshown_line : (number : ℕ) (bytes line seen : List ℕ) (left : Option (List ℕ)) (call : Call) (old new : Book)
+pub unshown_line : (number : ℕ) (bytes line seen : List ℕ) (left : Option (List ℕ)) (call : Call) (old new : ScriptBook)
     → IsLine number bytes line left → seen ≡ line → Some call ≡ call_of seen → HasServed old call new
     → IsStopped number bytes old new left NoMemory
 unshown_line number bytes line seen left call old new h same e served =
     inr (record { screen = served.screen; served = served_line number bytes line seen left call old new served.screen h same e served.shows })
 
-pub broken_line : (number : ℕ) (bytes screen : List ℕ) (o : Option (List ℕ)) (old new : Book) (left held now : Option (List ℕ)) (waits : List ℕ) → o ≡ Some screen
+pub broken_line : (number : ℕ) (bytes screen : List ℕ) (o : Option (List ℕ)) (old new : ScriptBook) (left held now : Option (List ℕ)) (waits : List ℕ) → o ≡ Some screen
     → IsAnswered number bytes old new left (Ok o) → AppendsPart held now (waits ++ screen) → IsFault number bytes old new left held now waits Write
 broken_line number bytes screen o old new left held now waits e h part = inr (record { screen = screen; served = rw e at h; part = part })

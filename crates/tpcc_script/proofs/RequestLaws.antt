@@ -17,6 +17,7 @@ use Rattle.tpcc_rows.specs.declared.entry.Entry.{Entry}
 use Rattle.tpcc_rows.proofs.Booleans.{split, both_true}
 use Rattle.tpcc_terminal.specs.Screens.{line}
 use Rattle.tpcc_terminal.specs.RequestLines.{customer_word, order_line_word, order_line, payment_line, status_line, stock_line, delivery_line, deliver_line, request_line, journal_lines}
+use Rattle.tpcc_script.specs.declared.reader.TheConstants.{LONGEST_LINE, MOST_LINES}
 use Rattle.tpcc_script.specs.declared.call.Call.TheVariants.{Ask}
 use Rattle.tpcc_script.specs.Script.{call_of, call_of_words, call_named, later_named, order_of, order_lines_of, payment_of, status_of, stock_of, delivery_of, deliver_of, parts_of, script_of, lines_say, then_says, with_call, with_byte}
 use Rattle.tpcc_script.specs.Sayable.{is_amount, is_order_line, has_words, fits_line, is_sayable}
@@ -178,7 +179,7 @@ some_part divider [] = record { first = []; rest = []; whole = refl }
 some_part divider (byte ∷ bytes) = first_onto byte (parts_of divider bytes) (byte == divider) (some_part divider bytes)
 
 -- one line that is neither too late nor too long
-says_line : (number : ℕ) (text : List ℕ) (parts : List (List ℕ)) → HasFirst parts → nat_lt 1000000 number ≡ false → nat_lt 4096 (length text) ≡ false → lines_say number (text ∷ parts) ≡ then_says number (call_of text) (lines_say (number + 1) parts)
+says_line : (number : ℕ) (text : List ℕ) (parts : List (List ℕ)) → HasFirst parts → nat_lt MOST_LINES number ≡ false → nat_lt LONGEST_LINE (length text) ≡ false → lines_say number (text ∷ parts) ≡ then_says number (call_of text) (lines_say (number + 1) parts)
 says_line number text parts h early short =
     ap (λ z. lines_say number (text ∷ z)) h.whole
     ∙ rw early (rw short refl)
@@ -196,27 +197,27 @@ unfolding call_of
 line_is_read request s =
     ap call_of_words (words_apart s.name s.more (word_free 32 s.name refl s.of_words) (words_free 32 s.more refl s.all_words)) ∙ s.read
 
-line_is_short : (request : Request) (s : Says request) → nat_lt 4096 (length (words s.name s.more)) ≡ false
+line_is_short : (request : Request) (s : Says request) → nat_lt LONGEST_LINE (length (words s.name s.more)) ≡ false
 line_is_short request s =
     let l = words_length s.name s.more s.brief_name s.brief_words in
     let f = s.few in
-    let most : length (words s.name s.more) ≤ 4096 = omega (arith, l, f) in
+    let most : length (words s.name s.more) ≤ LONGEST_LINE = omega (arith, l, f) in
     grind (arith, nat_tests)
 
-lines_are_read : (number : ℕ) (entries : List Entry) → list_all (λ e. is_sayable e.request) entries ≡ true → number + length entries ≤ 1000001 → lines_say number (parts_of 10 (journal_lines entries)) ≡ record { calls = map (λ e. Ask e.request) entries; fault = None }
+lines_are_read : (number : ℕ) (entries : List Entry) → list_all (λ e. is_sayable e.request) entries ≡ true → number + length entries ≤ MOST_LINES + 1 → lines_say number (parts_of 10 (journal_lines entries)) ≡ record { calls = map (λ e. Ask e.request) entries; fault = None }
 lines_are_read number [] h few = refl
 lines_are_read number (e ∷ es) h few =
     let t = split (is_sayable e.request) (list_all (λ x. is_sayable x.request) es) h in
     let s = says e.request t.0 in
-    let room : number ≤ 1000000 = omega (arith, few) in
-    let early : nat_lt 1000000 number ≡ false = grind (arith, nat_tests) in
+    let room : number ≤ MOST_LINES = omega (arith, few) in
+    let early : nat_lt MOST_LINES number ≡ false = grind (arith, nat_tests) in
     ap (lines_say number) (line_off e.request s (journal_lines es))
     ∙ says_line number (words s.name s.more) (parts_of 10 (journal_lines es)) (some_part 10 (journal_lines es)) early (line_is_short e.request s)
     ∙ ap (λ z. then_says number z (lines_say (number + 1) (parts_of 10 (journal_lines es)))) (line_is_read e.request s)
     ∙ ap (with_call (Ask e.request)) (lines_are_read (number + 1) es t.1 (omega (arith, few)))
 
 -- a journal, written as a script, says the requests of its entries
-pub journal_is_read : (entries : List Entry) → list_all (λ e. is_sayable e.request) entries ≡ true → length entries ≤ 1000000 → script_of (journal_lines entries) ≡ record { calls = map (λ e. Ask e.request) entries; fault = None }
+pub journal_is_read : (entries : List Entry) → list_all (λ e. is_sayable e.request) entries ≡ true → length entries ≤ MOST_LINES → script_of (journal_lines entries) ≡ record { calls = map (λ e. Ask e.request) entries; fault = None }
 unfolding script_of
 journal_is_read entries h few = lines_are_read 1 entries h (omega (arith, few))
 

@@ -6,10 +6,10 @@ use Rattle.tpcc_script.specs.declared.call.Call.{Call}
 use Rattle.tpcc_script.specs.declared.fault.ScriptFault.{ScriptFault}
 use Rattle.tpcc_script.specs.declared.fault.ScriptFault.TheVariants.{Bad, Cut, LongLine, TooManyLines, Read, Write, NoMemory}
 use Rattle.tpcc_script.specs.Script.{Script, script_of, with_call, ends, fails}
-use Rattle.tpcc_script.specs.Book.{Book}
+use Rattle.tpcc_script.specs.ScriptBook.{ScriptBook}
 use Rattle.tpcc_script.specs.Run.{Shows, Prints, Wrote, WroteFirst, WroteButLast, IsRun, HasRun}
 use Rattle.tpcc_script.specs.Steps.{says, IsLineServed, IsLineUnshown, IsEnd, IsStep, IsStillBroken, IsLineBroken}
-use Rattle.tpcc_audit.specs.Part.{Passes}
+use Rattle.tpcc_audit.specs.Part.{PassesBytes}
 use Rattle.tpcc_audit.proofs.Parts.{all_wait, passes-on, passes-all, passes-part, passes-some}
 
 abbrev pub with_calls : List Call → Script → Script
@@ -17,12 +17,12 @@ with_calls [] script = script
 with_calls (call ∷ calls) script = with_call call (with_calls calls script)
 
 -- what has been done before the line of a number: of the screens a sink got the first bytes, and the others wait
-pub record SoFar (start now : Book) (bytes : List ℕ) (left : Option (List ℕ)) (held sink : Option (List ℕ)) (waits : List ℕ) (number : ℕ) : Type 0 where
+pub record SoFar (start now : ScriptBook) (bytes : List ℕ) (left : Option (List ℕ)) (held sink : Option (List ℕ)) (waits : List ℕ) (number : ℕ) : Type 0 where
   pub done : List Call
   pub text : List ℕ
   pub rest : List ℕ
   pub prints : Prints start done text now
-  pub passed : Passes held sink text waits
+  pub passed : PassesBytes held sink text waits
   pub left_is : left ≡ Some rest
   pub says_is : script_of bytes ≡ with_calls done (says number rest)
 
@@ -38,14 +38,14 @@ with_calls-fault : (calls : List Call) (s : Script) → (with_calls calls s).fau
 with_calls-fault [] s = refl
 with_calls-fault (c ∷ calls) s = with_calls-fault calls s
 
-pub prints-more : (old mid new : Book) (calls : List Call) (call : Call) (text screen : List ℕ)
+pub prints-more : (old mid new : ScriptBook) (calls : List Call) (call : Call) (text screen : List ℕ)
     → Prints old calls text mid → Shows mid call screen new → Prints old (calls ++ call ∷ []) (text ++ screen) new
 prints-more old mid new [] call text screen h shows =
     (screen, [], new, rw h.1 at shows, rw h.0 (sym (append-nil screen)), (refl, refl))
 prints-more old mid new (c ∷ calls) call text screen h shows =
     (h.0, h.1 ++ screen, h.2, h.3, ap (λ z. z ++ screen) h.4 ∙ append_assoc h.0 h.1 screen, prints-more h.2 mid new calls call h.1 screen h.5 shows)
 
-pub begins : (start : Book) (bytes : List ℕ) (left held : Option (List ℕ)) (waits : List ℕ) → waits ≡ [] → left ≡ Some bytes → SoFar start start bytes left held held waits 1
+pub begins : (start : ScriptBook) (bytes : List ℕ) (left held : Option (List ℕ)) (waits : List ℕ) → waits ≡ [] → left ≡ Some bytes → SoFar start start bytes left held held waits 1
 unfolding script_of
 begins start bytes left held waits none e =
     rw none (record { done = []; text = []; rest = bytes; prints = (refl, refl); passed = all_wait held []; left_is = e; says_is = refl })
@@ -55,7 +55,7 @@ with_one_call_more : (bytes : List ℕ) (done : List Call) (call : Call) (last n
     → script_of bytes ≡ with_calls done last → last ≡ with_call call next → script_of bytes ≡ with_calls (done ++ call ∷ []) next
 with_one_call_more bytes done call last next e f = e ∙ ap (with_calls done) f ∙ sym (with_calls-more done call next)
 
-pub goes_on : (start now new : Book) (bytes : List ℕ) (left left_new held sink sink_new : Option (List ℕ)) (waits more : List ℕ) (number : ℕ)
+pub goes_on : (start now new : ScriptBook) (bytes : List ℕ) (left left_new held sink sink_new : Option (List ℕ)) (waits more : List ℕ) (number : ℕ)
     → (so : SoFar start now bytes left held sink waits number) → IsStep number so.rest now new left_new sink sink_new waits more (Ok true)
     → SoFar start new bytes left_new held sink_new more (number + 1)
 goes_on start now new bytes left left_new held sink sink_new waits more number so step =
@@ -78,12 +78,12 @@ faulty : (script : Script) (done : List Call) (last : Script) → script ≡ wit
 faulty script done last e = ap (λ (s : Script). s.fault) e ∙ with_calls-fault done last
 
 -- all that waited was written, and the book is the same
-wrote_done : (start now new : Book) (bytes : List ℕ) (left held sink sink_new : Option (List ℕ)) (waits : List ℕ) (number : ℕ) (calls : List Call)
+wrote_done : (start now new : ScriptBook) (bytes : List ℕ) (left held sink sink_new : Option (List ℕ)) (waits : List ℕ) (number : ℕ) (calls : List Call)
     → (so : SoFar start now bytes left held sink waits number) → new ≡ now → Appends sink sink_new waits → calls ≡ so.done → Wrote start calls held sink_new new
 wrote_done start now new bytes left held sink sink_new waits number calls so same added e =
     rw (e, same) (record { text = so.text; prints = so.prints; added = passes-all held sink sink_new so.text waits so.passed added })
 
-ended_with : (start now new : Book) (bytes : List ℕ) (left held sink sink_new : Option (List ℕ)) (waits : List ℕ) (number : ℕ) (last : Script)
+ended_with : (start now new : ScriptBook) (bytes : List ℕ) (left held sink sink_new : Option (List ℕ)) (waits : List ℕ) (number : ℕ) (last : Script)
     → (so : SoFar start now bytes left held sink waits number) → IsEnd number so.rest last now new → Appends sink sink_new waits → last.calls ≡ []
     → ((script_of bytes).fault ≡ last.fault) × Wrote start (script_of bytes).calls held sink_new new
 ended_with start now new bytes left held sink sink_new waits number last so step added none =
@@ -91,12 +91,12 @@ ended_with start now new bytes left held sink sink_new waits number last so step
     (faulty (script_of bytes) so.done last e, wrote_done start now new bytes left held sink sink_new waits number (script_of bytes).calls so step.book added (calls_at_end (script_of bytes) so.done last e none))
 
 -- the calls that were served and those that follow
-calls-split : (start now : Book) (bytes : List ℕ) (left held sink : Option (List ℕ)) (waits : List ℕ) (number : ℕ)
+calls-split : (start now : ScriptBook) (bytes : List ℕ) (left held sink : Option (List ℕ)) (waits : List ℕ) (number : ℕ)
     → (so : SoFar start now bytes left held sink waits number) → (script_of bytes).calls ≡ so.done ++ (says number so.rest).calls
 calls-split start now bytes left held sink waits number so = ap (λ (s : Script). s.calls) so.says_is ∙ with_calls-calls so.done (says number so.rest)
 
 -- at a fault of reading or memory
-run_stops : (start now new : Book) (bytes : List ℕ) (left held sink sink_new : Option (List ℕ)) (waits : List ℕ) (number : ℕ)
+run_stops : (start now new : ScriptBook) (bytes : List ℕ) (left held sink sink_new : Option (List ℕ)) (waits : List ℕ) (number : ℕ)
     → (so : SoFar start now bytes left held sink waits number) → new ≡ now → Appends sink sink_new waits → WroteFirst start (script_of bytes).calls held sink_new new
 run_stops start now new bytes left held sink sink_new waits number so same added = record {
   done = so.done;
@@ -106,7 +106,7 @@ run_stops start now new bytes left held sink sink_new waits number so same added
 }
 
 -- where the last screen was refused memory
-run_ends_unshown : (start now new : Book) (bytes screen : List ℕ) (left left_new held sink sink_new : Option (List ℕ)) (waits : List ℕ) (number : ℕ)
+run_ends_unshown : (start now new : ScriptBook) (bytes screen : List ℕ) (left left_new held sink sink_new : Option (List ℕ)) (waits : List ℕ) (number : ℕ)
     → (so : SoFar start now bytes left held sink waits number) → IsLineServed number so.rest now screen new left_new → Appends sink sink_new waits
     → WroteButLast start (script_of bytes).calls held sink_new new
 run_ends_unshown start now new bytes screen left left_new held sink sink_new waits number so served added = record {
@@ -120,7 +120,7 @@ run_ends_unshown start now new bytes screen left left_new held sink sink_new wai
   served = served.shows;
 }
 
-refused-memory : (start now new : Book) (bytes : List ℕ) (left left_new held sink sink_new : Option (List ℕ)) (waits : List ℕ) (number : ℕ)
+refused-memory : (start now new : ScriptBook) (bytes : List ℕ) (left left_new held sink sink_new : Option (List ℕ)) (waits : List ℕ) (number : ℕ)
     → (so : SoFar start now bytes left held sink waits number) → (new ≡ now) ⊎ IsLineUnshown number so.rest now new left_new → Appends sink sink_new waits
     → IsRun start (script_of bytes) held sink_new new (Err NoMemory)
 refused-memory start now new bytes left left_new held sink sink_new waits number so (inl same) added =
@@ -129,7 +129,7 @@ refused-memory start now new bytes left left_new held sink sink_new waits number
     inr (run_ends_unshown start now new bytes line.screen left left_new held sink sink_new waits number so line.served added)
 
 -- where the sink was given up: at what waited, or at the last screen too
-broken-still : (start now new : Book) (bytes : List ℕ) (left held sink sink_new : Option (List ℕ)) (waits : List ℕ) (number : ℕ)
+broken-still : (start now new : ScriptBook) (bytes : List ℕ) (left held sink sink_new : Option (List ℕ)) (waits : List ℕ) (number : ℕ)
     → (so : SoFar start now bytes left held sink waits number) → IsStillBroken now new sink sink_new waits
     → IsRun start (script_of bytes) held sink_new new (Err Write)
 broken-still start now new bytes left held sink sink_new waits number so step =
@@ -141,7 +141,7 @@ broken-still start now new bytes left held sink sink_new waits number so step =
       wrote = rw step.book (record { text = so.text; prints = so.prints; count = p.count; within = p.within; added = p.added });
     }
 
-broken-line : (start now new : Book) (bytes : List ℕ) (left left_new held sink sink_new : Option (List ℕ)) (waits : List ℕ) (number : ℕ)
+broken-line : (start now new : ScriptBook) (bytes : List ℕ) (left left_new held sink sink_new : Option (List ℕ)) (waits : List ℕ) (number : ℕ)
     → (so : SoFar start now bytes left held sink waits number) → IsLineBroken number so.rest now new left_new sink sink_new waits
     → IsRun start (script_of bytes) held sink_new new (Err Write)
 broken-line start now new bytes left left_new held sink sink_new waits number so step =
@@ -163,19 +163,19 @@ broken-line start now new bytes left left_new held sink sink_new waits number so
       };
     }
 
-run_breaks : (start now new : Book) (bytes : List ℕ) (left left_new held sink sink_new : Option (List ℕ)) (waits : List ℕ) (number : ℕ)
+run_breaks : (start now new : ScriptBook) (bytes : List ℕ) (left left_new held sink sink_new : Option (List ℕ)) (waits : List ℕ) (number : ℕ)
     → (so : SoFar start now bytes left held sink waits number) → IsStillBroken now new sink sink_new waits ⊎ IsLineBroken number so.rest now new left_new sink sink_new waits
     → IsRun start (script_of bytes) held sink_new new (Err Write)
 run_breaks start now new bytes left left_new held sink sink_new waits number so (inl step) = broken-still start now new bytes left held sink sink_new waits number so step
 run_breaks start now new bytes left left_new held sink sink_new waits number so (inr step) = broken-line start now new bytes left left_new held sink sink_new waits number so step
 
-pub ends_so : (start now new : Book) (bytes : List ℕ) (left left_new held sink sink_new : Option (List ℕ)) (waits more : List ℕ) (number : ℕ)
+pub ends_so : (start now new : ScriptBook) (bytes : List ℕ) (left left_new held sink sink_new : Option (List ℕ)) (waits more : List ℕ) (number : ℕ)
     → (so : SoFar start now bytes left held sink waits number) → IsStep number so.rest now new left_new sink sink_new waits more (Ok false)
     → IsRun start (script_of bytes) held sink_new new (Ok tt)
 ends_so start now new bytes left left_new held sink sink_new waits more number so step =
     ended_with start now new bytes left held sink sink_new waits number ends so step.0 step.1 refl
 
-pub fails_so : (start now new : Book) (bytes : List ℕ) (left left_new held sink sink_new : Option (List ℕ)) (waits more : List ℕ) (number : ℕ) (fault : ScriptFault)
+pub fails_so : (start now new : ScriptBook) (bytes : List ℕ) (left left_new held sink sink_new : Option (List ℕ)) (waits more : List ℕ) (number : ℕ) (fault : ScriptFault)
     → (so : SoFar start now bytes left held sink waits number) → IsStep number so.rest now new left_new sink sink_new waits more (Err fault)
     → IsRun start (script_of bytes) held sink_new new (Err fault)
 fails_so start now new bytes left left_new held sink sink_new waits more number (Bad n) so step = ended_with start now new bytes left held sink sink_new waits number (fails (Bad n)) so step.stopped step.added refl
@@ -188,14 +188,14 @@ fails_so start now new bytes left left_new held sink sink_new waits more number 
 fails_so start now new bytes left left_new held sink sink_new waits more number Write so step =
     run_breaks start now new bytes left left_new held sink sink_new waits number so step
 
-pub ends_at : (start now new : Book) (bytes : List ℕ) (left left_new held sink sink_new : Option (List ℕ)) (waits waits_new : List ℕ) (number : ℕ) (more : Bool) → more ≡ false
+pub ends_at : (start now new : ScriptBook) (bytes : List ℕ) (left left_new held sink sink_new : Option (List ℕ)) (waits waits_new : List ℕ) (number : ℕ) (more : Bool) → more ≡ false
     → (so : SoFar start now bytes left held sink waits number) → IsStep number so.rest now new left_new sink sink_new waits waits_new (Ok more)
     → IsRun start (script_of bytes) held sink_new new (Ok tt)
 ends_at start now new bytes left left_new held sink sink_new waits waits_new number more e so step =
     let k = rw e at step in
     ends_so start now new bytes left left_new held sink sink_new waits waits_new number so k
 
-pub goes_at : (start now new : Book) (bytes : List ℕ) (left left_new held sink sink_new : Option (List ℕ)) (waits waits_new : List ℕ) (number : ℕ) (more : Bool) → more ≡ true
+pub goes_at : (start now new : ScriptBook) (bytes : List ℕ) (left left_new held sink sink_new : Option (List ℕ)) (waits waits_new : List ℕ) (number : ℕ) (more : Bool) → more ≡ true
     → (so : SoFar start now bytes left held sink waits number) → IsStep number so.rest now new left_new sink sink_new waits waits_new (Ok more)
     → SoFar start new bytes left_new held sink_new waits_new (number + 1)
 goes_at start now new bytes left left_new held sink sink_new waits waits_new number more e so step =
@@ -203,7 +203,7 @@ goes_at start now new bytes left left_new held sink sink_new waits waits_new num
     goes_on start now new bytes left left_new held sink sink_new waits waits_new number so k
 
 -- before the first line
-pub not_started : (start : Book) (script : Script) (sink : Option (List ℕ)) → HasRun start script sink sink (Err NoMemory)
+pub not_started : (start : ScriptBook) (script : Script) (sink : Option (List ℕ)) → HasRun start script sink sink (Err NoMemory)
 not_started start script None = (start, inl (record { done = []; rest = script.calls; calls_are = refl; wrote = record { text = []; prints = (refl, refl); added = tt } }))
 not_started start script (Some held) =
     (start, inl (record { done = []; rest = script.calls; calls_are = refl; wrote = record { text = []; prints = (refl, refl); added = sym (append-nil held) } }))

@@ -14,7 +14,7 @@ use Rattle.tpcc_book.specs.Past.{Past, opening_past}
 use Rattle.tpcc_book.specs.Purses.{PurseView}
 use Rattle.tpcc_book.specs.AnswerView.{AnswerView}
 use Rattle.tpcc_book.specs.Serve.{IsServed}
-use Rattle.tpcc_script.specs.Book.{terminal}
+use Rattle.tpcc_script.specs.ScriptBook.{terminal}
 use Rattle.tpcc_script.specs.declared.fault.ScriptFault.{ScriptFault}
 use Rattle.tpcc_script.specs.Script.{Script}
 use Rattle.tpcc_script.specs.Run.{HasRun, IsCounted}

@@ -16,11 +16,11 @@ use Rattle.tpcc_book.specs.AnswerView.{AnswerView}
 use Rattle.tpcc_book.specs.Turn.{after, turn_refusal}
 use Rattle.tpcc_terminal.specs.Screens.{answer_screen, reply_screen, refused_screen, check_screen, results_screen}
 use Rattle.tpcc_script.specs.declared.call.Call.TheVariants.{Ask, Check, Results}
-use Rattle.tpcc_script.specs.Book.{Book, terminal, screen_of, book_after, screen_by, book_by, book_with_entry, request_refusal}
+use Rattle.tpcc_script.specs.ScriptBook.{ScriptBook, terminal, screen_of, book_after, screen_by, book_by, book_with_entry, request_refusal}
 use Rattle.tpcc_script.specs.Run.{HasServed, Shows}
 use Rattle.tpcc_script.specs.Session.{IsAtHand, book_of}
 
-shows-reply : (old new : Book) (request : Request) (reply : Reply) (screen : List ℕ)
+shows-reply : (old new : ScriptBook) (request : Request) (reply : Reply) (screen : List ℕ)
     → request_refusal old request ≡ None → reply ≡ reply_to old.state request → new ≡ book_with_entry old request → screen ≡ reply_screen reply
     → Shows old (Ask request) screen new
 unfolding screen_of book_after
@@ -33,7 +33,7 @@ same-refusal : (a b : Refusal) → Some a ≡ Some b → a ≡ b
 same-refusal a b h = cc
 
 -- the first refusal, or want of memory where there is none
-shows-refusal : (old new : Book) (request : Request) (first : Option Refusal) (r : Refusal) (screen : List ℕ)
+shows-refusal : (old new : ScriptBook) (request : Request) (first : Option Refusal) (r : Refusal) (screen : List ℕ)
     → request_refusal old request ≡ first → option_or first (Some refused.NoMemory) ≡ Some r → new ≡ old → screen ≡ refused_screen r
     → Shows old (Ask request) screen new
 unfolding screen_of book_after
@@ -80,17 +80,17 @@ served_answer old new held taken purse request answer at out is served = record 
   shows = shows_answer old new held taken purse request answer (answer_screen answer.outcome) at out is served refl;
 }
 
-pub shows_check : (old : Book) (screen : List ℕ) → screen ≡ check_screen (first_broken old.state.rows) → Shows old Check screen old
+pub shows_check : (old : ScriptBook) (screen : List ℕ) → screen ≡ check_screen (first_broken old.state.rows) → Shows old Check screen old
 unfolding screen_of book_after
 shows_check old screen e = inl (record { shown = e; left = refl })
 
-pub shows_results : (old : Book) (screen : List ℕ) → screen ≡ results_screen (results_of old.journal) → Shows old Results screen old
+pub shows_results : (old : ScriptBook) (screen : List ℕ) → screen ≡ results_screen (results_of old.journal) → Shows old Results screen old
 unfolding screen_of book_after
 shows_results old screen e = inl (record { shown = e; left = refl })
 
 -- a served call has a screen
-pub served_check : (old : Book) → HasServed old Check old
+pub served_check : (old : ScriptBook) → HasServed old Check old
 served_check old = record { screen = check_screen (first_broken old.state.rows); shows = shows_check old (check_screen (first_broken old.state.rows)) refl }
 
-pub served_results : (old : Book) → HasServed old Results old
+pub served_results : (old : ScriptBook) → HasServed old Results old
 served_results old = record { screen = results_screen (results_of old.journal); shows = shows_results old (results_screen (results_of old.journal)) refl }

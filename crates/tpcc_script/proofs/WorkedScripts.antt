@@ -9,13 +9,13 @@ use Rattle.tpcc_script.specs.declared.fault.ScriptFault.{ScriptFault}
 use Rattle.tpcc_script.specs.declared.fault.ScriptFault.TheVariants.{Bad, Cut, LongLine}
 use Rattle.tpcc_script.specs.Script.{script_of, call_of, call_named, later_named, order_of, payment_of, status_of, stock_of, delivery_of, deliver_of}
 use Rattle.tpcc_book.specs.Turn.{turn_refusal}
-use Rattle.tpcc_script.specs.Book.{Book, screen_of, book_after, screens_of}
+use Rattle.tpcc_script.specs.ScriptBook.{ScriptBook, screen_of, book_after, screens_of}
 
 unfoldable pub run : Unit {0}
 unfolding all_definitions screen_definitions number_up_to amount_of script_of call_of call_named later_named order_of payment_of status_of stock_of delivery_of deliver_of screen_of book_after turn_refusal
 run = tt
 
-abbrev start : Book
+abbrev start : ScriptBook
 start = record { opening = Plain (record { warehouses = 1; customers = 10; items = 100 }); state = opening; journal = [] }
 
 -- what a script prints, and its fault

@@ -12,8 +12,9 @@ use Rattle.tpcc_script.specs.declared.call.Call.{Call}
 use Rattle.tpcc_script.specs.declared.call.Call.TheVariants.{Ask}
 use Rattle.tpcc_script.specs.declared.fault.ScriptFault.{ScriptFault}
 use Rattle.tpcc_script.specs.declared.fault.ScriptFault.TheVariants.{Bad, Cut, LongLine, TooManyLines, Read, Write, NoMemory}
+use Rattle.tpcc_script.specs.declared.reader.TheConstants.{MOST_LINES}
 use Rattle.tpcc_script.specs.Script.{Script, script_of}
-use Rattle.tpcc_script.specs.Book.{Book, request_refusal, screens_of, books_after}
+use Rattle.tpcc_script.specs.ScriptBook.{ScriptBook, request_refusal, screens_of, books_after}
 use Rattle.tpcc_script.specs.Sayable.{has_words}
 use Rattle.tpcc_script.specs.Session.{opened_book}
 
@@ -22,7 +23,7 @@ use Rattle.tpcc_script.specs.Session.{opened_book}
 pub record IsWritable (book : Past) : Type 0 where
   pub kept : IsKept book
   pub words : list_all (λ e. has_words e.request) book.entries ≡ true
-  pub few : length book.entries ≤ 1000000
+  pub few : length book.entries ≤ MOST_LINES
 
 -- the script of the journal
 abbrev pub script_again : Past → Script
@@ -32,11 +33,11 @@ script_again book = script_of (journal_lines book.entries)
 abbrev pub screens_again : Past → List ℕ
 screens_again book = screens_of (opened_book book.opening) (script_again book).calls
 
-abbrev pub left_again : Past → Book
+abbrev pub left_again : Past → ScriptBook
 left_again book = books_after (opened_book book.opening) (script_again book).calls
 
 -- the screens are those of the stored replies, and the rows, the queue and each entry's request and reply are the same
-pub record IsSameAgain (book : Past) (text : List ℕ) (left : Book) : Type 0 where
+pub record IsSameAgain (book : Past) (text : List ℕ) (left : ScriptBook) : Type 0 where
   pub screens : text ≡ journal_screens book.entries
   pub opening : left.opening ≡ book.opening
   pub state : left.state ≡ book.state
@@ -44,7 +45,7 @@ pub record IsSameAgain (book : Past) (text : List ℕ) (left : Book) : Type 0 wh
   pub replies : map (λ e. e.reply) left.journal ≡ map (λ e. e.reply) book.entries
 
 -- behind the screens of some first calls, a request that nothing refuses was refused for want of memory
-pub record IsShort (start : Book) (calls : List Call) (text : List ℕ) : Type 0 where
+pub record IsShort (start : ScriptBook) (calls : List Call) (text : List ℕ) : Type 0 where
   pub done : List Call
   pub request : Request
   pub rest : List Call
@@ -54,13 +55,13 @@ pub record IsShort (start : Book) (calls : List Call) (text : List ℕ) : Type 0
   pub shown : text ≡ screens_of start done ++ (refused_screen refused.NoMemory ++ more)
 
 -- what was written, and what is left
-pub record IsDone (book : Past) (old new : Option (List ℕ)) (left : Book) : Type 0 where
+pub record IsDone (book : Past) (old new : Option (List ℕ)) (left : ScriptBook) : Type 0 where
   pub text : List ℕ
   pub added : Appends old new text
   pub same : IsSameAgain book text left ⊎ IsShort (opened_book book.opening) (script_again book).calls text
 
 -- how a run of the journal's script may end: with the same again, or early where reading, writing or memory failed
-abbrev pub IsDoneAgain : Past → Option (List ℕ) → Option (List ℕ) → Book → Result (Unit {0}) ScriptFault → Type 0
+abbrev pub IsDoneAgain : Past → Option (List ℕ) → Option (List ℕ) → ScriptBook → Result (Unit {0}) ScriptFault → Type 0
 IsDoneAgain book old new left (Ok done) = IsDone book old new left
 IsDoneAgain book old new left (Err Read) = ⊤
 IsDoneAgain book old new left (Err Write) = ⊤

@@ -1,6 +1,6 @@
 pub mod Script
 pub mod Sayable
-pub mod Book
+pub mod ScriptBook
 pub mod Run
 pub mod Steps
 pub mod Attempts

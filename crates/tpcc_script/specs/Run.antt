@@ -8,10 +8,10 @@ use Rattle.tpcc_script.specs.declared.call.Call.TheVariants.{Ask, Check, Results
 use Rattle.tpcc_script.specs.declared.fault.ScriptFault.{ScriptFault}
 use Rattle.tpcc_script.specs.declared.fault.ScriptFault.TheVariants.{Bad, Cut, LongLine, TooManyLines, Read, Write, NoMemory}
 use Rattle.tpcc_script.specs.Script.{Script}
-use Rattle.tpcc_script.specs.Book.{Book, screen_of, book_after, call_refusal}
+use Rattle.tpcc_script.specs.ScriptBook.{ScriptBook, screen_of, book_after, call_refusal}
 
 -- the call's screen, and the book after it
-pub record IsServed (old : Book) (call : Call) (screen : List ℕ) (new : Book) : Type 0 where
+pub record IsServed (old : ScriptBook) (call : Call) (screen : List ℕ) (new : ScriptBook) : Type 0 where
   pub shown : screen ≡ screen_of old call
   pub left : new ≡ book_after old call
 
@@ -21,32 +21,32 @@ is_request Check = false
 is_request Results = false
 
 -- a request refused for want of memory and for nothing else, which leaves the book
-pub record IsOutOfMemory (old : Book) (call : Call) (screen : List ℕ) (new : Book) : Type 0 where
+pub record IsOutOfMemory (old : ScriptBook) (call : Call) (screen : List ℕ) (new : ScriptBook) : Type 0 where
   pub request : is_request call ≡ true
   pub free : call_refusal old call ≡ None
   pub shown : screen ≡ refused_screen refused.NoMemory
   pub left : new ≡ old
 
-abbrev pub Shows : Book → Call → List ℕ → Book → Type 0
+abbrev pub Shows : ScriptBook → Call → List ℕ → ScriptBook → Type 0
 Shows old call screen new = IsServed old call screen new ⊎ IsOutOfMemory old call screen new
 
 -- a call was served, and had some screen
-pub record HasServed (old : Book) (call : Call) (new : Book) : Type 0 where
+pub record HasServed (old : ScriptBook) (call : Call) (new : ScriptBook) : Type 0 where
   pub screen : List ℕ
   pub shows : Shows old call screen new
 
 -- calls one after another: the text is their screens
-abbrev pub Prints : Book → List Call → List ℕ → Book → Type 0
+abbrev pub Prints : ScriptBook → List Call → List ℕ → ScriptBook → Type 0
 Prints old [] text new = (text ≡ []) × (new ≡ old)
-Prints old (call ∷ calls) text new = (screen : List ℕ) × (more : List ℕ) × (mid : Book) × Shows old call screen mid × (text ≡ screen ++ more) × Prints mid calls more new
+Prints old (call ∷ calls) text new = (screen : List ℕ) × (more : List ℕ) × (mid : ScriptBook) × Shows old call screen mid × (text ≡ screen ++ more) × Prints mid calls more new
 
 -- the calls were served, and a sink got their screens: all of them, or the first bytes of them
-pub record Wrote (start : Book) (calls : List Call) (old new : Option (List ℕ)) (left : Book) : Type 0 where
+pub record Wrote (start : ScriptBook) (calls : List Call) (old new : Option (List ℕ)) (left : ScriptBook) : Type 0 where
   pub text : List ℕ
   pub prints : Prints start calls text left
   pub added : Appends old new text
 
-pub record WrotePart (start : Book) (calls : List Call) (old new : Option (List ℕ)) (left : Book) : Type 0 where
+pub record WrotePart (start : ScriptBook) (calls : List Call) (old new : Option (List ℕ)) (left : ScriptBook) : Type 0 where
   pub text : List ℕ
   pub prints : Prints start calls text left
   pub count : ℕ
@@ -54,25 +54,25 @@ pub record WrotePart (start : Book) (calls : List Call) (old new : Option (List 
   pub added : Appends old new (take count text)
 
 -- the same of some first calls
-pub record WroteFirst (start : Book) (calls : List Call) (old new : Option (List ℕ)) (left : Book) : Type 0 where
+pub record WroteFirst (start : ScriptBook) (calls : List Call) (old new : Option (List ℕ)) (left : ScriptBook) : Type 0 where
   pub done : List Call
   pub rest : List Call
   pub calls_are : calls ≡ done ++ rest
   pub wrote : Wrote start done old new left
 
-pub record WrotePartOfFirst (start : Book) (calls : List Call) (old new : Option (List ℕ)) (left : Book) : Type 0 where
+pub record WrotePartOfFirst (start : ScriptBook) (calls : List Call) (old new : Option (List ℕ)) (left : ScriptBook) : Type 0 where
   pub done : List Call
   pub rest : List Call
   pub calls_are : calls ≡ done ++ rest
   pub wrote : WrotePart start done old new left
 
 -- some first calls, and one more that was served and has no screen
-pub record WroteButLast (start : Book) (calls : List Call) (old new : Option (List ℕ)) (left : Book) : Type 0 where
+pub record WroteButLast (start : ScriptBook) (calls : List Call) (old new : Option (List ℕ)) (left : ScriptBook) : Type 0 where
   pub done : List Call
   pub last : Call
   pub rest : List Call
   pub calls_are : calls ≡ done ++ last ∷ rest
-  pub before : Book
+  pub before : ScriptBook
   pub wrote : Wrote start done old new before
   pub screen : List ℕ
   pub served : Shows before last screen left
@@ -80,7 +80,7 @@ pub record WroteButLast (start : Book) (calls : List Call) (old new : Option (Li
 -- how a run of a script ends, and the book that it leaves. At its end or at the first fault of its text all calls before it are served and
 -- shown. Reading, memory and writing may fail before: what was served is shown, save that memory may be refused for the last screen,
 -- and that the writer may take a part of the last screens
-abbrev pub IsRun : Book → Script → Option (List ℕ) → Option (List ℕ) → Book → Result (Unit {0}) ScriptFault → Type 0
+abbrev pub IsRun : ScriptBook → Script → Option (List ℕ) → Option (List ℕ) → ScriptBook → Result (Unit {0}) ScriptFault → Type 0
 IsRun start script old new left (Ok done) = (script.fault ≡ None) × Wrote start script.calls old new left
 IsRun start script old new left (Err (Bad n)) = (script.fault ≡ Some (Bad n)) × Wrote start script.calls old new left
 IsRun start script old new left (Err (Cut n)) = (script.fault ≡ Some (Cut n)) × Wrote start script.calls old new left
@@ -91,10 +91,10 @@ IsRun start script old new left (Err NoMemory) = WroteFirst start script.calls o
 IsRun start script old new left (Err Write) = WrotePartOfFirst start script.calls old new left
 
 -- the same of a run that tells how many entries the book has, where it comes to its end
-abbrev pub IsCounted : Book → Script → Option (List ℕ) → Option (List ℕ) → Book → Result ℕ ScriptFault → Type 0
+abbrev pub IsCounted : ScriptBook → Script → Option (List ℕ) → Option (List ℕ) → ScriptBook → Result ℕ ScriptFault → Type 0
 IsCounted start script old new left (Ok entries) = (entries ≡ length left.journal) × IsRun start script old new left (Ok tt)
 IsCounted start script old new left (Err fault) = IsRun start script old new left (Err fault)
 
 -- the same of a run whose book is let go
-abbrev pub HasRun : Book → Script → Option (List ℕ) → Option (List ℕ) → Result ℕ ScriptFault → Type 0
-HasRun start script old new result = (left : Book) × IsCounted start script old new left result
+abbrev pub HasRun : ScriptBook → Script → Option (List ℕ) → Option (List ℕ) → Result ℕ ScriptFault → Type 0
+HasRun start script old new result = (left : ScriptBook) × IsCounted start script old new left result

@@ -13,6 +13,7 @@ use Rattle.tpcc_script.specs.declared.call.Call.{Call}
 use Rattle.tpcc_script.specs.declared.call.Call.TheVariants.{Ask, Check, Results}
 use Rattle.tpcc_script.specs.declared.fault.ScriptFault.{ScriptFault}
 use Rattle.tpcc_script.specs.declared.fault.ScriptFault.TheVariants.{Bad, Cut, LongLine, TooManyLines}
+use Rattle.tpcc_script.specs.declared.reader.TheConstants.{LONGEST_LINE, MOST_LINES}
 
 infixl 10 ◌>>=◌
 abbrev pub ◌>>=◌ : {A B : Type 0} → Option A → (A → Option B) → Option B
@@ -165,18 +166,12 @@ fails fault = record { calls = []; fault = Some fault }
 abbrev pub with_call : Call → Script → Script
 with_call call script = record { calls = call ∷ script.calls; fault = script.fault }
 
-abbrev pub greatest_line_length : ℕ
-greatest_line_length = 4096
-
-abbrev pub greatest_line_number : ℕ
-greatest_line_number = 1000000
-
 -- what stands behind the last line feed
 abbrev pub rest_says : ℕ → List ℕ → Script
 rest_says number [] = ends
 rest_says number (byte ∷ bytes) =
-    if nat_lt greatest_line_number number then fails TooManyLines
-    else if nat_lt greatest_line_length (length (byte ∷ bytes)) then fails (LongLine number)
+    if nat_lt MOST_LINES number then fails TooManyLines
+    else if nat_lt LONGEST_LINE (length (byte ∷ bytes)) then fails (LongLine number)
     else fails (Cut number)
 
 -- a line's call before those of the lines behind it
@@ -189,8 +184,8 @@ abbrev pub lines_say : ℕ → List (List ℕ) → Script
 lines_say number [] = ends
 lines_say number (rest ∷ []) = rest_says number rest
 lines_say number (line ∷ next ∷ parts) =
-    if nat_lt greatest_line_number number then fails TooManyLines
-    else if nat_lt greatest_line_length (length line) then fails (LongLine number)
+    if nat_lt MOST_LINES number then fails TooManyLines
+    else if nat_lt LONGEST_LINE (length line) then fails (LongLine number)
     else then_says number (call_of line) (lines_say (number + 1) (next ∷ parts))
 
 -- what a script says

@@ -5,14 +5,14 @@ use Rattle.tpcc_population.specs.Opening.{opening_state}
 use Rattle.tpcc_rows.specs.Replay.{count_of}
 use Rattle.tpcc_book.specs.Past.{Past}
 use Rattle.tpcc_book.specs.Purses.{PurseView}
-use Rattle.tpcc_script.specs.Book.{Book, terminal}
+use Rattle.tpcc_script.specs.ScriptBook.{ScriptBook, terminal}
 
 -- a book, as a script sees it
-abbrev pub book_of : Past → Book
+abbrev pub book_of : Past → ScriptBook
 book_of past = record { opening = past.opening; state = past.state; journal = past.entries }
 
 -- the book of an opening: no ticket, no entry
-abbrev pub opened_book : Opening → Book
+abbrev pub opened_book : Opening → ScriptBook
 opened_book opening = record { opening = opening; state = opening_state opening; journal = [] }
 
 -- the purse is there between two requests, and made each entry of its terminal

@@ -3,7 +3,7 @@ ghost use Rattle.std.specs.Prelude.{◌≡◌, IfOk};
 ghost use Rattle.tpcc_rows.specs.Conditions.{first_broken};
 ghost use Rattle.tpcc_rows.specs.Replay.{results_of};
 ghost use Rattle.tpcc_terminal.specs.Screens as screens;
-ghost use Rattle.tpcc_script.specs.Book.{Book};
+ghost use Rattle.tpcc_script.specs.ScriptBook.{ScriptBook};
 ghost use Rattle.tpcc_script.specs.Run.{HasServed, Shows};
 ghost use Rattle.tpcc_script.specs.declared.call.Call.TheVariants.{Ask};
 
@@ -15,7 +15,7 @@ use tpcc_terminal::Screen;
 /// Tables with the journal that led to them.
 pub trait Engine {
     /// What it is seen as: its rows, its queue and its journal.
-    ghost book: { Self → Book };
+    ghost book: { Self → ScriptBook };
 
     /// Serves a request and gives the screen of the answer: one turn, which is a transaction and its entry, or a
     /// refusal and no change. Refused only for want of memory for the screen, and then the turn was made.

@@ -13,8 +13,9 @@ ghost use Rattle.tpcc_terminal.specs.Cards.{drawn_draft, request_of};
 ghost use Rattle.tpcc_terminal.specs.RequestLines.{journal_lines, request_line};
 ghost use Rattle.tpcc_script.specs.declared.call.Call.TheVariants.{Ask};
 ghost use Rattle.tpcc_script.specs.declared.fault.ScriptFault.{ScriptFault};
+ghost use Rattle.tpcc_script.specs.declared.reader.TheConstants.{MOST_LINES};
 ghost use Rattle.tpcc_script.specs.Again.{IsDoneAgain, IsSameAgain, IsWritable, left_again, screens_again, script_again};
-ghost use Rattle.tpcc_script.specs.Book.{Book};
+ghost use Rattle.tpcc_script.specs.ScriptBook.{ScriptBook};
 ghost use Rattle.tpcc_script.specs.Run.{IsRun};
 ghost use Rattle.tpcc_script.specs.Sayable.{has_letters, is_sayable};
 ghost use Rattle.tpcc_script.specs.Script.{is_last_name, script_of};
@@ -30,7 +31,7 @@ pub fn request_is_read()
 /// A journal of at most 1,000,000 entries, written as a script, asks the requests of its entries in their order.
 pub fn journal_is_read()
     ensures { (entries : List Entry) → list_all (λ e. is_sayable e.request) entries ≡ true
-        → length entries ≤ 1000000
+        → length entries ≤ MOST_LINES
         → script_of (journal_lines entries)
         ≡ record { calls = map (λ e. Ask e.request) entries; fault = None } }
 {}
@@ -47,7 +48,7 @@ pub fn journal_is_done_again()
 /// Whatever [`run_script`](crate::run_script) does with that script: where it ends it has written just these screens and left
 /// that book, or some request was refused for want of memory; no fault of the text stops it.
 pub fn journal_runs_again()
-    ensures { (book : Past) (old new : Option (List ℕ)) (left : Book)
+    ensures { (book : Past) (old new : Option (List ℕ)) (left : ScriptBook)
         (result : Result (Unit {0}) ScriptFault)
         → IsWritable book → IsRun (opened_book book.opening) (script_again book) old new left result
         → IsDoneAgain book old new left result }

@@ -1,17 +1,32 @@
 //! Scripts: lines of requests and calls, and the screens that answer them.
+//!
+//! `run_script` reads a script from a reader, serves each line on a fresh book and writes its screen. `show_script` does the same,
+//! keeps the screens, and writes parts of the book that is left. `parse_line` reads one line alone, and gives the `Call` that it says.
+//! A script may have `MOST_LINES` lines, of at most `LONGEST_LINE` bytes.
+//!
+//! The script is read ahead in blocks, and its screens go out in blocks: all that wait are written, and the writer is flushed,
+//! before the reader is called again and before a fault is told. So who writes a line and waits has its screen before the next line.
+//!
+//! `ScriptFault` says why a script ended early. The lines before the fault were served, and their screens are written; where writing
+//! itself fails a first part of them is.
+//!
+//! `request_is_read`, `journal_is_read`, `journal_is_done_again`, `journal_runs_again` and `names_are_letters` are laws, each the
+//! contract of a function with nothing to do: what a book's journal says as a script, and that it leads to the same book.
+//!
+//! Not promised: that memory is found, and that an interrupted call ends well at last; after so many in a row it is given up.
 #![tactic(auto)]
 
 mod answering;
 mod call;
 mod engine;
 mod fault;
-mod held;
-pub mod laws;
+mod laws;
 mod parse;
 mod reader;
 mod script;
 mod session;
 mod showing;
+mod waiting_screens;
 mod watch;
 mod words;
 mod writer;
@@ -19,6 +34,10 @@ mod writer;
 pub use call::Call;
 pub use engine::Engine;
 pub use fault::ScriptFault;
+pub use laws::{
+    journal_is_done_again, journal_is_read, journal_runs_again, names_are_letters, request_is_read,
+};
 pub use parse::parse_line;
+pub use reader::{LONGEST_LINE, MOST_LINES};
 pub use script::run_script;
 pub use showing::show_script;

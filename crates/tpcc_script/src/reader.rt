@@ -2,17 +2,18 @@
 ghost use Rattle.std.specs.Prelude.{◌≡◌, ◌≢◌, ◌≤◌, ℕ, List, Some, true, IfOk, IfSome, IfErr};
 ghost use Rattle.tpcc_script.specs.Attempts.{HasGivenUp, TakesByte};
 ghost use Rattle.tpcc_script.specs.Steps.{IsRead};
+ghost use Rattle.tpcc_script.specs.declared.reader.TheConstants.{MOST_LINES};
 
 use crate::fault::ScriptFault;
 use crate::watch::{Attempt, Watch, try_byte};
 use std::alloc::Global;
 use std::io::Read;
 
-/// A line's bytes without its line feed.
-const GREATEST_LENGTH: usize = 4_096;
+/// How many bytes a line has at most, without its line feed.
+pub const LONGEST_LINE: usize = 4_096;
 
-/// The lines of a script.
-const GREATEST_NUMBER: u32 = 1_000_000;
+/// How many lines a script has at most.
+pub const MOST_LINES: u32 = 1_000_000;
 
 /// The next line, whose number is given, without its line feed; none at the end.
 ///
@@ -26,7 +27,7 @@ pub fn read_line<R: Read>(
 ) -> Result<Option<Vec<u8>>, ScriptFault>
     ensures read { (bytes : List ℕ) → R.remaining input.old ≡ Some bytes
         → IsRead (λ v. v.items) number bytes result (R.remaining input.new) }
-    ensures within { IfOk result (λ line. IfSome line (λ _. number ≤ 1000000)) }
+    ensures within { IfOk result (λ line. IfSome line (λ _. number ≤ MOST_LINES)) }
     ensures gave_up { IfErr result (HasGivenUp watch.new) }
     ensures why { IfErr result (λ f. f ≢ ScriptFault.Write) }
 {
@@ -38,13 +39,13 @@ pub fn read_line<R: Read>(
             Ok(None) => return Err(ScriptFault::Cut(number)),
             Err(_) => return Err(ScriptFault::Read),
         };
-        if number > GREATEST_NUMBER {
+        if number > MOST_LINES {
             return Err(ScriptFault::TooManyLines);
         }
         if byte == b'\n' {
             return Ok(Some(line));
         }
-        if line.len() == GREATEST_LENGTH {
+        if line.len() == LONGEST_LINE {
             return Err(ScriptFault::LongLine(number));
         }
         if line.push(byte).is_err() {

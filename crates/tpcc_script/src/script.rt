@@ -1,20 +1,21 @@
 //! A script from its first line to its end.
 ghost use Rattle.std.specs.Prelude.{◌≡◌, ◌≢◌, ◌≤◌, ◌++◌, ℕ, true, List, Some, IfErr, IfOk, IfSome, OnErr, OnOk};
 ghost use Rattle.std.specs.Io.Buffered.{reader_remaining};
+ghost use Rattle.tpcc_script.specs.declared.reader.TheConstants.{MOST_LINES};
 ghost use Rattle.tpcc_script.specs.Attempts.{HasGivenUp};
 ghost use Rattle.tpcc_script.specs.Script.{script_of};
 ghost use Rattle.tpcc_script.specs.Run.{HasRun, IsCounted, IsRun};
 ghost use Rattle.tpcc_script.specs.Steps.{IsAnswered, IsStep};
-ghost use Rattle.tpcc_audit.specs.Part.{AppendsPart, Passes};
+ghost use Rattle.tpcc_audit.specs.Part.{AppendsPart, PassesBytes};
 ghost use Rattle.tpcc_script.specs.Session.{opened_book, book_of};
 
 use crate::answering::answer;
 use crate::engine::Engine;
 use crate::fault::ScriptFault;
-use crate::held::Held;
 use crate::parse::parse_line;
 use crate::reader::read_line;
 use crate::session::Session;
+use crate::waiting_screens::WaitingScreens;
 use crate::watch::Watch;
 use std::alloc::Global;
 use std::io::{BufReader, Read, Write};
@@ -118,10 +119,10 @@ fn serve_lines<E: Engine, R: Read, W: Write>(
         → IsRun (E.book engine.old) (script_of bytes) (W.contents out.old) (W.contents out.new)
         (E.book engine.new) result }
 {
-    let mut held = Held::new(alloc);
+    let mut waiting = WaitingScreens::new(alloc);
     let mut number = 1u32;
     'lines: loop {
-        match show_line(alloc, engine, ahead, &mut held, out, watch, number) {
+        match show_line(alloc, engine, ahead, &mut waiting, out, watch, number) {
             Ok(true) => number += 1,
             Ok(false) => return Ok(()),
             Err(fault) => return Err(fault),
@@ -134,29 +135,29 @@ fn show_line<E: Engine, R: Read, W: Write>(
     alloc: Global,
     engine: &mut E,
     ahead: &mut BufReader<R>,
-    held: &mut Held,
+    waiting: &mut WaitingScreens,
     out: &mut W,
     watch: &mut Watch,
     number: u32,
 ) -> Result<bool, ScriptFault>
-    ensures within { IfOk result (λ more. more ≡ true → number ≤ 1000000) }
+    ensures within { IfOk result (λ more. more ≡ true → number ≤ MOST_LINES) }
     ensures gave_up { IfErr result (HasGivenUp watch.new) }
     ensures step { (bytes : List ℕ) → reader_remaining R.remaining ahead.old ≡ Some bytes
         → IsStep number bytes (E.book engine.old) (E.book engine.new)
         (reader_remaining R.remaining ahead.new)
-        (W.contents out.old) (W.contents out.new) held.old held.new result }
+        (W.contents out.old) (W.contents out.new) waiting.old waiting.new result }
 {
     match serve_line(alloc, engine, ahead, watch, number) {
         Ok(Some(screen)) => {
-            show_screen(ahead, held, out, watch, screen.bytes())?;
+            show_screen(ahead, waiting, out, watch, screen.bytes())?;
             Ok(true)
         }
         Ok(None) => {
-            held.flush(out, watch)?;
+            waiting.flush(out, watch)?;
             Ok(false)
         }
         Err(fault) => {
-            held.flush(out, watch)?;
+            waiting.flush(out, watch)?;
             Err(fault)
         }
     }
@@ -166,23 +167,23 @@ fn show_line<E: Engine, R: Read, W: Write>(
 // all that waits.
 fn show_screen<R: Read, W: Write>(
     ahead: &BufReader<R>,
-    held: &mut Held,
+    waiting: &mut WaitingScreens,
     out: &mut W,
     watch: &mut Watch,
     screen: &[u8],
 ) -> Result<(), ScriptFault>
-    ensures ok { OnOk result (Passes (W.contents out.old) (W.contents out.new)
-        (held.old ++ screen.now) held.new) }
+    ensures ok { OnOk result (PassesBytes (W.contents out.old) (W.contents out.new)
+        (waiting.old ++ screen.now) waiting.new) }
     ensures err { OnErr result (AppendsPart (W.contents out.old) (W.contents out.new)
-        (held.old ++ screen.now)) }
+        (waiting.old ++ screen.now)) }
     ensures gave_up { IfErr result
         (λ f. (f ≡ ScriptFault.Write) × (watch.new.writer_failed ≡ true)) }
 {
-    held.put(out, watch, screen)?;
+    waiting.put(out, watch, screen)?;
     if ahead.buffer().contains(&b'\n') {
         return Ok(());
     }
-    held.flush(out, watch)
+    waiting.flush(out, watch)
 }
 
 // Serves one line and gives its screen; none at the end.
@@ -193,7 +194,7 @@ fn serve_line<E: Engine, R: Read>(
     watch: &mut Watch,
     number: u32,
 ) -> Result<Option<Screen>, ScriptFault>
-    ensures within { IfOk result (λ screen. IfSome screen (λ _. number ≤ 1000000)) }
+    ensures within { IfOk result (λ screen. IfSome screen (λ _. number ≤ MOST_LINES)) }
     ensures gave_up { IfErr result (HasGivenUp watch.new) }
     ensures answered { (bytes : List ℕ) → R.remaining input.old ≡ Some bytes
         → IsAnswered number bytes (E.book engine.old) (E.book engine.new)

@@ -2,7 +2,7 @@
 ghost use Rattle.std.specs.Prelude.{◌≡◌, ℕ, List, Some, IfOk, OnErr};
 ghost use Rattle.tpcc_script.specs.Script.{script_of};
 ghost use Rattle.tpcc_script.specs.Session.{opened_book, book_of};
-ghost use Rattle.tpcc_script.specs.Shown.{HasShown, HasShownPart};
+ghost use Rattle.tpcc_script.specs.Shown.{HasShownScript, HasShownScriptPart};
 
 use crate::fault::ScriptFault;
 use crate::script::serve_session;
@@ -30,10 +30,10 @@ pub fn show_script<R: Read, W: Write>(
     out: &mut W,
 ) -> Result<Result<usize, ScriptFault>, ScriptFault>
     ensures shown { (bytes : List ℕ) → R.remaining input.old ≡ Some bytes
-        → IfOk result (HasShown (opened_book opening.now) (script_of bytes) parts.now
+        → IfOk result (HasShownScript (opened_book opening.now) (script_of bytes) parts.now
         (W.contents out.old) (W.contents out.new)) }
     ensures part { (bytes : List ℕ) → R.remaining input.old ≡ Some bytes
-        → OnErr result (HasShownPart (opened_book opening.now) (script_of bytes) parts.now
+        → OnErr result (HasShownScriptPart (opened_book opening.now) (script_of bytes) parts.now
         (W.contents out.old) (W.contents out.new)) }
 {
     show_named::<Brand, R, W>(alloc, input, opening, parts, out, Blanks::new())
@@ -51,10 +51,10 @@ fn show_named<N: Naming, R: Read, W: Write>(
     requires entries { blanks.entries.name ≡ N.entries }
     requires cents { blanks.cents.name ≡ N.cents }
     ensures shown { (bytes : List ℕ) → R.remaining input.old ≡ Some bytes
-        → IfOk result (HasShown (opened_book opening.now) (script_of bytes) parts.now
+        → IfOk result (HasShownScript (opened_book opening.now) (script_of bytes) parts.now
         (W.contents out.old) (W.contents out.new)) }
     ensures part { (bytes : List ℕ) → R.remaining input.old ≡ Some bytes
-        → OnErr result (HasShownPart (opened_book opening.now) (script_of bytes) parts.now
+        → OnErr result (HasShownScriptPart (opened_book opening.now) (script_of bytes) parts.now
         (W.contents out.old) (W.contents out.new)) }
 {
     match Session::<N>::start(alloc, opening, blanks) {
@@ -72,10 +72,10 @@ fn show_session<N: Naming, R: Read, W: Write>(
     out: &mut W,
 ) -> Result<Result<usize, ScriptFault>, ScriptFault>
     ensures shown { (bytes : List ℕ) → R.remaining input.old ≡ Some bytes
-        → IfOk result (HasShown (book_of session.old) (script_of bytes) parts.now
+        → IfOk result (HasShownScript (book_of session.old) (script_of bytes) parts.now
         (W.contents out.old) (W.contents out.new)) }
     ensures part { (bytes : List ℕ) → R.remaining input.old ≡ Some bytes
-        → OnErr result (HasShownPart (book_of session.old) (script_of bytes) parts.now
+        → OnErr result (HasShownScriptPart (book_of session.old) (script_of bytes) parts.now
         (W.contents out.old) (W.contents out.new)) }
 {
     let mut screens = Vec::new(alloc);

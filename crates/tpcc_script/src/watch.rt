@@ -1,23 +1,37 @@
-//! Calls of a reader and a writer that are made again where they were interrupted.
-ghost use Rattle.std.specs.Prelude.{◌≡◌, ◌<◌, ℕ, List, Some, slice_get, drop, true, false, IfOk, IfErr, OnOk};
-ghost use Rattle.std.specs.Io.KnownBytes.{Keeps};
+//! Calls of a reader and a writer that are made again where they were interrupted, and whether one of the two failed.
+ghost use Rattle.std.specs.Prelude.{◌≡◌, ◌<◌, ◌++◌, [], ℕ, List, Some, slice_get, drop, true, false, IfOk, IfErr, OnErr, OnOk};
+ghost use Rattle.std.specs.Io.KnownBytes.{Appends, Keeps};
+ghost use Rattle.tpcc_audit.specs.Part.{AppendsPart, PassesBytes};
+ghost use Rattle.tpcc_audit.specs.declared.writing.TheConstants.{MOST_RETRIES};
 ghost use Rattle.tpcc_script.specs.Attempts.{HasFlushed, HasRead, IsNoWorse};
 
 use crate::fault::ScriptFault;
 use std::io::{Error, ErrorKind, Read, Write};
+use std::marker::Model;
+use tpcc_audit::{Blocks, MOST_RETRIES};
 
-/// How often in a row an interrupted call is made again.
-const MOST_RETRIES: u32 = 1_000;
-
-/// What became of the calls of a script's reader and writer.
+/// What became of the calls of a script's reader and writer. That one of the two failed is noted by the calls of this
+/// file alone, which saw it fail.
 #[derive(Drop)]
 pub struct Watch {
     /// How often an interrupted call may still be made again.
-    pub retries: u32,
+    retries: u32,
     /// Whether the reader failed, or was interrupted once too often.
-    pub reader_failed: bool,
+    reader_failed: bool,
     /// Whether the writer failed, took nothing, or was interrupted once too often.
-    pub writer_failed: bool,
+    writer_failed: bool,
+}
+
+impl Model for Watch {
+    ghost use Rattle.tpcc_script.specs.Attempts.{WatchView};
+
+    ghost Value = { WatchView };
+
+    ghost view = { λ w. record {
+      retries = w.retries;
+      reader_failed = w.reader_failed;
+      writer_failed = w.writer_failed;
+    } };
 }
 
 /// A call that was not given up.
@@ -32,7 +46,7 @@ impl Watch {
     /// Nothing has failed, and no call was made again.
     pub fn new() -> Watch
         ensures new { result
-            ≡ record { retries = 1000; reader_failed = false; writer_failed = false } }
+            ≡ record { retries = MOST_RETRIES; reader_failed = false; writer_failed = false } }
     {
         Watch {
             retries: MOST_RETRIES,
@@ -54,13 +68,15 @@ impl Watch {
     }
 }
 
-/// Reads one byte; none at the end. Read where the reader is given up.
+/// Reads one byte; none at the end. Read where the reader is given up, which is then noted.
 pub fn try_byte<R: Read>(
     input: &mut R,
     watch: &mut Watch,
 ) -> Result<Attempt<Option<u8>>, ScriptFault>
     ensures read { IfOk result
         (HasRead watch.old watch.new (R.remaining input.old) (R.remaining input.new)) }
+    ensures same { OnOk result (IsNoWorse watch.old watch.new) }
+    ensures writer { watch.new.writer_failed ≡ watch.old.writer_failed }
     ensures gave_up { IfErr result
         (λ f. (f ≡ ScriptFault.Read) × (watch.new.reader_failed ≡ true)) }
 {
@@ -78,11 +94,12 @@ pub fn try_byte<R: Read>(
     }
 }
 
-/// Flushes the writer. Write where it is given up.
+/// Flushes the writer. Write where it is given up, which is then noted.
 pub fn try_flush<W: Write>(out: &mut W, watch: &mut Watch) -> Result<Attempt<()>, ScriptFault>
     ensures flushed { IfOk result (HasFlushed watch.old watch.new) }
     ensures kept { Keeps (W.contents out.old) (W.contents out.new) }
     ensures same { OnOk result (IsNoWorse watch.old watch.new) }
+    ensures reader { watch.new.reader_failed ≡ watch.old.reader_failed }
     ensures gave_up { IfErr result
         (λ f. (f ≡ ScriptFault.Write) × (watch.new.writer_failed ≡ true)) }
 {
@@ -92,6 +109,55 @@ pub fn try_flush<W: Write>(out: &mut W, watch: &mut Watch) -> Result<Attempt<()>
             Ok(Attempt::Done(()))
         }
         Err(error) if watch.is_retried(&error) => Ok(Attempt::Again),
+        Err(_) => {
+            watch.writer_failed = true;
+            Err(ScriptFault::Write)
+        }
+    }
+}
+
+/// Puts bytes into blocks. Write where the writer is given up, which is then noted.
+pub fn put_bytes<W: Write>(
+    blocks: &mut Blocks,
+    out: &mut W,
+    watch: &mut Watch,
+    bytes: &[u8],
+) -> Result<(), ScriptFault>
+    ensures ok { OnOk result (PassesBytes (W.contents out.old) (W.contents out.new)
+        (blocks.old ++ bytes.now) blocks.new) }
+    ensures err { OnErr result (AppendsPart (W.contents out.old) (W.contents out.new)
+        (blocks.old ++ bytes.now)) }
+    ensures same { OnOk result (IsNoWorse watch.old watch.new) }
+    ensures reader { watch.new.reader_failed ≡ watch.old.reader_failed }
+    ensures gave_up { IfErr result
+        (λ f. (f ≡ ScriptFault.Write) × (watch.new.writer_failed ≡ true)) }
+{
+    match blocks.put(out, bytes) {
+        Ok(()) => Ok(()),
+        Err(_) => {
+            watch.writer_failed = true;
+            Err(ScriptFault::Write)
+        }
+    }
+}
+
+/// Writes what waits in blocks. Write where the writer is given up, which is then noted.
+pub fn write_blocks<W: Write>(
+    blocks: &mut Blocks,
+    out: &mut W,
+    watch: &mut Watch,
+) -> Result<(), ScriptFault>
+    ensures none { OnOk result (blocks.new ≡ []) }
+    ensures ok { OnOk result (Appends (W.contents out.old) (W.contents out.new) blocks.old) }
+    ensures err { OnErr result
+        (AppendsPart (W.contents out.old) (W.contents out.new) blocks.old) }
+    ensures same { OnOk result (IsNoWorse watch.old watch.new) }
+    ensures reader { watch.new.reader_failed ≡ watch.old.reader_failed }
+    ensures gave_up { IfErr result
+        (λ f. (f ≡ ScriptFault.Write) × (watch.new.writer_failed ≡ true)) }
+{
+    match blocks.end(out) {
+        Ok(()) => Ok(()),
         Err(_) => {
             watch.writer_failed = true;
             Err(ScriptFault::Write)

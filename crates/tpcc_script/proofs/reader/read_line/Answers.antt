@@ -18,25 +18,25 @@ returns-in-Ok-None-2-clause-read g c = λ bytes known.
     let some : 0 < length c.bytes.line.items = grind (arith, nat_tests, c.if-is_empty.ensures) in
     cut_there bytes _ _ c.args.number r (sym c.in-Ok-None.field-0-is ∙ k.0) some (c.bytes.invariant.fits some) c.bytes.invariant.short
 
-pub returns-then-number-gt-GREATEST_NUMBER-clause-read :
-    goal.returns-then-number-gt-GREATEST_NUMBER-clause-read
-returns-then-number-gt-GREATEST_NUMBER-clause-read g c = λ bytes known.
+pub returns-then-number-gt-MOST_LINES-clause-read :
+    goal.returns-then-number-gt-MOST_LINES-clause-read
+returns-then-number-gt-MOST_LINES-clause-read g c = λ bytes known.
     let r = c.bytes.invariant.reading bytes known in
     let k = c.in-Ok-Some.ensures.ok r.rest r.left_is in
-    too_many bytes _ _ c.in-Ok-Some.byte c.args.number r (sym c.in-Ok-Some.field-0-is ∙ k.0) c.if-number-gt-GREATEST_NUMBER.true
+    too_many bytes _ _ c.in-Ok-Some.byte c.args.number r (sym c.in-Ok-Some.field-0-is ∙ k.0) c.if-number-gt-MOST_LINES.true
 
 pub returns-then-byte-eq10-clause-read : goal.returns-then-byte-eq10-clause-read
 returns-then-byte-eq10-clause-read g c = λ bytes known.
     let r = c.bytes.invariant.reading bytes known in
     let k = c.in-Ok-Some.ensures.ok r.rest r.left_is in
-    line_so bytes _ _ _ c.in-Ok-Some.byte c.args.number r (sym c.in-Ok-Some.field-0-is ∙ k.0) k.1 c.if-byte-eq10.true (omega (arith, c.if-number-gt-GREATEST_NUMBER.false)) c.bytes.invariant.short
+    line_so bytes _ _ _ c.in-Ok-Some.byte c.args.number r (sym c.in-Ok-Some.field-0-is ∙ k.0) k.1 c.if-byte-eq10.true (omega (arith, c.if-number-gt-MOST_LINES.false)) c.bytes.invariant.short
 
-pub returns-then-len-eq-GREATEST_LENGTH-clause-read :
-    goal.returns-then-len-eq-GREATEST_LENGTH-clause-read
-returns-then-len-eq-GREATEST_LENGTH-clause-read g c = λ bytes known.
+pub returns-then-len-eq-LONGEST_LINE-clause-read :
+    goal.returns-then-len-eq-LONGEST_LINE-clause-read
+returns-then-len-eq-LONGEST_LINE-clause-read g c = λ bytes known.
     let r = c.bytes.invariant.reading bytes known in
     let k = c.in-Ok-Some.ensures.ok r.rest r.left_is in
-    too_long bytes _ _ c.in-Ok-Some.byte c.args.number r (sym c.in-Ok-Some.field-0-is ∙ k.0) (grind (arith, nat_tests, c.if-byte-eq10.false)) (omega (arith, c.if-number-gt-GREATEST_NUMBER.false)) (omega (arith, c.len.ensures, c.if-len-eq-GREATEST_LENGTH.true))
+    too_long bytes _ _ c.in-Ok-Some.byte c.args.number r (sym c.in-Ok-Some.field-0-is ∙ k.0) (grind (arith, nat_tests, c.if-byte-eq10.false)) (omega (arith, c.if-number-gt-MOST_LINES.false)) (omega (arith, c.len.ensures, c.if-len-eq-LONGEST_LINE.true))
 
 pub bytes-preserved : goal.bytes-preserved
 bytes-preserved g c =
@@ -44,8 +44,8 @@ bytes-preserved g c =
     c.push.ensures.items ∙ ap (λ b. if b then c.bytes.line.items ++ c.in-Ok-Some.byte ∷ [] else c.bytes.line.items) c.if-is_err.ensures.negation in
     let other : (c.in-Ok-Some.byte == 10) ≡ false = grind (arith, nat_tests, c.if-byte-eq10.false) in
     record {
-      short = omega (arith, c.len.ensures, c.if-len-eq-GREATEST_LENGTH.false, c.bytes.line.ok.0, c.bytes.invariant.short, ap length pushed, length-append c.bytes.line.items (c.in-Ok-Some.byte ∷ []));
-      fits = λ h. omega (arith, c.if-number-gt-GREATEST_NUMBER.false);
+      short = omega (arith, c.len.ensures, c.if-len-eq-LONGEST_LINE.false, c.bytes.line.ok.0, c.bytes.invariant.short, ap length pushed, length-append c.bytes.line.items (c.in-Ok-Some.byte ∷ []));
+      fits = λ h. omega (arith, c.if-number-gt-MOST_LINES.false);
       reading = λ bytes known.
           let r = c.bytes.invariant.reading bytes known in
           let k = c.in-Ok-Some.ensures.ok r.rest r.left_is in

@@ -3,7 +3,7 @@ use Rattle.tpcc_script.proofs.Runs.{begins, ends_at, goes_at, fails_so}
 use Rattle.tpcc_script.proofs.script.serve_lines.Goals as goal
 
 pub lines-init : goal.lines-init
-lines-init g c = λ bytes known. begins _ bytes _ _ _ c.new-held.ensures known
+lines-init g c = λ bytes known. begins _ bytes _ _ _ c.new-waiting.ensures known
 
 pub returns-in-Ok-false-clause-run : goal.returns-in-Ok-false-clause-run
 returns-in-Ok-false-clause-run g c = λ bytes known.

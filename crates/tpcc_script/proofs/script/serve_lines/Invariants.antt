@@ -1,12 +1,13 @@
-use Rattle.std.proofs.Common.{◌≡◌, ◌-◌, ℕ, List, Some}
+use Rattle.std.proofs.Common.{◌≡◌, ◌+◌, ◌-◌, ℕ, List, Some}
 use Rattle.std.specs.Io.Buffered.{reader_remaining}
+use Rattle.tpcc_script.specs.declared.reader.TheConstants.{MOST_LINES}
 use Rattle.tpcc_script.proofs.Runs.{SoFar}
 use Rattle.tpcc_script.proofs.script.serve_lines.Given as goal
 
 abbrev pub invariant-lines : goal.invariant-lines
 invariant-lines g l = (bytes : List ℕ) → reader_remaining g.R.Read.remaining l.fn.ahead ≡ Some bytes
     → SoFar (g.E.Engine.book l.fn.engine) (g.E.Engine.book l.engine) bytes (reader_remaining g.R.Read.remaining l.ahead)
-    (g.W.Write.contents l.fn.out) (g.W.Write.contents l.out) l.held l.number
+    (g.W.Write.contents l.fn.out) (g.W.Write.contents l.out) l.waiting l.number
 
 abbrev pub decreases-lines : goal.decreases-lines
-decreases-lines g l = 1000001 - l.number
+decreases-lines g l = MOST_LINES + 1 - l.number

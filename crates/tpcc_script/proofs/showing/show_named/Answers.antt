@@ -6,16 +6,16 @@ use Rattle.tpcc_show.specs.Shown.{served_text}
 use Rattle.tpcc_script.specs.declared.fault.ScriptFault.TheVariants.{NoMemory}
 use Rattle.tpcc_script.specs.Script.{script_of}
 use Rattle.tpcc_script.specs.Session.{opened_book, book_of}
-use Rattle.tpcc_script.specs.Shown.{HasShown, HasShownPart}
+use Rattle.tpcc_script.specs.Shown.{HasShownScript, HasShownScriptPart}
 use Rattle.tpcc_script.proofs.showing.show_named.Goals as goal
 
 pub returns-in-Ok : goal.returns-in-Ok
 returns-in-Ok g c = record {
   shown = λ bytes known.
-      subst (λ (p : Past). IfOk c.show_session.result (HasShown (book_of p) (script_of bytes) c.args.parts.now (g.W.Write.contents c.args.out.now) (g.W.Write.contents c.show_session.new.out)))
+      subst (λ (p : Past). IfOk c.show_session.result (HasShownScript (book_of p) (script_of bytes) c.args.parts.now (g.W.Write.contents c.args.out.now) (g.W.Write.contents c.show_session.new.out)))
       c.in-Ok.ensures.started (c.show_session.ensures.shown bytes known);
   part = λ bytes known.
-      subst (λ (p : Past). OnErr c.show_session.result (HasShownPart (book_of p) (script_of bytes) c.args.parts.now (g.W.Write.contents c.args.out.now) (g.W.Write.contents c.show_session.new.out)))
+      subst (λ (p : Past). OnErr c.show_session.result (HasShownScriptPart (book_of p) (script_of bytes) c.args.parts.now (g.W.Write.contents c.args.out.now) (g.W.Write.contents c.show_session.new.out)))
       c.in-Ok.ensures.started (c.show_session.ensures.part bytes known);
 }
 

@@ -1,11 +1,11 @@
 //! Screens that wait to be written.
 ghost use Rattle.std.specs.Prelude.{◌≡◌, [], ◌++◌, IfErr, OnErr, OnOk, true};
 ghost use Rattle.std.specs.Io.KnownBytes.{Appends};
-ghost use Rattle.tpcc_audit.specs.Part.{AppendsPart, Passes};
+ghost use Rattle.tpcc_audit.specs.Part.{AppendsPart, PassesBytes};
 ghost use Rattle.tpcc_script.specs.Attempts.{IsNoWorse};
 
 use crate::fault::ScriptFault;
-use crate::watch::Watch;
+use crate::watch::{Watch, put_bytes, write_blocks};
 use crate::writer::flush;
 use std::alloc::Global;
 use std::io::Write;
@@ -14,25 +14,25 @@ use tpcc_audit::Blocks;
 
 /// Screens that were made and not yet written, so that they go out in blocks.
 #[derive(Drop)]
-pub struct Held {
+pub struct WaitingScreens {
     /// The screens' bytes, one behind another.
     blocks: Blocks,
 }
 
-impl Model for Held {
+impl Model for WaitingScreens {
     ghost use Rattle.std.specs.Prelude.{ℕ, List};
 
     ghost Value = { List ℕ };
 
-    ghost view = { λ h. h.blocks };
+    ghost view = { λ w. w.blocks };
 }
 
-impl Held {
+impl WaitingScreens {
     /// Nothing waits.
-    pub fn new(alloc: Global) -> Held
+    pub fn new(alloc: Global) -> WaitingScreens
         ensures { result ≡ [] }
     {
-        Held {
+        WaitingScreens {
             blocks: Blocks::new(alloc),
         }
     }
@@ -45,39 +45,15 @@ impl Held {
         watch: &mut Watch,
         screen: &[u8],
     ) -> Result<(), ScriptFault>
-        ensures ok { OnOk result (Passes (W.contents out.old) (W.contents out.new)
+        ensures ok { OnOk result (PassesBytes (W.contents out.old) (W.contents out.new)
             (self.old ++ screen.now) self.new) }
         ensures err { OnErr result (AppendsPart (W.contents out.old) (W.contents out.new)
             (self.old ++ screen.now)) }
-        ensures gave_up { IfErr result
-            (λ f. (f ≡ ScriptFault.Write) × (watch.new.writer_failed ≡ true)) }
-    {
-        match self.blocks.put(out, screen) {
-            Ok(()) => Ok(()),
-            Err(_) => {
-                watch.writer_failed = true;
-                Err(ScriptFault::Write)
-            }
-        }
-    }
-
-    // Writes what waits.
-    fn write<W: Write>(&mut self, out: &mut W, watch: &mut Watch) -> Result<(), ScriptFault>
-        ensures none { OnOk result (self.new ≡ []) }
-        ensures ok { OnOk result (Appends (W.contents out.old) (W.contents out.new) self.old) }
-        ensures err { OnErr result
-            (AppendsPart (W.contents out.old) (W.contents out.new) self.old) }
         ensures same { OnOk result (IsNoWorse watch.old watch.new) }
         ensures gave_up { IfErr result
             (λ f. (f ≡ ScriptFault.Write) × (watch.new.writer_failed ≡ true)) }
     {
-        match self.blocks.end(out) {
-            Ok(()) => Ok(()),
-            Err(_) => {
-                watch.writer_failed = true;
-                Err(ScriptFault::Write)
-            }
-        }
+        put_bytes(&mut self.blocks, out, watch, screen)
     }
 
     /// Writes what waits, and flushes the writer.
@@ -90,7 +66,7 @@ impl Held {
         ensures gave_up { IfErr result
             (λ f. (f ≡ ScriptFault.Write) × (watch.new.writer_failed ≡ true)) }
     {
-        self.write(out, watch)?;
+        write_blocks(&mut self.blocks, out, watch)?;
         flush(out, watch)
     }
 }

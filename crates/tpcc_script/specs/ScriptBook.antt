@@ -14,7 +14,7 @@ use Rattle.tpcc_script.specs.declared.call.Call.{Call}
 use Rattle.tpcc_script.specs.declared.call.Call.TheVariants.{Ask, Check, Results}
 
 -- the opening, the state and the journal that led from the one to the other
-pub record Book : Type 0 where
+pub record ScriptBook : Type 0 where
   pub opening : Opening
   pub state : State
   pub journal : List Entry
@@ -24,11 +24,11 @@ abbrev pub terminal : ℕ
 terminal = 1
 
 -- why a request is refused, want of memory aside: the purse has made each entry of its terminal
-abbrev pub request_refusal : Book → Request → Option Refusal
+abbrev pub request_refusal : ScriptBook → Request → Option Refusal
 request_refusal b request = turn_refusal b.state b.journal terminal (count_of terminal b.journal) request
 
 -- the book after a request that is not refused: one transaction and one entry
-abbrev pub book_with_entry : Book → Request → Book
+abbrev pub book_with_entry : ScriptBook → Request → ScriptBook
 book_with_entry b request = record {
   opening = b.opening;
   state = state_after b.state request;
@@ -36,38 +36,38 @@ book_with_entry b request = record {
 }
 
 -- the same of a call; a check and the results are never refused
-abbrev pub call_refusal : Book → Call → Option Refusal
+abbrev pub call_refusal : ScriptBook → Call → Option Refusal
 call_refusal b (Ask request) = request_refusal b request
 call_refusal b Check = None
 call_refusal b Results = None
 
 -- a request's screen and the book after it
-abbrev pub screen_by : Book → Request → Option Refusal → List ℕ
+abbrev pub screen_by : ScriptBook → Request → Option Refusal → List ℕ
 screen_by b request None = reply_screen (reply_to b.state request)
 screen_by b request (Some r) = refused_screen r
 
-abbrev pub book_by : Book → Request → Option Refusal → Book
+abbrev pub book_by : ScriptBook → Request → Option Refusal → ScriptBook
 book_by b request None = book_with_entry b request
 book_by b request (Some r) = b
 
 -- a call's screen at a book
-unfoldable pub screen_of : Book → Call → List ℕ
+unfoldable pub screen_of : ScriptBook → Call → List ℕ
 screen_of b (Ask request) = screen_by b request (request_refusal b request)
 screen_of b Check = check_screen (first_broken b.state.rows)
 screen_of b Results = results_screen (results_of b.journal)
 
 -- the book after a call
-unfoldable pub book_after : Book → Call → Book
+unfoldable pub book_after : ScriptBook → Call → ScriptBook
 book_after b (Ask request) = book_by b request (request_refusal b request)
 book_after b Check = b
 book_after b Results = b
 
 -- the screens of calls, each at the book that those before it left
-abbrev pub screens_of : Book → List Call → List ℕ
+abbrev pub screens_of : ScriptBook → List Call → List ℕ
 screens_of b [] = []
 screens_of b (call ∷ calls) = screen_of b call ++ screens_of (book_after b call) calls
 
 -- and the book that they leave
-abbrev pub books_after : Book → List Call → Book
+abbrev pub books_after : ScriptBook → List Call → ScriptBook
 books_after b [] = b
 books_after b (call ∷ calls) = books_after (book_after b call) calls
