@@ -1,7 +1,6 @@
 mod WorkedScripts
 pub mod Turns
 pub mod Runs
-pub mod Plainly
 pub mod Lines
 pub mod Parting
 pub mod Ordering

@@ -8,16 +8,12 @@ use Rattle.std.proofs.lemmas.Bool.{lt-ltb, le-ltb}
 use Rattle.std.specs.Prelude.{Ok}
 use Rattle.tpcc_script.specs.declared.reader.TheConstants.{LONGEST_LINE, MOST_LINES}
 use Rattle.tpcc_script.specs.declared.call.Call.{Call}
-use Rattle.tpcc_script.specs.declared.fault.ScriptFault.{ScriptFault}
-use Rattle.tpcc_script.specs.declared.fault.ScriptFault.TheVariants.{Bad, Cut, LongLine, TooManyLines, Read, Write, NoMemory}
+use Rattle.tpcc_script.specs.declared.fault.ScriptFault.TheVariants.{Bad, Cut, LongLine, TooManyLines, Write, NoMemory}
 use Rattle.tpcc_script.specs.ScriptBook.{ScriptBook}
 use Rattle.tpcc_script.specs.Run.{Shows, HasServed}
 use Rattle.tpcc_script.specs.Script.{parts_of, with_byte, lines_say, rest_says, then_says, call_of, ends, fails}
-use Rattle.tpcc_script.specs.Steps.{says, IsLine, IsRead, IsFaultOf, IsLineServed, IsLineUnshown, IsLineWaiting, IsAnswered, IsStopped, IsEnd, IsFault}
-use Rattle.tpcc_script.specs.Attempts.{HasGivenUp, IsNoWorse}
-use Rattle.tpcc_audit.specs.Part.{AppendsPart, PassesBytes}
-use Rattle.std.specs.Io.KnownBytes.{Appends}
-use Rattle.tpcc_audit.proofs.Parts.{part_of_more}
+use Rattle.tpcc_script.specs.Steps.{says, IsLine, IsRead, IsLineServed, IsAnswered, IsStopped, IsFault}
+use Rattle.tpcc_audit.specs.Part.{AppendsPart}
 
 -- bytes put before the first part
 abbrev pub onto_all : List ℕ → List (List ℕ) → List (List ℕ)
