@@ -72,7 +72,7 @@ fn push_turn<R: Abort>(rt: &R, events: &mut Vec<Event>, server: u32, terminal: u
 }
 
 /// Terminal 1 posts its payment before terminal 2 posts its query, which is served first; the second take isn't ready.
-fn overtaking<R: Abort>(rt: &R, alloc: Global) -> Vec<Event> {
+fn overtake_events<R: Abort>(rt: &R, alloc: Global) -> Vec<Event> {
     let mut events = Vec::new(alloc);
     push_payment(rt, &mut events, 1);
     push(
@@ -93,7 +93,7 @@ fn overtaking<R: Abort>(rt: &R, alloc: Global) -> Vec<Event> {
 
 /// Server 1 takes the letter of terminal 1 and keeps it, while server 2, which can't take it too, serves terminal 2 five
 /// times.
-fn a_letter_kept<R: Abort>(rt: &R, alloc: Global) -> Vec<Event> {
+fn kept_letter_events<R: Abort>(rt: &R, alloc: Global) -> Vec<Event> {
     let mut events = Vec::new(alloc);
     push_payment(rt, &mut events, 1);
     push_take(rt, &mut events, 1, 1);
@@ -146,7 +146,7 @@ fn the_later_post_is_served_first(rt: HostRuntime) {
 }
 
 fn overtake<N: Naming, R: Abort>(rt: &R, alloc: Global, desk: &mut Desk<N>) {
-    step_all(rt, desk, overtaking(rt, alloc), 3);
+    step_all(rt, desk, overtake_events(rt, alloc), 3);
     let query = (2, Some(Cents::new(-1_000)));
     let paid = (1, Some(Cents::new(-1_100)));
     assert!(rt; [entry_at(desk, 0), entry_at(desk, 1)] == [Some(query), Some(paid)]);
@@ -162,7 +162,7 @@ fn a_kept_letter_stops_nobody_else(rt: HostRuntime) {
 }
 
 fn kept_letter<N: Naming, R: Abort>(rt: &R, alloc: Global, desk: &mut Desk<N>) {
-    assert!(rt; desk.run(a_letter_kept(rt, alloc)).is_ok());
+    assert!(rt; desk.run(kept_letter_events(rt, alloc)).is_ok());
     assert!(rt; desk.book().journal().len() == 5);
     let served = (Some((5, Cents::new(500))), 5);
     assert!(rt; [at_terminal(desk, 1), at_terminal(desk, 2)] == [(None, 0), served]);
