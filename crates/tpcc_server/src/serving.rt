@@ -1,8 +1,9 @@
 //! What a server does with its mailboxes.
-ghost use Rattle.std.specs.Prelude.{◌≡◌, ℕ, ◌+◌, ◌<◌, ◌≤◌, List, ◌++◌, length, true, None};
-ghost use Rattle.tpcc_mailbox.specs.Tokens.{identity, mailbox_count, serving_origin, serving_hand, serving_splits, serving_answered, serving_saw_closed};
+ghost use Rattle.std.specs.Prelude.{◌≡◌, ◌+◌, ◌<◌, ◌≤◌, true, None};
+ghost use Rattle.tpcc_mailbox.specs.Tokens.{identity, mailbox_count, serving_origin, serving_hand, serving_answered, serving_saw_closed};
 ghost use Rattle.tpcc_book.specs.Seats.{keeper_of};
-ghost use Rattle.tpcc_server.specs.Rounds.{IsRising, HasAnsweredInTurn};
+ghost use Rattle.tpcc_server.specs.Rounds.{HasAnswered, HasAnsweredInTurn};
+ghost use Rattle.tpcc_server.specs.Servings.{HasServed};
 ghost use Rattle.tpcc_server.specs.TurnStates.{keeper_in};
 
 use crate::errand::Errand;
@@ -27,18 +28,13 @@ pub fn serve_round<N: Naming, T: Seating, C: OneTurn, G: Gate, R: Wait>(
 ) -> (u64, SeatedPurse<N, T>)
     requires origin { serving_origin serving.old ≡ identity mailboxes.now }
     requires free { serving_hand serving.old ≡ None }
-    ensures origin { serving_origin serving.new ≡ serving_origin serving.old }
-    // Each job that was taken was answered.
-    ensures free { serving_hand serving.new ≡ None }
+    ensures kept { HasServed serving.old serving.new }
     ensures closed { serving_saw_closed serving.new ≡ serving_saw_closed serving.old }
-    ensures splits { serving_splits serving.new ≡ serving_splits serving.old }
     ensures served { result.0 ≤ mailbox_count mailboxes.now }
     ensures keeper { keeper_of result.1 ≡ keeper_of keeper }
     // The number is that of the jobs answered, at most one a mailbox.
-    ensures answered { (ks : List ℕ)
-        × (serving_answered serving.new ≡ serving_answered serving.old ++ ks)
-        × (length ks ≡ result.0)
-        × IsRising 0 ks (mailbox_count mailboxes.now) }
+    ensures answered { HasAnsweredInTurn (serving_answered serving.old)
+        (serving_answered serving.new) result.0 (mailbox_count mailboxes.now) }
 {
     let state = TurnState::Free(keeper);
     let (served, state) = serve_some(rt, mailboxes, serving, turns, gate, u64::MAX, state);
@@ -63,7 +59,7 @@ fn pass_before<N: Naming, T: Seating, G: Gate>(
     state
 }
 
-// The same behind a job. Where somebody else waits for the turn it is given up too.
+// Passes the gate behind a job. The turn is given up at one that may hold the server up, and where somebody else waits.
 fn pass_after<N: Naming, T: Seating, G: Gate>(
     turns: &Turns<N, T>,
     gate: &mut G,
@@ -93,10 +89,8 @@ fn serve_some<N: Naming, T: Seating, C: OneTurn, G: Gate, R: Wait>(
 ) -> (u64, TurnState<N, T>)
     requires origin { serving_origin serving.old ≡ identity mailboxes.now }
     requires free { serving_hand serving.old ≡ None }
-    ensures origin { serving_origin serving.new ≡ serving_origin serving.old }
-    ensures free { serving_hand serving.new ≡ None }
+    ensures kept { HasServed serving.old serving.new }
     ensures closed { serving_saw_closed serving.new ≡ serving_saw_closed serving.old }
-    ensures splits { serving_splits serving.new ≡ serving_splits serving.old }
     ensures served { result.0 ≤ mailbox_count mailboxes.now }
     ensures most { result.0 ≤ most }
     ensures keeper { keeper_in result.1 ≡ keeper_in state }
@@ -136,15 +130,11 @@ pub fn serve_until_closed<N: Naming, T: Seating, C: OneTurn, G: Gate, R: Wait>(
 ) -> (JobServing<N, T, C>, G, u64, SeatedPurse<N, T>)
     requires origin { serving_origin serving ≡ identity mailboxes.now }
     requires free { serving_hand serving ≡ None }
-    ensures origin { serving_origin result.0 ≡ identity mailboxes.now }
-    ensures free { serving_hand result.0 ≡ None }
-    ensures splits { serving_splits result.0 ≡ serving_splits serving }
+    ensures kept { HasServed serving result.0 }
     ensures limit { result.2 ≤ limit }
     ensures keeper { keeper_of result.3 ≡ keeper_of keeper }
     // The number is that of the jobs answered.
-    ensures answered { (ks : List ℕ)
-        × (serving_answered result.0 ≡ serving_answered serving ++ ks)
-        × (length ks ≡ result.2) }
+    ensures answered { HasAnswered (serving_answered serving) (serving_answered result.0) result.2 }
     // Fewer only where it saw the mailboxes closed.
     ensures fewer { result.2 < limit → serving_saw_closed result.0 ≡ true }
 {
