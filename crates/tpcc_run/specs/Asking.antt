@@ -9,8 +9,8 @@ use Rattle.tpcc_rows.specs.Layout.{Scale}
 use Rattle.tpcc_terminal.specs.Terminals.{Station, IsAsked, IsStarted}
 use Rattle.tpcc_run.specs.declared.promises.Back.{Back}
 use Rattle.tpcc_run.specs.declared.promises.ComesBack.{ComesBack}
-use Rattle.tpcc_run.specs.declared.role.Role.{Role}
-use Rattle.tpcc_run.specs.declared.role.Role.TheVariants.{Cards, Deliveries, Rest}
+use Rattle.tpcc_run.specs.declared.duty.Duty.{Duty}
+use Rattle.tpcc_run.specs.declared.duty.Duty.TheVariants.{Cards, Deliveries, Rest}
 
 -- a terminal between two requests: its purse, and what it is seen as
 pub record Post : Type 0 where
@@ -25,43 +25,43 @@ pub record HasAnswered (request : Request) (old new : Post) : Type 0 where
   pub noted : new.station ≡ record old.station { receipts = old.station.receipts ++ receipts_of (λ p. p.purse) answer }
 
 -- the request of the next card, or that for the next district's delivery (2.7.2), and the terminal behind it
-abbrev pub IsNext : Role → ℕ → Station → Request → Station → Type 0
+abbrev pub IsNext : Duty → ℕ → Station → Request → Station → Type 0
 IsNext Cards moment old request new = IsAsked old moment request new
 IsNext Deliveries moment old request new = (request ≡ requests.Deliver moment) × (new ≡ old)
 IsNext Rest moment old request new = (request ≡ requests.Deliver moment) × (new ≡ old)
 
 -- the next request was answered
-pub record HasAskedNext (role : Role) (moment : ℕ) (old new : Post) : Type 0 where
+pub record HasAskedNext (duty : Duty) (moment : ℕ) (old new : Post) : Type 0 where
   pub request : Request
   pub ahead : Station
-  pub next : IsNext role moment old.station request ahead
+  pub next : IsNext duty moment old.station request ahead
   pub answered : HasAnswered request (record { purse = old.purse; station = ahead }) new
 
--- a role that asks all of its requests, whatever is answered
-abbrev pub IsEndless : Role → Type 0
+-- a duty that asks all of its requests, whatever is answered
+abbrev pub IsEndless : Duty → Type 0
 IsEndless Cards = ⊤
 IsEndless Deliveries = ⊤
 IsEndless Rest = ⊥
 
 -- so many of them, one after another
-abbrev pub HasAsked : ℕ → Role → ℕ → Post → Post → Type 0
-HasAsked zero role moment old new = new ≡ old
-HasAsked (suc count) role moment old new = (mid : Post) × HasAsked count role moment old mid × HasAskedNext role moment mid new
+abbrev pub HasAsked : ℕ → Duty → ℕ → Post → Post → Type 0
+HasAsked zero duty moment old new = new ≡ old
+HasAsked (suc count) duty moment old new = (mid : Post) × HasAsked count duty moment old mid × HasAskedNext duty moment mid new
 
--- all that a role asks of so many requests: the rest ends with the first that is no district's delivery
-abbrev pub HasAskedAll : Role → ℕ → ℕ → Post → Post → Type 0
+-- all that a duty asks of so many requests: the rest ends with the first that is no district's delivery
+abbrev pub HasAskedAll : Duty → ℕ → ℕ → Post → Post → Type 0
 HasAskedAll Cards count moment old new = HasAsked count Cards moment old new
 HasAskedAll Deliveries count moment old new = HasAsked count Deliveries moment old new
 HasAskedAll Rest count moment old new = (asked : ℕ) × HasAsked asked Rest moment old new
 
--- a terminal of this scale and seed has asked all that its role asks
-pub record HasWorked (role : Role) (scale : Scale) (seed moment count : ℕ) (now : Post) : Type 0 where
+-- a terminal of this scale and seed has asked all that its duty asks
+pub record HasWorked (duty : Duty) (scale : Scale) (seed moment count : ℕ) (now : Post) : Type 0 where
   pub begun : Post
   pub started : IsStarted begun.purse.purse.terminal scale seed begun.station
-  pub asked : HasAskedAll role count moment begun now
+  pub asked : HasAskedAll duty count moment begun now
 
 -- what a thread gives back: receipts that stand in its purse's front, and, where nothing stopped it, a terminal that has worked
 pub record HasComeBack {N T C : Type 0} (promise : ComesBack) (back : Back N T C) : Type 0 where
   pub receipts : IfSome back.operator (λ s. AllStand s.purse.front s.terminal.receipts)
   pub there : back.fault ≡ None → IsSome back.operator
-  pub worked : back.fault ≡ None → IfSome back.operator (λ s. HasWorked promise.role promise.scale promise.seed promise.moment promise.cards (record { purse = s.purse; station = s.terminal }))
+  pub worked : back.fault ≡ None → IfSome back.operator (λ s. HasWorked promise.duty promise.scale promise.seed promise.moment promise.cards (record { purse = s.purse; station = s.terminal }))

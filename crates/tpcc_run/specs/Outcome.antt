@@ -1,9 +1,10 @@
 -- What a run is made of, and what it comes to.
-use Rattle.std.specs.Prelude.{ℕ, ⊤, ◌≡◌, ◌⊎◌, ◌≤◌, List, ◌++◌, Option, length}
+use Rattle.std.specs.Prelude.{ℕ, ⊤, ◌≡◌, ◌⊎◌, ◌≤◌, List, [], ◌∷◌, ◌++◌, Option, Some, None, length}
 use Rattle.std.specs.Io.KnownBytes.{Appends, Keeps}
 use Rattle.tpcc_population.specs.declared.opening.Opening.{Opening}
 use Rattle.tpcc_book.specs.Past.{Past, IsKept, rise_of}
 use Rattle.tpcc_book.specs.Purses.{PurseView, all_parts}
+use Rattle.tpcc_book.specs.Seats.{SeatedView}
 use Rattle.tpcc_book.specs.Serve.{rooms_of, entries_of, paid_of}
 use Rattle.tpcc_terminal.specs.declared.receipts.Receipt.{Receipt}
 use Rattle.tpcc_terminal.specs.declared.report.Report.{Report}
@@ -11,21 +12,23 @@ use Rattle.tpcc_terminal.specs.Report.{report_text}
 use Rattle.tpcc_audit.specs.Part.{AppendsPart}
 use Rattle.tpcc_show.specs.declared.parts.Part.{Part}
 use Rattle.tpcc_show.specs.Shown.{shown_text}
+use Rattle.tpcc_run.specs.declared.operator.Operator.{Operator}
 use Rattle.tpcc_run.specs.declared.plan.Plan.{Plan}
 use Rattle.tpcc_run.specs.declared.plan.Service.{Service}
 use Rattle.tpcc_run.specs.declared.plan.Service.TheVariants.{Servers, Direct}
+use Rattle.tpcc_run.specs.declared.plan.TheConstants.{GREATEST_RETIRE, MOST_CARDS, MOST_SERVERS, MOST_TERMINALS}
 
 -- the ranges of what serves
 abbrev pub IsService : Service → Type 0
-IsService (Servers count retire) = (1 ≤ count) × (count ≤ 16) × (retire ≤ 100000)
+IsService (Servers count retire) = (1 ≤ count) × (count ≤ MOST_SERVERS) × (retire ≤ GREATEST_RETIRE)
 IsService Direct = ⊤
 
 -- the ranges of a plan
 pub record IsPlan (plan : Plan) : Type 0 where
   pub terminals_least : 1 ≤ plan.terminals
-  pub terminals_most : plan.terminals ≤ 999
+  pub terminals_most : plan.terminals ≤ MOST_TERMINALS
   pub service : IsService plan.service
-  pub cards_most : plan.cards ≤ 100000
+  pub cards_most : plan.cards ≤ MOST_CARDS
 
 -- a kept book of the opening with its totals, and its purses, which are all there: the entries that they made are the book's, and what
 -- they paid is the rise of W_YTD
@@ -66,3 +69,8 @@ HasShownPart opening parts before after = HasCut opening parts before after ⊎ 
 -- more receipts were added, or none
 abbrev pub KeepsSome : List Receipt → List Receipt → List Receipt → Type 0
 KeepsSome before more now = (now ≡ before ++ more) ⊎ (now ≡ before)
+
+-- a terminal that came back is kept whole: its purse is the last, and its receipts are behind the others; where none came back all is as it was
+abbrev pub HasKeptBack : {N T C : Type 0} → Option (Operator N T C) → List SeatedView → List Receipt → List SeatedView → List Receipt → Type 0
+HasKeptBack (Some s) purses receipts new_purses new_receipts = (new_purses ≡ purses ++ s.purse ∷ []) × (new_receipts ≡ receipts ++ s.terminal.receipts)
+HasKeptBack None purses receipts new_purses new_receipts = (new_purses ≡ purses) × (new_receipts ≡ receipts)

@@ -4,9 +4,9 @@ ghost use Rattle.tpcc_terminal.specs.Receipts.{AllStand};
 ghost use Rattle.tpcc_audit.specs.Settlement.{AllSeen};
 
 use crate::context::RunContext;
+use crate::duty::Duty;
 use crate::promises::{Back, TerminalHandle};
 use crate::results::ThreadResults;
-use crate::role::Role;
 use crate::route::Route;
 use crate::terminal_threads::join_terminal;
 use std::alloc::{AllocError, Global};
@@ -39,7 +39,7 @@ impl<
         let Some(route) = route else {
             return None;
         };
-        self.start_terminal(scope, route, purse, Role::Deliveries)
+        self.start_terminal(scope, route, purse, Duty::Deliveries)
     }
 
     /// Joins the delivery runner, which then asks for what is still queued.
@@ -65,7 +65,7 @@ impl<
     {
         let Back { operator, fault } = back;
         match operator {
-            Some(operator) if fault.is_none() => self.ask_all(operator, Role::Rest, u32::MAX),
+            Some(operator) if fault.is_none() => self.ask_all(operator, Duty::Rest, u32::MAX),
             other => Back {
                 operator: other,
                 fault,

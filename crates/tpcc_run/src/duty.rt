@@ -5,7 +5,7 @@ ghost use Rattle.tpcc_run.specs.Asking.{HasAskedAll, HasAskedNext, IsEndless, Is
 
 use crate::context::RunContext;
 use crate::fault::RunFault;
-use crate::operator::{Asked, Operator, ask_nothing, ask_once};
+use crate::operator::{AskedOnce, Operator, ask_nothing, ask_once};
 use crate::promises::Back;
 use std::alloc::{AllocError, Global};
 use std::sync::Wait;
@@ -17,16 +17,16 @@ use tpcc_terminal::Terminal;
 
 /// What a terminal asks.
 #[derive(Clone, Copy)]
-pub(crate) enum Role {
+pub(crate) enum Duty {
     /// The requests of its cards.
     Cards,
     /// The next district's delivery, each time.
     Deliveries,
-    /// The same, until none is queued or one is refused (2.7.2).
+    /// The next district's delivery, until none is queued or one is refused (2.7.2).
     Rest,
 }
 
-impl Role {
+impl Duty {
     // Whether more is asked behind an answer.
     fn goes_on(self, fault: Option<RunFault>, delivered: bool) -> bool
         ensures on { result ≡ true → fault ≡ None }
@@ -36,20 +36,19 @@ impl Role {
             return false;
         }
         match self {
-            Role::Cards | Role::Deliveries => true,
-            Role::Rest => delivered,
+            Duty::Cards | Duty::Deliveries => true,
+            Duty::Rest => delivered,
         }
     }
 }
 
-// The next request.
-fn next_request(role: Role, terminal: &mut Terminal, moment: Moment) -> Result<Request, NoMemory>
+fn next_request(duty: Duty, terminal: &mut Terminal, moment: Moment) -> Result<Request, NoMemory>
     ensures receipts { terminal.new.receipts ≡ terminal.old.receipts }
-    ensures next { IfOk result (λ request. IsNext role moment terminal.old request terminal.new) }
+    ensures next { IfOk result (λ request. IsNext duty moment terminal.old request terminal.new) }
 {
-    match role {
-        Role::Cards => terminal.next(moment),
-        Role::Deliveries | Role::Rest => Ok(Request::Deliver(moment)),
+    match duty {
+        Duty::Cards => terminal.next(moment),
+        Duty::Deliveries | Duty::Rest => Ok(Request::Deliver(moment)),
     }
 }
 
@@ -65,15 +64,15 @@ impl<
     pub(crate) fn ask_next<'s>(
         &self,
         operator: Operator<'s, N, T, C>,
-        role: Role,
-    ) -> Asked<'s, N, T, C>
+        duty: Duty,
+    ) -> AskedOnce<'s, N, T, C>
         requires receipts { AllStand operator.purse.front operator.terminal.receipts }
         requires make { F.IsAlwaysCallable self.now.make.now }
         ensures receipts { IfSome result.operator
             (λ s. AllStand s.purse.front s.terminal.receipts) }
         ensures back { result.fault ≡ None → IsSome result.operator }
         ensures asked { result.fault ≡ None → IfSome result.operator (λ s.
-            HasAskedNext role self.now.plan.moment
+            HasAskedNext duty self.now.plan.moment
             (record { purse = operator.entry.purse; station = operator.entry.terminal })
             (record { purse = s.purse; station = s.terminal })) }
     {
@@ -81,18 +80,18 @@ impl<
         let Ok(call) = (self.make)(self.alloc) else {
             return ask_nothing(operator);
         };
-        let Ok(request) = next_request(role, &mut operator.terminal, self.plan.moment) else {
+        let Ok(request) = next_request(duty, &mut operator.terminal, self.plan.moment) else {
             return ask_nothing(operator);
         };
         ask_once(self.rt, operator, request, call)
     }
 
-    /// Asks so many requests, each by a call of its own, or up to the role's end. It stops where memory is refused,
+    /// Asks so many requests, each by a call of its own, or up to the duty's end. It stops where memory is refused,
     /// and where its job is still out when nobody serves any more.
     pub(crate) fn ask_all<'s>(
         &self,
         operator: Operator<'s, N, T, C>,
-        role: Role,
+        duty: Duty,
         most: u32,
     ) -> Back<'s, N, T, C>
         requires receipts { AllStand operator.purse.front operator.terminal.receipts }
@@ -101,14 +100,14 @@ impl<
             (λ s. AllStand s.purse.front s.terminal.receipts) }
         ensures back { result.fault ≡ None → IsSome result.operator }
         ensures asked { result.fault ≡ None → IfSome result.operator (λ s.
-            HasAskedAll role most self.now.plan.moment
+            HasAskedAll duty most self.now.plan.moment
             (record { purse = operator.entry.purse; station = operator.entry.terminal })
             (record { purse = s.purse; station = s.terminal })) }
     {
         let mut operator = operator;
         for _ in 0..most {
-            let asked = self.ask_next(operator, role);
-            match next_operator(role, asked) {
+            let asked = self.ask_next(operator, duty);
+            match next_operator(duty, asked) {
                 Ok(next) => operator = next,
                 Err(back) => return back,
             }
@@ -122,22 +121,22 @@ impl<
 
 // Who asks the next request; else what the thread gives back.
 fn next_operator<'s, N: Naming, T: Seating, C>(
-    role: Role,
-    asked: Asked<'s, N, T, C>,
+    duty: Duty,
+    asked: AskedOnce<'s, N, T, C>,
 ) -> Result<Operator<'s, N, T, C>, Back<'s, N, T, C>>
     requires back { asked.fault ≡ None → IsSome asked.operator }
     ensures next { IfOk result (λ s. asked.entry.operator ≡ Some s) }
     ensures unharmed { IfOk result (λ s. asked.entry.fault ≡ None) }
     ensures back { IfErr result (λ b. b.operator ≡ asked.entry.operator) }
     ensures fault { IfErr result (λ b. b.fault ≡ asked.entry.fault) }
-    ensures ends { IfErr result (λ b. IsEndless role → IsSome b.fault) }
+    ensures ends { IfErr result (λ b. IsEndless duty → IsSome b.fault) }
 {
-    let Asked {
+    let AskedOnce {
         operator,
         delivered,
         fault,
     } = asked;
-    let goes_on = role.goes_on(fault, delivered);
+    let goes_on = duty.goes_on(fault, delivered);
     match operator {
         Some(next) if goes_on => Ok(next),
         operator => Err(Back { operator, fault }),

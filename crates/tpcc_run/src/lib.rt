@@ -10,18 +10,18 @@
 //! ```
 //!
 //! The files by the way of a run: `runs` makes the book, `threads` starts and joins all, `server_threads`,
-//! `terminal_threads` and `delivery_runner` one kind each; `role` says what a terminal asks next, `operator` asks it,
+//! `terminal_threads` and `delivery_runner` one kind each; `duty` says what a terminal asks next, `operator` asks it,
 //! `route` brings it to the book; `results` gathers what came back, and `settled_book` ends.
 #![tactic(auto)]
 
 mod context;
 mod delivery_runner;
+mod duty;
 mod fault;
 mod operator;
 mod plan;
 mod promises;
 mod results;
-mod role;
 mod route;
 mod runs;
 mod server_threads;
@@ -30,5 +30,7 @@ mod terminal_threads;
 mod threads;
 
 pub use fault::RunFault;
-pub use plan::{Plan, Service};
+pub use plan::{
+    GREATEST_RETIRE, GREATEST_TERMINAL, MOST_CARDS, MOST_SERVERS, MOST_TERMINALS, Plan, Service,
+};
 pub use runs::{run, run_shown};

@@ -26,7 +26,7 @@ pub(crate) struct Operator<'s, N: Naming, T: Seating, C> {
 
 /// What became of a request.
 #[derive(Drop)]
-pub(crate) struct Asked<'s, N: Naming, T: Seating, C> {
+pub(crate) struct AskedOnce<'s, N: Naming, T: Seating, C> {
     /// The terminal, unless its job was still out when nobody served any more.
     pub operator: Option<Operator<'s, N, T, C>>,
     /// Whether a district was delivered or passed over.
@@ -41,7 +41,7 @@ pub(crate) fn ask_once<'s, N: Naming, T: Seating, C: OneTurn, R: Wait>(
     operator: Operator<'s, N, T, C>,
     request: Request,
     call: C,
-) -> Asked<'s, N, T, C>
+) -> AskedOnce<'s, N, T, C>
     requires receipts { AllStand operator.purse.front operator.terminal.receipts }
     ensures receipts { IfSome result.operator (λ s. AllStand s.purse.front s.terminal.receipts) }
     ensures back { result.fault ≡ None → IsSome result.operator }
@@ -56,7 +56,7 @@ pub(crate) fn ask_once<'s, N: Naming, T: Seating, C: OneTurn, R: Wait>(
     } = operator;
     let mut terminal = terminal;
     let Some((route, answer)) = route.ask(rt, request, purse, call) else {
-        return Asked {
+        return AskedOnce {
             operator: None,
             delivered: false,
             fault: Some(RunFault::Missing),
@@ -66,7 +66,7 @@ pub(crate) fn ask_once<'s, N: Naming, T: Seating, C: OneTurn, R: Wait>(
     let fault = note(&mut terminal, &answer);
     let delivered = is_delivered(&answer);
     let purse = purse_of(answer);
-    Asked {
+    AskedOnce {
         operator: Some(Operator {
             route,
             purse,
@@ -80,12 +80,12 @@ pub(crate) fn ask_once<'s, N: Naming, T: Seating, C: OneTurn, R: Wait>(
 /// Asks nothing, since memory was refused.
 pub(crate) fn ask_nothing<'s, N: Naming, T: Seating, C>(
     operator: Operator<'s, N, T, C>,
-) -> Asked<'s, N, T, C>
+) -> AskedOnce<'s, N, T, C>
     requires receipts { AllStand operator.purse.front operator.terminal.receipts }
     ensures receipts { IfSome result.operator (λ s. AllStand s.purse.front s.terminal.receipts) }
     ensures fault { IsSome result.fault }
 {
-    Asked {
+    AskedOnce {
         operator: Some(operator),
         delivered: false,
         fault: Some(RunFault::NoMemory),

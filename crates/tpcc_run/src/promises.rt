@@ -1,9 +1,9 @@
 //! What a terminal's thread promises of what it gives back.
 ghost use Rattle.tpcc_run.specs.Asking.{HasComeBack};
 
+use crate::duty::Duty;
 use crate::fault::RunFault;
 use crate::operator::Operator;
-use crate::role::Role;
 use std::thread::{Promise, PromisedHandle};
 use tpcc_book::{Naming, Seating};
 use tpcc_money::Moment;
@@ -19,11 +19,11 @@ pub(crate) struct Back<'s, N: Naming, T: Seating, C> {
 }
 
 /// The receipts of the terminal that comes back stand in its purse's front. Where nothing stopped it, it was one of
-/// this scale and seed, and has asked all that its role asks of so many cards, each by one turn of the book.
+/// this scale and seed, and has asked all that its duty asks of so many cards, each by one turn of the book.
 #[derive(Clone, Copy)]
 pub(crate) struct ComesBack {
     /// Whether it asks its cards or deliveries.
-    pub role: Role,
+    pub duty: Duty,
     /// The scale of the run's opening.
     pub scale: Scale,
     /// The seed of its draws.

@@ -1,7 +1,8 @@
 //! What the threads of a run give back.
-ghost use Rattle.std.specs.Prelude.{◌≡◌, [], IfSome};
+ghost use Rattle.std.specs.Prelude.{◌≡◌, ◌∷◌, ◌++◌, [], IfSome, IsSome, None, true};
 ghost use Rattle.tpcc_terminal.specs.Receipts.{AllStand};
 ghost use Rattle.tpcc_audit.specs.Settlement.{AllSeen};
+ghost use Rattle.tpcc_run.specs.Outcome.{HasKeptBack};
 
 use crate::fault::RunFault;
 use crate::operator::Operator;
@@ -22,6 +23,7 @@ pub(crate) struct ThreadResults<N: Naming, T: Seating> {
 }
 
 impl<N: Naming, T: Seating> ThreadResults<N, T> {
+    /// Nothing came back yet.
     pub(crate) fn new(alloc: Global) -> ThreadResults<N, T>
         ensures receipts { result.receipts.items ≡ [] }
     {
@@ -32,7 +34,7 @@ impl<N: Naming, T: Seating> ThreadResults<N, T> {
         }
     }
 
-    // Of a run whose first growth was refused.
+    /// What comes of a run whose first growth was refused.
     pub(crate) fn without_memory(alloc: Global) -> ThreadResults<N, T>
         ensures receipts { result.receipts.items ≡ [] }
     {
@@ -43,21 +45,29 @@ impl<N: Naming, T: Seating> ThreadResults<N, T> {
         }
     }
 
-    // Want of memory comes before a purse that is missing.
+    /// Notes a fault; want of memory comes before a purse that is missing.
     pub(crate) fn note(&mut self, fault: RunFault)
         requires seen { AllSeen self.old.purses.items self.old.receipts.items }
         ensures seen { AllSeen self.new.purses.items self.new.receipts.items }
+        ensures noted { IsSome self.new.fault }
+        ensures purses { self.new.purses ≡ self.old.purses }
+        ensures receipts { self.new.receipts ≡ self.old.receipts }
     {
         if self.fault != Some(RunFault::NoMemory) {
             self.fault = Some(fault);
         }
     }
 
-    // What a terminal's thread gave back.
+    /// Keeps what a terminal's thread gave back.
     pub(crate) fn take_in<C>(&mut self, back: Back<'_, N, T, C>)
         requires receipts { IfSome back.operator (λ s. AllStand s.purse.front s.terminal.receipts) }
         requires seen { AllSeen self.old.purses.items self.old.receipts.items }
         ensures seen { AllSeen self.new.purses.items self.new.receipts.items }
+        ensures kept { self.new.fault ≡ None → HasKeptBack back.entry.operator
+            self.old.purses.items self.old.receipts.items
+            self.new.purses.items self.new.receipts.items }
+        ensures noted { self.new.fault ≡ None → back.entry.fault ≡ None }
+        ensures before { self.new.fault ≡ None → self.old.fault ≡ None }
     {
         let Back { operator, fault } = back;
         self.note_any(fault);
@@ -67,6 +77,10 @@ impl<N: Naming, T: Seating> ThreadResults<N, T> {
     fn note_any(&mut self, fault: Option<RunFault>)
         requires seen { AllSeen self.old.purses.items self.old.receipts.items }
         ensures seen { AllSeen self.new.purses.items self.new.receipts.items }
+        ensures noted { self.new.fault ≡ None → fault ≡ None }
+        ensures before { self.new.fault ≡ None → self.old.fault ≡ None }
+        ensures purses { self.new.purses ≡ self.old.purses }
+        ensures receipts { self.new.receipts ≡ self.old.receipts }
     {
         if let Some(fault) = fault {
             self.note(fault);
@@ -77,6 +91,10 @@ impl<N: Naming, T: Seating> ThreadResults<N, T> {
         requires receipts { IfSome operator (λ s. AllStand s.purse.front s.terminal.receipts) }
         requires seen { AllSeen self.old.purses.items self.old.receipts.items }
         ensures seen { AllSeen self.new.purses.items self.new.receipts.items }
+        ensures kept { self.new.fault ≡ None → HasKeptBack operator.entry
+            self.old.purses.items self.old.receipts.items
+            self.new.purses.items self.new.receipts.items }
+        ensures before { self.new.fault ≡ None → self.old.fault ≡ None }
     {
         if let Some(operator) = operator {
             self.keep_operator(operator);
@@ -87,6 +105,11 @@ impl<N: Naming, T: Seating> ThreadResults<N, T> {
         requires receipts { AllStand operator.purse.front operator.terminal.receipts }
         requires seen { AllSeen self.old.purses.items self.old.receipts.items }
         ensures seen { AllSeen self.new.purses.items self.new.receipts.items }
+        ensures receipts { self.new.fault ≡ None → self.new.receipts.items
+            ≡ self.old.receipts.items ++ operator.entry.terminal.receipts }
+        ensures purse { self.new.fault ≡ None → self.new.purses.items
+            ≡ self.old.purses.items ++ operator.entry.purse ∷ [] }
+        ensures before { self.new.fault ≡ None → self.old.fault ≡ None }
     {
         let Operator {
             route: _,
@@ -96,11 +119,16 @@ impl<N: Naming, T: Seating> ThreadResults<N, T> {
         self.keep(purse, terminal.receipts());
     }
 
-    // A purse with its receipts. Where there is no room they are let go.
+    /// Keeps a purse with its receipts. Where there is no room it lets them go, and notes that.
     pub(crate) fn keep(&mut self, purse: SeatedPurse<N, T>, receipts: Vec<Receipt>)
         requires receipts { AllStand purse.front receipts.items }
         requires seen { AllSeen self.old.purses.items self.old.receipts.items }
         ensures seen { AllSeen self.new.purses.items self.new.receipts.items }
+        ensures receipts { self.new.fault ≡ None → self.new.receipts.items
+            ≡ self.old.receipts.items ++ receipts.items }
+        ensures purse { self.new.fault ≡ None → self.new.purses.items
+            ≡ self.old.purses.items ++ purse ∷ [] }
+        ensures before { self.new.fault ≡ None → self.old.fault ≡ None }
     {
         if !hold(&mut self.purses, &mut self.receipts, purse, receipts) {
             self.note(RunFault::NoMemory);
@@ -108,7 +136,7 @@ impl<N: Naming, T: Seating> ThreadResults<N, T> {
     }
 }
 
-// Whether there was room for all of them.
+// Adds a purse and its receipts; whether there was room for all of them.
 fn hold<N: Naming, T: Seating>(
     purses: &mut Vec<SeatedPurse<N, T>>,
     kept: &mut Vec<Receipt>,
@@ -118,6 +146,8 @@ fn hold<N: Naming, T: Seating>(
     requires receipts { AllStand purse.front receipts.items }
     requires seen { AllSeen purses.old.items kept.old.items }
     ensures seen { AllSeen purses.new.items kept.new.items }
+    ensures receipts { result ≡ true → kept.new.items ≡ kept.old.items ++ receipts.items }
+    ensures purse { result ≡ true → purses.new.items ≡ purses.old.items ++ purse ∷ [] }
 {
     if purses.reserve(1).is_err() {
         return false;

@@ -14,17 +14,17 @@ use tpcc_server::{Errand, Job, JobAnswer, JobIdle, JobMailboxes, OneTurn, ask};
 #[derive(Drop)]
 pub(crate) enum Route<'s, N: Naming, T: Seating, C> {
     /// By a job in the terminal's mailbox, which a server takes.
-    ByMailbox(Client<'s, N, T, C>),
+    ByMailbox(MailboxRoute<'s, N, T, C>),
     /// By a turn that the terminal's own thread makes.
     ByTurn(&'s Turns<N, T>),
 }
 
 /// The right to post in one mailbox.
 #[derive(Drop)]
-pub(crate) struct Client<'s, N: Naming, T: Seating, C> {
+pub(crate) struct MailboxRoute<'s, N: Naming, T: Seating, C> {
     /// The run's mailboxes.
     mailboxes: &'s JobMailboxes<N, T, C>,
-    /// The right to post into this client's.
+    /// The right to post into one of them.
     idle: JobIdle<N, T, C>,
     /// The mailbox is one of these.
     ghost origin: { idle_origin idle ≡ identity mailboxes.now },
@@ -48,26 +48,26 @@ impl<'s, N: Naming, T: Seating, C: OneTurn> Route<'s, N, T, C> {
                 let answer = job.run(turns, rt);
                 Some((Route::ByTurn(turns), answer))
             }
-            Route::ByMailbox(client) => {
-                let (client, answer) = client.ask(rt, job)?;
-                Some((Route::ByMailbox(client), answer))
+            Route::ByMailbox(route) => {
+                let (route, answer) = route.ask(rt, job)?;
+                Some((Route::ByMailbox(route), answer))
             }
         }
     }
 }
 
-impl<'s, N: Naming, T: Seating, C: OneTurn> Client<'s, N, T, C> {
+impl<'s, N: Naming, T: Seating, C: OneTurn> MailboxRoute<'s, N, T, C> {
     // Posts the job, and waits for its answer.
     fn ask<R: Wait>(
         self,
         rt: &R,
         job: Job<N, T, C>,
-    ) -> Option<(Client<'s, N, T, C>, JobAnswer<N, T>)>
+    ) -> Option<(MailboxRoute<'s, N, T, C>, JobAnswer<N, T>)>
         ensures turned { IfSome result (λ r. IsTurned job.request job.purse r.1) }
     {
-        let Client { mailboxes, idle } = self;
+        let MailboxRoute { mailboxes, idle } = self;
         match ask(rt, mailboxes, idle, job) {
-            Ok((idle, answer)) => Some((Client { mailboxes, idle }, answer)),
+            Ok((idle, answer)) => Some((MailboxRoute { mailboxes, idle }, answer)),
             Err(_) => None,
         }
     }
@@ -99,10 +99,11 @@ fn next_route<'s, N: Naming, T: Seating, C>(
     ensures less { IsSome result → vec_len idles.new < vec_len idles.old }
 {
     let idle = next_idle(idles, mailboxes)?;
-    Some(Route::ByMailbox(Client { mailboxes, idle }))
+    Some(Route::ByMailbox(MailboxRoute { mailboxes, idle }))
 }
 
-// The right to post in one more mailbox.
+// The right to post in one more mailbox. It borrows the mailboxes for its clauses alone, which name the identity that
+// each right is of; what is known of all rights is kept apart from the route that is made of one.
 fn next_idle<N: Naming, T: Seating, C>(
     idles: &mut Vec<JobIdle<N, T, C>>,
     mailboxes: &JobMailboxes<N, T, C>,

@@ -41,9 +41,9 @@ pub fn run<
     Ok(out)
 }
 
-/// Runs the same threads, and writes parts of the settled book in place of the
-/// report: one part alone as it is, several each under a line `== PART`. Answers the totals that the report would
-/// have told.
+/// Runs terminals, a delivery runner and the plan's servers as [`run`] does, and writes parts of the settled book in
+/// place of the report: one part alone as it is, several each under a line `== PART`. Answers the totals that the
+/// report would have told.
 ///
 /// Faults as of [`run`]; NoMemory also where a growth was refused while a part was written.
 pub fn run_shown<
@@ -73,80 +73,78 @@ pub fn run_shown<
         make: &make,
         plan: *plan,
     };
-    run_named::<Brand, W, C, F, R>(&lent, opening, parts, out, Blanks::new())
+    lent.run_named::<Brand, W>(opening, parts, out, Blanks::new())
 }
 
-// The same with a name for the book.
-#[tactic(auto, using(crate::proofs::Reported::nothing_shown, crate::proofs::Reported::cut_shown))]
-fn run_named<
-    N: Naming + Send + Sync,
-    W: Write,
+impl<
+    'r,
     C: OneTurn + Send,
     F: Fn(Global) -> Result<C, AllocError> + Sync,
     R: Threads + Wait + Sync,
->(
-    lent: &Lent<'_, F, R>,
-    opening: &Opening,
-    parts: &[Part],
-    out: &mut W,
-    blanks: Blanks,
-) -> Result<Report, RunFault>
-    requires make { F.IsAlwaysCallable lent.now.make.now }
-    requires entries { blanks.entries.name ≡ N.entries }
-    requires cents { blanks.cents.name ≡ N.cents }
-    ensures shown { IfOk result (λ report.
-        HasShown opening.now parts.now report (W.contents out.old) (W.contents out.new)) }
-    ensures part { OnErr result
-        (HasShownPart opening.now parts.now (W.contents out.old) (W.contents out.new)) }
-{
-    let settled = settle_book::<N, C, F, R>(lent, opening, blanks)?;
-    let shown = show_settled(lent.alloc, &settled, parts, out, opening);
-    // Let go by a call, which keeps the book's parts out of this function's proof.
-    drop(settled);
-    shown
-}
+> Lent<'r, F, R> {
+    // Runs with a name for the book, and writes parts of what it comes to.
+    #[tactic(auto, using(crate::proofs::Reported::nothing_shown, crate::proofs::Reported::cut_shown))]
+    fn run_named<N: Naming + Send + Sync, W: Write>(
+        &self,
+        opening: &Opening,
+        parts: &[Part],
+        out: &mut W,
+        blanks: Blanks,
+    ) -> Result<Report, RunFault>
+        requires make { F.IsAlwaysCallable self.now.make.now }
+        requires entries { blanks.entries.name ≡ N.entries }
+        requires cents { blanks.cents.name ≡ N.cents }
+        ensures shown { IfOk result (λ report.
+            HasShown opening.now parts.now report (W.contents out.old) (W.contents out.new)) }
+        ensures part { OnErr result
+            (HasShownPart opening.now parts.now (W.contents out.old) (W.contents out.new)) }
+    {
+        let settled = self.settle_book::<N>(opening, blanks)?;
+        let shown = show_settled(self.alloc, &settled, parts, out, opening);
+        // Let go by a call, which keeps the book's parts out of this function's proof.
+        drop(settled);
+        shown
+    }
 
-// The book at the end of a run of all threads.
-fn settle_book<
-    N: Naming + Send + Sync,
-    C: OneTurn + Send,
-    F: Fn(Global) -> Result<C, AllocError> + Sync,
-    R: Threads + Wait + Sync,
->(lent: &Lent<'_, F, R>, opening: &Opening, blanks: Blanks) -> Result<SettledBook<N>, RunFault>
-    requires make { F.IsAlwaysCallable lent.now.make.now }
-    requires entries { blanks.entries.name ≡ N.entries }
-    requires cents { blanks.cents.name ≡ N.cents }
-    ensures settled { IfOk result (λ s. HasTotals opening.now s.book s.report) }
-{
-    let Ok(turns) = UnnamedTurns::<N>::start(lent.alloc, opening, blanks) else {
-        return Err(RunFault::NoMemory);
-    };
-    run_seated::<N, Brand, C, F, R>(lent, scale_of(opening), turns)
-}
+    // The book at the end of a run of all threads.
+    fn settle_book<N: Naming + Send + Sync>(
+        &self,
+        opening: &Opening,
+        blanks: Blanks,
+    ) -> Result<SettledBook<N>, RunFault>
+        requires make { F.IsAlwaysCallable self.now.make.now }
+        requires entries { blanks.entries.name ≡ N.entries }
+        requires cents { blanks.cents.name ≡ N.cents }
+        ensures settled { IfOk result (λ s. HasTotals opening.now s.book s.report) }
+    {
+        let Ok(turns) = UnnamedTurns::<N>::start(self.alloc, opening, blanks) else {
+            return Err(RunFault::NoMemory);
+        };
+        self.run_seated::<N, Brand>(scale_of(opening), turns)
+    }
 
-// What the run comes to, with a name for the seats.
-fn run_seated<
-    N: Naming + Send + Sync,
-    T: Seating + Send + Sync,
-    C: OneTurn + Send,
-    F: Fn(Global) -> Result<C, AllocError> + Sync,
-    R: Threads + Wait + Sync,
->(lent: &Lent<'_, F, R>, scale: Scale, turns: UnnamedTurns<N>) -> Result<SettledBook<N>, RunFault>
-    requires make { F.IsAlwaysCallable lent.now.make.now }
-    requires name { turns.table ≡ T.table }
-    ensures settled { IfOk result (λ s. HasTotals turns.opening s.book s.report) }
-{
-    let (turns, first) = turns.name::<T>();
-    let context = RunContext {
-        rt: lent.rt,
-        alloc: lent.alloc,
-        turns: &turns,
-        make: lent.make,
-        scale,
-        plan: lent.plan,
-    };
-    let all = context.run_threads(first);
-    end_run(turns, all)
+    // What the run comes to, with a name for the seats.
+    fn run_seated<N: Naming + Send + Sync, T: Seating + Send + Sync>(
+        &self,
+        scale: Scale,
+        turns: UnnamedTurns<N>,
+    ) -> Result<SettledBook<N>, RunFault>
+        requires make { F.IsAlwaysCallable self.now.make.now }
+        requires name { turns.table ≡ T.table }
+        ensures settled { IfOk result (λ s. HasTotals turns.opening s.book s.report) }
+    {
+        let (turns, first) = turns.name::<T>();
+        let context = RunContext {
+            rt: self.rt,
+            alloc: self.alloc,
+            turns: &turns,
+            make: self.make,
+            scale,
+            plan: self.plan,
+        };
+        let all = context.run_threads(first);
+        end_run(turns, all)
+    }
 }
 
 fn scale_of(opening: &Opening) -> Scale {

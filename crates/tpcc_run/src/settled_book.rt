@@ -55,7 +55,7 @@ fn totals_of<N: Naming, T: Seating>(
     }
 }
 
-/// Writes parts of a settled book.
+/// Writes parts of a settled book. The opening is lent for the clauses alone, which say whose totals these are.
 pub(crate) fn show_settled<N: Naming, W: Write>(
     alloc: Global,
     settled: &SettledBook<N>,

@@ -6,10 +6,10 @@ ghost use Rattle.tpcc_audit.specs.Settlement.{AllSeen};
 ghost use Rattle.tpcc_run.specs.Asking.{HasComeBack};
 
 use crate::context::RunContext;
+use crate::duty::Duty;
 use crate::operator::Operator;
 use crate::promises::{Back, ComesBack, TerminalHandle};
 use crate::results::ThreadResults;
-use crate::role::Role;
 use crate::route::Route;
 use std::alloc::{AllocError, Global};
 use std::sync::Wait;
@@ -26,21 +26,21 @@ impl<
     F: Fn(Global) -> Result<C, AllocError> + Sync,
     R: Threads + Wait + Sync,
 > RunContext<'s, N, T, F, R> {
-    // What a terminal's thread does.
-    fn work<'o>(&self, operator: Operator<'o, N, T, C>, role: Role) -> Back<'o, N, T, C>
+    // Asks all cards of the plan, as the thread promises.
+    fn work<'o>(&self, operator: Operator<'o, N, T, C>, duty: Duty) -> Back<'o, N, T, C>
         requires receipts { AllStand operator.purse.front operator.terminal.receipts }
         requires started { IsStarted operator.purse.purse.terminal
             self.now.scale self.now.plan.seed operator.terminal }
         requires make { F.IsAlwaysCallable self.now.make.now }
         ensures kept { HasComeBack (record {
-          role = role;
+          duty = duty;
           scale = self.now.scale;
           seed = self.now.plan.seed;
           moment = self.now.plan.moment;
           cards = self.now.plan.cards;
         }) result }
     {
-        self.ask_all(operator, role, self.plan.cards)
+        self.ask_all(operator, duty, self.plan.cards)
     }
 
     // Starts the thread of one terminal; None where it can't be made.
@@ -48,7 +48,7 @@ impl<
         &'s self,
         scope: &Scope<'s, E>,
         operator: Operator<'s, N, T, C>,
-        role: Role,
+        duty: Duty,
     ) -> Option<TerminalHandle<'s, N, T, C>>
         requires receipts { AllStand operator.purse.front operator.terminal.receipts }
         requires started { IsStarted operator.purse.purse.terminal
@@ -56,7 +56,7 @@ impl<
         requires make { F.IsAlwaysCallable self.now.make.now }
     {
         let promise = ComesBack {
-            role,
+            duty,
             scale: self.scale,
             seed: self.plan.seed,
             moment: self.plan.moment,
@@ -70,7 +70,7 @@ impl<
                     requires started { IsStarted operator.purse.purse.terminal
                         self.now.scale self.now.plan.seed operator.terminal }
                     requires make { F.IsAlwaysCallable self.now.make.now }
-                { self.work(operator, role) },
+                { self.work(operator, duty) },
             )
             .ok()
     }
@@ -81,7 +81,7 @@ impl<
         scope: &Scope<'s, E>,
         route: Route<'s, N, T, C>,
         purse: SeatedPurse<N, T>,
-        role: Role,
+        duty: Duty,
     ) -> Option<TerminalHandle<'s, N, T, C>>
         requires number { 1 ≤ purse.purse.terminal }
         requires make { F.IsAlwaysCallable self.now.make.now }
@@ -95,7 +95,7 @@ impl<
             purse,
             terminal,
         };
-        self.start_thread(scope, operator, role)
+        self.start_thread(scope, operator, duty)
     }
 
     /// Starts the plan's terminals, as many as can be made.
@@ -116,7 +116,7 @@ impl<
                 break;
             };
             let purse = first.split(self.turns, number + 1);
-            let Some(handle) = self.start_terminal(scope, route, purse, Role::Cards) else {
+            let Some(handle) = self.start_terminal(scope, route, purse, Duty::Cards) else {
                 break;
             };
             // A handle that finds no room is let go: the scope joins its thread, and the caller sees that one is missing.
@@ -141,7 +141,7 @@ pub(crate) fn join_terminals<N: Naming, T: Seating, C, R: Threads>(
     }
 }
 
-/// Joins the thread of one terminal.
+/// What the thread of one terminal gives back, for which it waits.
 pub(crate) fn join_terminal<'s, N: Naming, T: Seating, C, R: Threads>(
     rt: &R,
     handle: TerminalHandle<'s, N, T, C>,

@@ -4,6 +4,7 @@ ghost use Rattle.tpcc_book.specs.Purses.{most_purses};
 ghost use Rattle.tpcc_mailbox.specs.Tokens.{identity, idle_origin, serving_origin};
 ghost use Rattle.tpcc_audit.specs.Settlement.{AllSeen};
 ghost use Rattle.tpcc_run.specs.Outcome.{IsService};
+ghost use Rattle.tpcc_run.specs.declared.plan.TheConstants.{MOST_SERVERS};
 
 use crate::context::RunContext;
 use crate::fault::RunFault;
@@ -164,7 +165,7 @@ impl<
 // How many serve; None where terminals make their own turns.
 fn servers_of(service: Service) -> Option<Servers>
     requires service { IsService service }
-    ensures most { IfSome result (λ servers. servers.count ≤ 16) }
+    ensures most { IfSome result (λ servers. servers.count ≤ MOST_SERVERS) }
 {
     match service {
         Service::Servers { count, retire } => Some(Servers { count, retire }),

@@ -14,6 +14,6 @@ ask_once-requires g c =
 
 pub returns-clause-asked : goal.returns-clause-asked
 returns-clause-asked g c = λ none.
-    asked_next (λ s. record { purse = s.purse; station = s.terminal }) c.args.role c.args.self.now.plan.moment
+    asked_next (λ s. record { purse = s.purse; station = s.terminal }) c.args.duty c.args.self.now.plan.moment
     (record { purse = c.args.operator.purse; station = c.args.operator.terminal }) c.in-Ok-next_request.request c.next_request.new.terminal c.ask_once.result.operator
     c.in-Ok-next_request.ensures.next (c.ask_once.ensures.answered none)
