@@ -3,8 +3,8 @@ use Rattle.std.specs.Prelude.{⊤, ◌≤◌}
 use Rattle.tpcc_rows.specs.declared.row.Table.{Table}
 use Rattle.tpcc_run.specs.declared.plan.Plan.{Plan}
 use Rattle.tpcc_run.specs.Outcome.{IsPlan}
-use Rattle.tpcc_program.specs.declared.options.Task.{Task}
-use Rattle.tpcc_program.specs.declared.options.Task.TheVariants as tasks
+use Rattle.tpcc_program.specs.declared.reading.Task.{Task}
+use Rattle.tpcc_program.specs.declared.reading.Task.TheVariants as tasks
 
 -- a plan is in its ranges, and terminals are counted from 1
 abbrev pub HasPlan : Task → Type 0

@@ -5,11 +5,12 @@
 mod fault;
 mod options;
 mod progress;
+mod reading;
 mod timing;
 mod usage;
 
 pub use fault::ProgramFault;
-pub use options::{Asked, Asking, Task, read_words};
 pub use progress::{Counting, Progress, ProgressLine};
+pub use reading::{Asked, Asking, Task, read_words};
 pub use timing::{Opened, Served, Times, Timing};
 pub use usage::tell_usage;

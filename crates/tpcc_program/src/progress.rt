@@ -10,7 +10,7 @@ use tpcc_rows::Request;
 use tpcc_run::Plan;
 use tpcc_server::OneTurn;
 
-/// Goes to the line above at a terminal, and clears it.
+// Goes to the line above at a terminal, and clears it.
 const LINE_BEFORE: &str = "\x1b[1A\x1b[2K";
 
 /// How many requests of a run are done, told on standard error once a second at most.
@@ -76,7 +76,7 @@ impl Progress {
     }
 
     /// A call that counts its turn as done.
-    pub fn counting<C: OneTurn>(&self, call: C) -> Counting<'_, C> {
+    pub fn counting_call<C: OneTurn>(&self, call: C) -> Counting<'_, C> {
         Counting {
             call,
             done: &self.done,
@@ -102,9 +102,9 @@ impl Display for ProgressLine {
 // A line in place of the one before, if there is one.
 #[derive(Clone, Copy, Drop)]
 struct Told {
-    /// Whether a line was told before, whose place it takes.
+    // Whether a line was told before, whose place it takes.
     again: bool,
-    /// What is told.
+    // What is told.
     line: ProgressLine,
 }
 
