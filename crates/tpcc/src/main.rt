@@ -4,6 +4,7 @@
 ghost use Rattle.std.specs.Prelude.{IfOk, ◌≤◌};
 ghost use Rattle.tpcc_book.specs.Turn.{IsTurn};
 ghost use Rattle.tpcc_run.specs.Outcome.{IsPlan};
+ghost use Rattle.tpcc_run.specs.Planned.{plan_once};
 ghost use Rattle.tpcc_program.specs.Tasks.{HasPlan};
 
 use std::alloc::{AllocError, Global};
@@ -26,8 +27,8 @@ use tpcc_server::{BoxedTurn, OneTurn, TurnCall};
 use tpcc_show::{Part, put_requests};
 use tpcc_terminal::Report;
 
-/// Serves a script's requests, from standard input to standard output; writes their screens, or the
-/// parts that are asked for.
+// Serves a script's requests, from standard input to standard output; writes their screens, or the
+// parts that are asked for.
 fn script<R: Print + Input + Eprint + Clock>(
     rt: &R,
     alloc: Global,
@@ -58,7 +59,7 @@ fn script<R: Print + Input + Eprint + Clock>(
     }
 }
 
-/// Writes a table of the opening to standard output.
+// Writes a table of the opening to standard output.
 fn dump_table<R: Print>(
     rt: &R,
     alloc: Global,
@@ -100,21 +101,6 @@ fn explain<R: Env + AllocGlobal + Eprint>(rt: &R, alloc: Global, fault: ProgramF
     }
 }
 
-/// Runs terminals and servers, and writes the report to standard output.
-fn report_plan<
-    C: OneTurn + Send,
-    F: Fn(Global) -> Result<C, AllocError> + Sync,
-    R: Print + Threads + Wait + Sync,
->(rt: &R, alloc: Global, opening: &Opening, plan: &Plan, make: F) -> Result<(), ProgramFault>
-    requires plan { IsPlan plan.now }
-    requires make { F.IsAlwaysCallable make }
-{
-    match tpcc_run::run(rt, alloc, opening, plan, io::writer(rt), make) {
-        Ok(_) => Ok(()),
-        Err(fault) => Err(ProgramFault::Run(fault)),
-    }
-}
-
 // A report that is not asked for on standard output. One that can't be written is passed over.
 fn tell_report<R: Eprint>(rt: &R, parts: &[Part], report: &Report) {
     if !parts.contains(&Part::Report) {
@@ -122,133 +108,136 @@ fn tell_report<R: Eprint>(rt: &R, parts: &[Part], report: &Report) {
     }
 }
 
-/// Runs terminals and servers, and writes parts of their book to standard output.
-fn show_plan<
-    C: OneTurn + Send,
-    F: Fn(Global) -> Result<C, AllocError> + Sync,
-    R: Print + Eprint + Threads + Wait + Sync,
->(
-    rt: &R,
+// A run that is asked for: what it runs on, its opening and plan, and the parts of its book that go to standard output,
+// or none, which is the report alone.
+#[derive(Drop)]
+struct AskedRun<'r, R> {
+    rt: &'r R,
     alloc: Global,
-    opening: &Opening,
-    plan: &Plan,
-    parts: &[Part],
-    make: F,
-) -> Result<(), ProgramFault>
-    requires plan { IsPlan plan.now }
-    requires make { F.IsAlwaysCallable make }
-{
-    match run_shown(rt, alloc, opening, plan, parts, &mut io::writer(rt), make) {
-        Ok(report) => {
-            tell_report(rt, parts, &report);
-            Ok(())
+    opening: &'r Opening,
+    plan: &'r Plan,
+    parts: &'r [Part],
+    // The plan is in its ranges.
+    ghost planned: { IsPlan plan.now } by { plan_once plan.now },
+}
+
+impl<'r, R: Print + Eprint + Clock + Threads + Wait + Sync> AskedRun<'r, R> {
+    // Writes what is asked for, and tells on standard error how far the run has come or how long it took.
+    fn write<C: OneTurn + Send, F: Fn(Global) -> Result<C, AllocError> + Sync>(
+        &self,
+        timed: bool,
+        watched: bool,
+        make: F,
+    ) -> Result<(), ProgramFault>
+        requires make { F.IsAlwaysCallable make }
+    {
+        if timed {
+            return self.write_timed(make);
         }
-        Err(fault) => Err(ProgramFault::Run(fault)),
+        if watched {
+            return self.write_watched(make);
+        }
+        self.write_parts(make)
     }
-}
 
-/// Runs terminals and servers; writes the report, or the parts that are asked for.
-fn run_plan<
-    C: OneTurn + Send,
-    F: Fn(Global) -> Result<C, AllocError> + Sync,
-    R: Print + Eprint + Threads + Wait + Sync,
->(
-    rt: &R,
-    alloc: Global,
-    opening: &Opening,
-    plan: &Plan,
-    parts: &[Part],
-    make: F,
-) -> Result<(), ProgramFault>
-    requires plan { IsPlan plan.now }
-    requires make { F.IsAlwaysCallable make }
-{
-    if parts.is_empty() {
-        return report_plan(rt, alloc, opening, plan, make);
+    fn write_parts<C: OneTurn + Send, F: Fn(Global) -> Result<C, AllocError> + Sync>(
+        &self,
+        make: F,
+    ) -> Result<(), ProgramFault>
+        requires make { F.IsAlwaysCallable make }
+    {
+        if self.parts.is_empty() {
+            return self.write_report(make);
+        }
+        let mut out = io::writer(self.rt);
+        match run_shown(
+            self.rt,
+            self.alloc,
+            self.opening,
+            self.plan,
+            self.parts,
+            &mut out,
+            make,
+        ) {
+            Ok(report) => {
+                tell_report(self.rt, self.parts, &report);
+                Ok(())
+            }
+            Err(fault) => Err(ProgramFault::Run(fault)),
+        }
     }
-    show_plan(rt, alloc, opening, plan, parts, make)
-}
 
-/// The same, and tells how far the run has come whenever a terminal asks its next request.
-fn run_watched<
-    C: OneTurn + Send,
-    F: Fn(Global) -> Result<C, AllocError> + Sync,
-    R: Print + Eprint + Clock + Threads + Wait + Sync,
->(
-    rt: &R,
-    alloc: Global,
-    opening: &Opening,
-    plan: &Plan,
-    parts: &[Part],
-    make: F,
-) -> Result<(), ProgramFault>
-    requires plan { IsPlan plan.now }
-    requires make { F.IsAlwaysCallable make }
-{
-    let begun = Progress::begin(rt, plan);
-    let progress = &begun;
-    let ended = run_plan(
-        rt,
-        alloc,
-        opening,
-        plan,
-        parts,
-        |alloc: Global| -> Result<Counting<'_, C>, AllocError> {
+    fn write_report<C: OneTurn + Send, F: Fn(Global) -> Result<C, AllocError> + Sync>(
+        &self,
+        make: F,
+    ) -> Result<(), ProgramFault>
+        requires make { F.IsAlwaysCallable make }
+    {
+        let out = io::writer(self.rt);
+        match tpcc_run::run(self.rt, self.alloc, self.opening, self.plan, out, make) {
+            Ok(_) => Ok(()),
+            Err(fault) => Err(ProgramFault::Run(fault)),
+        }
+    }
+
+    // Tells how far the run has come whenever a terminal asks its next request.
+    fn write_watched<C: OneTurn + Send, F: Fn(Global) -> Result<C, AllocError> + Sync>(
+        &self,
+        make: F,
+    ) -> Result<(), ProgramFault>
+        requires make { F.IsAlwaysCallable make }
+    {
+        let rt = self.rt;
+        let begun = Progress::begin(rt, self.plan);
+        let progress = &begun;
+        let ended = self.write_parts(|alloc: Global| -> Result<Counting<'_, C>, AllocError> {
             progress.tell(rt);
-            Ok(progress.counting(make(alloc)?))
-        },
-    );
-    progress.end(rt);
-    ended
-}
+            Ok(progress.counting_call(make(alloc)?))
+        });
+        progress.end(rt);
+        ended
+    }
 
-/// Runs terminals and servers as [`run_plan`] does, and tells how long the opening and the requests took.
-fn run_timed<
-    C: OneTurn + Send,
-    F: Fn(Global) -> Result<C, AllocError> + Sync,
-    R: Print + Eprint + Clock + Threads + Wait + Sync,
->(
-    rt: &R,
-    alloc: Global,
-    opening: &Opening,
-    plan: &Plan,
-    parts: &[Part],
-    make: F,
-) -> Result<(), ProgramFault>
-    requires plan { IsPlan plan.now }
-    requires make { F.IsAlwaysCallable make }
-{
-    let begun = Timing::begin(rt);
-    let timing = &begun;
-    let parts = if parts.is_empty() {
-        &[Part::Report]
-    } else {
-        parts
-    };
-    let mut out = timing.time_writer(rt, io::writer(rt));
-    let ended = run_shown(
-        rt,
-        alloc,
-        opening,
-        plan,
-        parts,
-        &mut out,
-        |alloc: Global| -> Result<C, AllocError> {
-            timing.mark_opened(rt);
-            make(alloc)
-        },
-    );
-    match ended {
-        Ok(report) => {
-            tell_report(rt, parts, &report);
-            let _ = rt.eprint(timing.times(rt, report.entries));
-            Ok(())
+    // Tells how long the opening and the requests took.
+    fn write_timed<C: OneTurn + Send, F: Fn(Global) -> Result<C, AllocError> + Sync>(
+        &self,
+        make: F,
+    ) -> Result<(), ProgramFault>
+        requires make { F.IsAlwaysCallable make }
+    {
+        let rt = self.rt;
+        let begun = Timing::begin(rt);
+        let timing = &begun;
+        let parts = if self.parts.is_empty() {
+            &[Part::Report]
+        } else {
+            self.parts
+        };
+        let mut out = timing.time_writer(rt, io::writer(rt));
+        let ended = run_shown(
+            rt,
+            self.alloc,
+            self.opening,
+            self.plan,
+            parts,
+            &mut out,
+            |alloc: Global| -> Result<C, AllocError> {
+                timing.mark_opened(rt);
+                make(alloc)
+            },
+        );
+        match ended {
+            Ok(report) => {
+                tell_report(rt, parts, &report);
+                let _ = rt.eprint(timing.times(rt, report.entries));
+                Ok(())
+            }
+            Err(fault) => Err(ProgramFault::Run(fault)),
         }
-        Err(fault) => Err(ProgramFault::Run(fault)),
     }
 }
 
-/// Writes the requests of a terminal to standard output.
+// Writes the requests of a terminal to standard output.
 fn put_asked<R: Print>(
     rt: &R,
     alloc: Global,
@@ -273,7 +262,7 @@ fn put_asked<R: Print>(
     }
 }
 
-/// Does what the words ask; `watched` is whether somebody sees standard error.
+// Does what the words ask; `watched` is whether somebody sees standard error.
 fn run<
     C: OneTurn + Send,
     F: Fn(Global) -> Result<C, AllocError> + Sync,
@@ -288,9 +277,16 @@ fn run<
         Task::Script => script(rt, alloc, &opening, parts, asked.timed),
         Task::Dump(table) => dump_table(rt, alloc, &opening, table),
         Task::Requests(asking) => put_asked(rt, alloc, &asked, asking),
-        Task::Run(plan) if asked.timed => run_timed(rt, alloc, &opening, &plan, parts, make),
-        Task::Run(plan) if watched => run_watched(rt, alloc, &opening, &plan, parts, make),
-        Task::Run(plan) => run_plan(rt, alloc, &opening, &plan, parts, make),
+        Task::Run(plan) => {
+            let asked_run = AskedRun {
+                rt,
+                alloc,
+                opening: &opening,
+                plan: &plan,
+                parts,
+            };
+            asked_run.write(asked.timed, watched, make)
+        }
     }
 }
 
