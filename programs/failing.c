@@ -2,6 +2,7 @@
 // FAILING says which calls:
 //
 //   count 0            nothing fails, and the number of allocations goes to file descriptor 9 at the end
+//   count-writes 0     the same of writes to standard output
 //   alloc N            the Nth allocation is refused
 //   allocs N           every allocation from the Nth on is refused
 //   thread N           the Nth thread can't be made
@@ -29,9 +30,9 @@ extern void *__libc_calloc(size_t, size_t);
 extern void *__libc_realloc(void *, size_t);
 extern void *__libc_memalign(size_t, size_t);
 
-enum kind { NONE, COUNT, ALLOC, ALLOCS, THREAD, READ, SHORT_READ, INTERRUPT_READ, FULL, NOTHING, SHORT_WRITE, INTERRUPT_WRITE };
+enum kind { NONE, COUNT, COUNT_WRITES, ALLOC, ALLOCS, THREAD, READ, SHORT_READ, INTERRUPT_READ, FULL, NOTHING, SHORT_WRITE, INTERRUPT_WRITE };
 
-static const char *const names[] = { "", "count", "alloc", "allocs", "thread", "read", "short-read", "interrupt-read", "full", "nothing", "short-write", "interrupt-write" };
+static const char *const names[] = { "", "count", "count-writes", "alloc", "allocs", "thread", "read", "short-read", "interrupt-read", "full", "nothing", "short-write", "interrupt-write" };
 
 static enum kind kind;
 static long number;
@@ -52,7 +53,7 @@ __attribute__((constructor)) static void begin(void) {
 static void tell_count(void) {
     char digits[20];
     int at = sizeof digits;
-    if (kind != COUNT) return;
+    if (kind != COUNT && kind != COUNT_WRITES) return;
     for (long left = count; at > 0 && (left > 0 || at == sizeof digits); left /= 10) digits[--at] = '0' + left % 10;
     syscall(SYS_write, 9, digits + at, sizeof digits - at);
 }
@@ -122,6 +123,7 @@ ssize_t read(int file, void *into, size_t size) {
 
 ssize_t write(int file, const void *from, size_t size) {
     if (file == 1) {
+        if (kind == COUNT_WRITES) atomic_fetch_add(&count, 1);
         if (is_it(SHORT_WRITE) && size > 1) size = 1;
         if (kind == FULL || kind == NOTHING) {
             long left = number - count;

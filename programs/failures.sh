@@ -199,6 +199,22 @@ in_turn '@times 1500 "payment 1 1 1 1 1 1.00 0\n"' script
 for table in WAREHOUSE DISTRICT CUSTOMER HISTORY ORDER ORDER-LINE NEW-ORDER ITEM STOCK; do in_turn '' "dump $table"; done
 in_turn '' 'run --terminals 2 --servers 2 --cards 0'
 
+# Output goes out in blocks: what these words write takes fewer calls than this.
+in_blocks() {
+    left_out "in blocks: $1" && return
+    told "$3" > stdin
+    "$tpcc" $2 < stdin > stdout.wanted 2> stderr.wanted
+    failing 'count-writes 0' $2
+    [ "$(cat hit)" -lt "$4" ] || { echo "$(cat hit) writes, not fewer than $4"; differs "in blocks: $1" 'its writes'; }
+    compare "in blocks: $1" 0
+}
+
+# Some 650,000 bytes of screens, with a flush before each of five reads; and texts of some 40,000 to 300,000 bytes.
+in_blocks '1,500 payments'             script                    '@times 1500 "payment 1 1 1 1 1 1.00 0\n"' 100
+in_blocks 'the journal of a script'    'script --show journal'   '@times 1500 "payment 1 1 1 1 1 1.00 0\n"' 20
+in_blocks 'the requests of 1,500 cards' 'requests --cards 1500'  '' 20
+in_blocks 'a dump of 5,000 items'      'dump ITEM --items 5000'  '' 20
+
 # Standard output that takes each number of bytes, fewer than all, and then fails; or each seventh, and then takes nothing.
 bytes_in_all=0
 cut_off() {
