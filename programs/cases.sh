@@ -193,7 +193,7 @@ reported 'sixteen servers' '--seeded --servers 16' \
     70 90 50664.66
 reported '999 terminals' '--seeded --terminals 999 --cards 1' \
     1420 1421 1072077.00
-reported 'an own value for each option' '--seeded --warehouses 2 --customers 30 --items 120 --seed 5 --moment 60 --terminals 3 --servers 2 --cards 7 --retire 4' \
+reported 'an own value for each option' '--seeded --warehouses 2 --customers 30 --items 120 --seed 5 --moment 60 --terminals 3 --servers 6 --cards 7 --retire 4' \
     29 29 27824.28
 reported 'the seed of a plain opening' '--seed 7' \
     60 80 34264.37
@@ -209,7 +209,8 @@ reported '2,000 cards' '--seeded --warehouses 4 --customers 60 --items 200 --see
     2871 3371 2214693.70
 
 # ---- the threads of a run, counted while it runs: the program's own, one of each terminal, that of the delivery runner and
-# those of the servers. The number has to come, and to stay.
+# those of the servers. The number has to come within two seconds, and to stay. With 40 terminals that have 100,000 cards each a run
+# takes far longer, so what is counted is not its end; and no server has had 100,000 jobs by then.
 
 tasks() {
     find "/proc/$1/task" -mindepth 1 -maxdepth 1 2> told | wc -l
@@ -218,8 +219,8 @@ tasks() {
 threads() {
     left_out "$1" && return
     "$tpcc" run $2 --cards 100000 > stdout 2> stderr &
-    local pid=$! count=0
-    for _ in $(seq 200); do
+    local pid=$! count=0 end=$((${EPOCHREALTIME/[.,]/} + 2000000))
+    while [ "${EPOCHREALTIME/[.,]/}" -lt "$end" ]; do
         count=$(tasks "$pid")
         [ "$count" -eq "$3" ] && sleep 0.3 && count=$(tasks "$pid") && [ "$count" -eq "$3" ] && break
         sleep 0.05
@@ -234,10 +235,10 @@ threads() {
     compare "$1" 0
 }
 
-threads 'a server for three terminals'           '--terminals 3 --servers 1' 6
-threads 'five servers for three terminals'       '--terminals 3 --servers 5' 10
-threads 'four of five servers retire'            '--terminals 3 --servers 5 --retire 2' 6
-threads 'three terminals that ask no server'     '--terminals 3 --direct' 5
+threads 'a server for 40 terminals'              '--terminals 40 --servers 1' 43
+threads 'five servers for 40 terminals'          '--terminals 40 --servers 5' 47
+threads 'four of five servers retire'            '--terminals 40 --servers 5 --retire 2' 43
+threads '40 terminals that ask no server'        '--terminals 40 --direct' 42
 
 # ---- what a terminal asks, by the second program
 
@@ -265,7 +266,7 @@ by 'a deck'                      '"$tpcc" requests --terminal 5 --warehouses 3 -
 
 own_journal() {
     left_out "$1" && return
-    timeout "$seconds" "$tpcc" run --seeded --warehouses 2 --customers 30 --items 120 --seed 5 --moment 61 --terminals 3 --servers 2 --cards 7 --retire 4 \
+    timeout "$seconds" "$tpcc" run --seeded --warehouses 2 --customers 30 --items 120 --seed 5 --moment 61 --terminals 3 --servers 6 --cards 7 --retire 4 \
         --show journal > shown 2> told
     echo $? > status
     { grep -v '^deliver ' shown | sort; grep '^deliver ' shown | sort -u; } > stdout
