@@ -29,7 +29,8 @@ struct One {
     boxes: Mailboxes<u64, Echo>,
     idle: Idle<u64, Echo>,
     serving: Serving<u64, Echo>,
-    ghost origin: { (idle_origin idle ≡ identity boxes) × (serving_origin serving ≡ identity boxes) },
+    ghost origin: { (idle_origin idle ≡ identity boxes)
+        × (serving_origin serving ≡ identity boxes) },
 }
 
 fn make_one<R: Abort>(rt: &R, alloc: Global) -> One {
