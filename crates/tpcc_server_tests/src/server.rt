@@ -8,9 +8,9 @@ mod left;
 mod reposts;
 mod rounds;
 
-use gates::held_up;
-use left::{asked_in_vain, not_collected};
-use reposts::closed_meanwhile;
+use gates::hold_up_first;
+use left::{ask_closed_mailboxes, collect_no_answer};
+use reposts::close_meanwhile;
 use rounds::serve_to_limits;
 use std::alloc::Global;
 use std::marker::Brand;
@@ -40,7 +40,7 @@ fn tell<R: Threads + Wait + Clock + Abort + Sync>(rt: &R, alloc: Global, story: 
     at_a_book::<Brand, R>(rt, alloc, Blanks::new(), story)
 }
 
-/// Tells it of turns at a book of the plain opening.
+/// Tells a story of turns at a book of the plain opening.
 fn at_a_book<N: Naming + Send + Sync, R: Threads + Wait + Clock + Abort + Sync>(
     rt: &R,
     alloc: Global,
@@ -58,7 +58,7 @@ fn at_a_book<N: Naming + Send + Sync, R: Threads + Wait + Clock + Abort + Sync>(
     at_its_turns::<N, Brand, R>(rt, alloc, turns, story)
 }
 
-/// Tells it of turns whose table is named, with four purses of the book.
+/// Tells a story of turns whose table is named, with four purses of the book.
 fn at_its_turns<
     N: Naming + Send + Sync,
     T: Seating + Send + Sync,
@@ -92,12 +92,12 @@ fn happens<
     match story {
         Story::AskedInVain => {
             let_go((keeper, other));
-            asked_in_vain(rt, alloc, one, two)
+            ask_closed_mailboxes(rt, alloc, one, two)
         }
-        Story::HeldUp => held_up(rt, alloc, turns, one, two, keeper, other),
+        Story::HeldUp => hold_up_first(rt, alloc, turns, one, two, keeper, other),
         Story::NotCollected => {
             let_go((other, two));
-            not_collected(rt, alloc, turns, one, keeper)
+            collect_no_answer(rt, alloc, turns, one, keeper)
         }
         Story::Limited => {
             let_go(other);
@@ -105,7 +105,7 @@ fn happens<
         }
         Story::ClosedMeanwhile => {
             let_go((other, two));
-            closed_meanwhile(rt, alloc, turns, one, keeper)
+            close_meanwhile(rt, alloc, turns, one, keeper)
         }
     }
 }
@@ -142,10 +142,9 @@ fn payment() -> Request {
     })
 }
 
-/// Lets a value go.
 fn let_go<X: Drop>(_value: X) {}
 
-/// The token of the last client of these.
+/// The token of the last client of these. The mailboxes are lent for the clauses alone, which name their identity.
 fn last_of<N: Naming, T: Seating, C, R: Abort>(
     rt: &R,
     idles: &mut Vec<JobIdle<N, T, C>>,

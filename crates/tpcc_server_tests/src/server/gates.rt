@@ -52,7 +52,7 @@ fn a_held_server_is_stood_in_for(rt: HostRuntime) {
 }
 
 /// Two jobs lie in closed mailboxes, and the server that takes the first one is held until the other has answered.
-pub(super) fn held_up<
+pub(super) fn hold_up_first<
     N: Naming + Send + Sync,
     T: Seating + Send + Sync,
     R: Threads + Wait + Clock + Abort + Sync,

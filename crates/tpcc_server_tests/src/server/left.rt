@@ -20,7 +20,7 @@ fn a_job_at_closed_mailboxes_is_given_back_uncalled(rt: HostRuntime) {
     tell(&rt, rt.alloc(), Story::AskedInVain)
 }
 
-pub(super) fn asked_in_vain<N: Naming, T: Seating, R: Wait + Abort>(
+pub(super) fn ask_closed_mailboxes<N: Naming, T: Seating, R: Wait + Abort>(
     rt: &R,
     alloc: Global,
     one: SeatedPurse<N, T>,
@@ -36,7 +36,6 @@ pub(super) fn asked_in_vain<N: Naming, T: Seating, R: Wait + Abort>(
     assert!(rt; seen == (true, 0) && made.load(Ordering::SeqCst) == 0);
 }
 
-/// Whether it is the request that was asked.
 fn is_payment(request: &Request) -> bool {
     *request == payment()
 }
@@ -57,7 +56,6 @@ fn no_answer<N: Naming, T: Seating, C: OneTurn, R: Wait + Abort>(
     letter_of(rt, reclaim(rt, alloc, mailboxes, waiting, serving))
 }
 
-/// Asks a job in vain.
 fn ask_in_vain<N: Naming, T: Seating, C: Drop, R: Wait + Abort>(
     rt: &R,
     mailboxes: &JobMailboxes<N, T, C>,
@@ -121,7 +119,7 @@ fn an_answer_is_reclaimed_whose_call_was_made_once(rt: HostRuntime) {
     tell(&rt, rt.alloc(), Story::NotCollected)
 }
 
-pub(super) fn not_collected<N: Naming, T: Seating, R: Wait + Abort>(
+pub(super) fn collect_no_answer<N: Naming, T: Seating, R: Wait + Abort>(
     rt: &R,
     alloc: Global,
     turns: &Turns<N, T>,

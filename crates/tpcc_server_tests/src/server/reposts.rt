@@ -66,7 +66,7 @@ fn a_round_is_made_behind_a_flag_that_was_seen(rt: HostRuntime) {
 
 /// Behind the first job its client collects, posts again and closes: the next round finds that job, since a
 /// server reads the flag before its round.
-pub(super) fn closed_meanwhile<N: Naming, T: Seating, R: Wait + Abort>(
+pub(super) fn close_meanwhile<N: Naming, T: Seating, R: Wait + Abort>(
     rt: &R,
     alloc: Global,
     turns: &Turns<N, T>,
