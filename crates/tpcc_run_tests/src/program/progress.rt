@@ -110,7 +110,7 @@ fn a_turn_is_counted_as_done(rt: HostRuntime) -> Result<(), Fail> {
     });
     let progress = Progress::begin(&rt, &plan());
     let turned = progress
-        .counting(PlainTurn)
+        .counting_call(PlainTurn)
         .turn_once(&mut register, request, 1, 0);
     assert!(rt; turned.place == Some(0));
     assert_eq!(rt;
