@@ -10,8 +10,7 @@ use std::sync::Wait;
 use tpcc_book::{Naming, SeatedPurse, Seating};
 use tpcc_rows::{Delivery, Reply, Request};
 use tpcc_server::{JobAnswer, OneTurn};
-use tpcc_terminal::Terminal;
-use tpcc_terminal::laws::receipts_stand;
+use tpcc_terminal::{Terminal, receipts_stand};
 
 /// A terminal with its purse, its receipts and the route of its requests to the book.
 #[derive(Drop)]

@@ -1,4 +1,5 @@
 -- Requests that a line of a script can say: numbers of 32 bits, moments and amounts in their ranges, names of letters.
+use Rattle.tpcc_money.specs.declared.moment.TheConstants.Moment.{LAST_SECOND}
 use Rattle.std.specs.Prelude.{ℕ, Bool, ◌&&◌, nat_le, length, ℤ, pos, negsuc, true, false}
 use Rattle.std.specs.List.{list_all}
 use Rattle.tpcc_rows.specs.declared.requests.Who.{Who}
@@ -12,7 +13,7 @@ abbrev pub is_number : ℕ → Bool
 is_number n = nat_le n 4294967295
 
 abbrev pub is_moment : ℕ → Bool
-is_moment n = nat_le n 4102444799
+is_moment n = nat_le n LAST_SECOND
 
 -- 0.00 to 9,999,999,999.99
 abbrev pub is_amount : ℤ → Bool

@@ -1,4 +1,5 @@
 -- What a script says: lines of words, one space between words, each line ended by one line feed.
+use Rattle.tpcc_money.specs.declared.moment.TheConstants.Moment.{LAST_SECOND}
 use Rattle.std.specs.Prelude.{ℕ, ◌+◌, List, [], ◌∷◌, length, Bool, ◌&&◌, nat_le, nat_lt, ◌==◌, if◌then◌else◌, Option, Some, None, option_map, ℤ, codes}
 use Rattle.std.specs.List.{list_all}
 use Rattle.std.specs.Result.{result_ok}
@@ -35,7 +36,7 @@ abbrev pub number_of : List ℕ → Option ℕ
 number_of word = number_up_to 4294967295 word
 
 abbrev pub moment_of : List ℕ → Option ℕ
-moment_of word = number_up_to 4102444799 word
+moment_of word = number_up_to LAST_SECOND word
 
 abbrev pub cents_of : List ℕ → Option ℤ
 cents_of word = result_ok (amount_of word)

@@ -69,7 +69,7 @@ pub fn moment(word: &[u8]) -> Result<Moment, ParseFault>
     ensures read { Gives (λ m. m) result (moment_of word.now) }
     ensures why { IfErr result (λ f. f ≡ ParseFault.Bad) }
 {
-    match parse_number(word, 4_102_444_799) {
+    match parse_number(word, u64::from(Moment::LAST_SECOND)) {
         Some(n) => Ok(Moment::new(n as u32)),
         None => Err(ParseFault::Bad),
     }

@@ -27,7 +27,7 @@ mod delivery;
 mod drafts;
 mod draws;
 mod home;
-pub mod laws;
+mod laws;
 mod new_order;
 mod order_status;
 mod payment;
