@@ -7,7 +7,8 @@ use Rattle.std.proofs.Math.Seq.{take-append_seam, drop-append_seam}
 use Rattle.std.proofs.lemmas.List.Folds.{list_all-append}
 use Rattle.std.proofs.lemmas.Fmt.{decimal_by_steps, decimal_digit, decimal_step}
 use Rattle.std.proofs.lemmas.Bool.Decides.{nat_tests}
-use Rattle.tpcc_money.specs.Numerals.{is_digit, value_from, value_of, is_decimal, at_most, number_up_to, is_cents, amount_of, amount_of_parts, amount_by, greatest_amount}
+use Rattle.tpcc_money.specs.declared.parse.TheConstants.{GREATEST_AMOUNT}
+use Rattle.tpcc_money.specs.Numerals.{is_digit, value_from, value_of, is_decimal, at_most, number_up_to, is_cents, amount_of, amount_of_parts, amount_by}
 use Rattle.tpcc_money.specs.Texts.{padded_number, amount_text}
 use Rattle.tpcc_money.proofs.Values.{value_from-append, within}
 use Rattle.tpcc_rows.proofs.Booleans.{both_true}
@@ -84,9 +85,9 @@ cents_read n h =
     let cents = (48 + n % 100 / 10) ∷ (48 + n % 100 % 10) ∷ [] in
     rw (is_number (n / 100) whole)
     (rw (two_digits (n % 100) (omega arith))
-    (ap (λ v. amount_by (at_most greatest_amount (value_from v cents))) (decimal_spells (n / 100) whole).value
-    ∙ ap (λ v. amount_by (at_most greatest_amount v)) (cents_value n)
-    ∙ ap amount_by (sym (within greatest_amount n h))))
+    (ap (λ v. amount_by (at_most GREATEST_AMOUNT (value_from v cents))) (decimal_spells (n / 100) whole).value
+    ∙ ap (λ v. amount_by (at_most GREATEST_AMOUNT v)) (cents_value n)
+    ∙ ap amount_by (sym (within GREATEST_AMOUNT n h))))
 
 padded_two_by : (n : ℕ) (one : Bool) → nat_lt n 10 ≡ one → n < 100 → padded_number 2 n ≡ (48 + n / 10) ∷ (48 + n % 10) ∷ []
 padded_two_by n true small within =

@@ -1,4 +1,5 @@
 -- Requests that a line of a script can say: numbers of 32 bits, moments and amounts in their ranges, names of letters.
+use Rattle.tpcc_money.specs.declared.parse.TheConstants.{GREATEST_AMOUNT}
 use Rattle.tpcc_money.specs.declared.moment.TheConstants.Moment.{LAST_SECOND}
 use Rattle.std.specs.Prelude.{ℕ, Bool, ◌&&◌, nat_le, length, ℤ, pos, negsuc, true, false}
 use Rattle.std.specs.List.{list_all}
@@ -17,7 +18,7 @@ is_moment n = nat_le n LAST_SECOND
 
 -- 0.00 to 9,999,999,999.99
 abbrev pub is_amount : ℤ → Bool
-is_amount (pos cents) = nat_le cents 999999999999
+is_amount (pos cents) = nat_le cents GREATEST_AMOUNT
 is_amount (negsuc cents) = false
 
 abbrev pub is_customer_word : Who → Bool

@@ -58,7 +58,7 @@ pub fn number(word: &[u8]) -> Result<u32, ParseFault>
     ensures read { Gives (λ n. n) result (number_of word.now) }
     ensures why { IfErr result (λ f. f ≡ ParseFault.Bad) }
 {
-    match parse_number(word, 4_294_967_295) {
+    match parse_number(word, u64::from(u32::MAX)) {
         Some(n) => Ok(n as u32),
         None => Err(ParseFault::Bad),
     }
