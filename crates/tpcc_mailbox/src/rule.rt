@@ -5,7 +5,6 @@
 //! with the seat of its client, that of a taken one with the seat of the server that took the letter.
 
 use crate::answers::Answers;
-use crate::room::{Answered, Posted};
 use atomic_table::TableRule;
 use std::collections::LinkedList;
 use std::marker::PhantomData;
@@ -32,9 +31,9 @@ pub(crate) const CLOSED: u64 = 1;
 #[derive(Drop)]
 pub enum Mail<J, A> {
     /// What the client posted.
-    Letter(Posted<J, A>),
+    Letter(J),
     /// What a server answered.
-    Reply(Answered<A>),
+    Reply(A),
 }
 
 /// What the client of a mailbox knows of it. No value of it is made.
