@@ -105,7 +105,7 @@ fn payments_are_made_from_the_least_to_the_greatest_amount(rt: HostRuntime) {
 }
 
 /// Whether the greatest payment is made, and how the least one behind it is answered.
-fn paid_twice(tables: &mut Tables) -> (bool, Result<Cents, Refusal>) {
+fn pay_twice(tables: &mut Tables) -> (bool, Result<Cents, Refusal>) {
     let is_paid = pay(tables, &payment(3, 500_000)).is_ok();
     (is_paid, balance(pay(tables, &payment(3, 100))))
 }
@@ -116,7 +116,7 @@ fn paid_near(
     opening: &Tables,
     field: Field,
 ) -> (bool, Result<Cents, Refusal>) {
-    paid_twice(&mut load_changed(rt, opening, Change::NearLimit(field)))
+    pay_twice(&mut load_changed(rt, opening, Change::NearLimit(field)))
 }
 
 pub fn reach_limits(rt: &(impl Abort + AllocGlobal), opening: &Tables) {
@@ -198,7 +198,7 @@ fn runs_pass_over_a_gap_of_new_orders(rt: HostRuntime) {
 
 /// What goes from the first half of a transaction to the second: the sizes of docs/architecture.md.
 #[test]
-fn little_is_prepared(rt: HostRuntime) {
+fn what_is_prepared_takes_a_few_bytes(rt: HostRuntime) {
     let order = size_of::<tpcc_new_order::PreparedOrder>();
     // A key of three numbers.
     assert!(rt; (order, size_of::<tpcc_payment::PreparedPayment>()) == (1, 3 * 4));
