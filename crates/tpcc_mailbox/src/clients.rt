@@ -4,6 +4,7 @@ ghost use Rattle.tpcc_mailbox.specs.Tokens.{identity, idle_origin, idle_mailbox,
 
 use crate::answers::Answers;
 use crate::plays::{Collecting, Posting, Reading};
+use crate::room::Posted;
 use crate::rule::{ANSWERED, CLOSED, FREE, Mail, POSTED};
 use crate::table::{Mailboxes, word_index};
 use crate::tokens::{Idle, Waiting};
@@ -18,10 +19,15 @@ impl<J, A: Answers<J>> Mailboxes<J, A> {
         ensures letter { waiting_letter result ≡ letter }
         ensures closed { waiting_saw_closed result ≡ idle_saw_closed idle }
     {
-        let Idle { mut seat, mailbox } = idle;
+        let Idle {
+            mut seat,
+            mailbox,
+            room,
+        } = idle;
         let shared = &self.table.shared;
         let kept = Snapshot::of(&letter);
-        let was = shared.exchange(&mut seat, mailbox, Some(Mail::Letter(letter)));
+        let posted = Mail::Letter(Posted::new(letter, room));
+        let was = shared.exchange(&mut seat, mailbox, Some(posted));
         let None = was else { unreachable!() };
         shared.compare_exchange::<Posting>(&mut seat, word_index(mailbox), FREE, POSTED);
         Waiting {
@@ -61,10 +67,16 @@ impl<J, A: Answers<J>> Mailboxes<J, A> {
             });
         }
         let found = shared.exchange(&mut seat, mailbox, None);
-        let Some(Mail::Reply(answer)) = found else {
+        let Some(Mail::Reply(answered)) = found else {
             unreachable!()
         };
-        Ok((Idle { seat, mailbox }, answer))
+        let (answer, room) = answered.take_out();
+        let idle = Idle {
+            seat,
+            mailbox,
+            room,
+        };
+        Ok((idle, answer))
     }
 
     /// Whether the mailboxes are closed, as a client asks it. True is answered only where the flag was

@@ -5,6 +5,7 @@ ghost use Rattle.tpcc_mailbox.specs.Tokens.{identity, mailbox_count, AreNewIdles
 
 use crate::answers::Answers;
 use crate::plays::{FirstCollecting, MakingClient, MakingServer};
+use crate::room::Room;
 use crate::rule::{ANSWERED, FREE, OPEN};
 use crate::table::{MailboxSeat, MailboxTable, Mailboxes, word_count, word_index};
 use crate::tokens::{Idle, Serving};
@@ -12,7 +13,18 @@ use atomic_table::Table;
 use std::alloc::{AllocError, Global};
 use tpcc_money::NoMemory;
 
-impl<J, A: Answers<J>> Mailboxes<J, A> {
+// Room for the answers of so many mailboxes.
+fn make_rooms<A: Drop>(alloc: Global, count: usize) -> Result<Vec<Room<A>>, AllocError>
+    ensures { IfOk result (λ v. vec_len v ≡ count) }
+{
+    let mut rooms = Vec::with_capacity(alloc, count)?;
+    for _ in 0..count {
+        rooms.push_reserved(Room::new(alloc)?);
+    }
+    Ok(rooms)
+}
+
+impl<J, A: Answers<J> + Drop> Mailboxes<J, A> {
     /// Makes `n` free mailboxes, 1 to [`MOST_MAILBOXES`](crate::MOST_MAILBOXES), with the token of each in order and the first server.
     /// Nothing of it is left where memory is refused, which is the only error.
     pub fn new(
@@ -35,6 +47,7 @@ impl<J, A: Answers<J>> Mailboxes<J, A> {
         let mut words = Vec::from_elem(alloc, ANSWERED, word_count(n))?;
         words[word_index(n)] = OPEN;
         let mut idles = Vec::with_capacity(alloc, n)?;
+        let mut rooms = make_rooms(alloc, n)?;
         let opened: Result<(MailboxTable<J, A>, MailboxSeat<J, A>), AllocError> = Table::vacant(
             alloc,
             words.as_slice(),
@@ -47,7 +60,14 @@ impl<J, A: Answers<J>> Mailboxes<J, A> {
             table
                 .shared
                 .compare_exchange::<FirstCollecting>(&mut seat, word_index(k), ANSWERED, FREE);
-            idles.push_reserved(Idle { seat, mailbox: k });
+            let Some(room) = rooms.pop() else {
+                unreachable!()
+            };
+            idles.push_reserved(Idle {
+                seat,
+                mailbox: k,
+                room,
+            });
         }
         let seat = table.shared.split_seat::<MakingServer>(&mut first);
         let mailboxes = Mailboxes {
@@ -57,7 +77,9 @@ impl<J, A: Answers<J>> Mailboxes<J, A> {
         };
         Ok((mailboxes, idles, Serving { seat }))
     }
+}
 
+impl<J, A: Answers<J>> Mailboxes<J, A> {
     /// How many mailboxes there are.
     pub fn len(&self) -> usize
         ensures count { result ≡ mailbox_count self.now }

@@ -5,6 +5,7 @@
 //! with the seat of its client, that of a taken one with the seat of the server that took the letter.
 
 use crate::answers::Answers;
+use crate::room::{Answered, Posted};
 use atomic_table::TableRule;
 use std::collections::LinkedList;
 use std::marker::PhantomData;
@@ -31,9 +32,9 @@ pub(crate) const CLOSED: u64 = 1;
 #[derive(Drop)]
 pub enum Mail<J, A> {
     /// What the client posted.
-    Letter(J),
+    Letter(Posted<J, A>),
     /// What a server answered.
-    Reply(A),
+    Reply(Answered<A>),
 }
 
 /// What the client of a mailbox knows of it. No value of it is made.

@@ -12,7 +12,7 @@ use std::snapshot::Snapshot;
 impl<J, A: Answers<J>> Mailboxes<J, A> {
     /// Takes the letter out of the mailbox `k` into the server's hand, if one is posted there. `None`
     /// also where there is no such mailbox. Until the letter is answered this server takes no other.
-    pub fn take(&self, serving: &mut Serving<J, A>, k: usize) -> Option<(Taken<J>, J)>
+    pub fn take(&self, serving: &mut Serving<J, A>, k: usize) -> Option<(Taken<J, A>, J)>
         requires origin { serving_origin serving.old ≡ identity self.now }
         requires free { serving_hand serving.old ≡ None }
         ensures origin { serving_origin serving.new ≡ serving_origin serving.old }
@@ -37,18 +37,20 @@ impl<J, A: Answers<J>> Mailboxes<J, A> {
             return None;
         }
         let found = shared.exchange(&mut serving.seat, k, None);
-        let Some(Mail::Letter(letter)) = found else {
+        let Some(Mail::Letter(posted)) = found else {
             unreachable!()
         };
+        let (letter, room) = posted.open();
         let taken = Taken {
             mailbox: k,
             letter: Snapshot::of(&letter),
+            room,
         };
         Some((taken, letter))
     }
 
     /// Puts the answer of the letter in the server's hand into the mailbox that it was taken from.
-    pub fn answer(&self, serving: &mut Serving<J, A>, taken: Taken<J>, answer: A)
+    pub fn answer(&self, serving: &mut Serving<J, A>, taken: Taken<J, A>, answer: A)
         requires origin { serving_origin serving.old ≡ identity self.now }
         // It was this server that took the letter.
         requires taken { serving_hand serving.old ≡ Some (taken_mailbox taken, taken_letter taken) }
@@ -60,9 +62,14 @@ impl<J, A: Answers<J>> Mailboxes<J, A> {
         ensures answered { serving_answered serving.new
             ≡ serving_answered serving.old ++ taken_mailbox taken ∷ [] }
     {
-        let Taken { mailbox, letter: _ } = taken;
+        let Taken {
+            mailbox,
+            letter: _,
+            room,
+        } = taken;
+        let answered = Mail::Reply(room.fill(answer));
         let shared = &self.table.shared;
-        let was = shared.exchange(&mut serving.seat, mailbox, Some(Mail::Reply(answer)));
+        let was = shared.exchange(&mut serving.seat, mailbox, Some(answered));
         let None = was else { unreachable!() };
         shared.compare_exchange::<Answering>(
             &mut serving.seat,

@@ -6,7 +6,7 @@ use Rattle.tpcc_mailbox.proofs.table.Mailboxes.answer.Goals as goal
 pub compare_exchange-requires : goal.compare_exchange-requires
 compare_exchange-requires g c = let was = busy_server _ _ _ c.args.serving.now.serves c.requires.taken in let put_in = slot_is_exchanged _ _ _ _ _ _ was.0 was.1 c.exchange-was.ensures.3 in
     let near = subst (λ w. hand_bound w ≤ c.args.serving.now.seat.table_id.slots) c.requires.taken c.args.serving.now.inside in
-    (search rules, grind arith, rw c.word_index.ensures (answers (λ j a. g.A.Answers.fits (g.A.Answers.label j) a) _ _ _ _ _ _ c.args.answer put_in.0 put_in.1 c.requires.fits))
+    (search rules, grind arith, rw c.word_index.ensures (answers (λ j a. g.A.Answers.fits (g.A.Answers.label j) a) _ _ _ _ _ _ c.fill.result put_in.0 put_in.1 (subst (λ a. g.A.Answers.fits (g.A.Answers.label c.args.taken.letter.value) a) (sym c.fill.ensures.answer) c.requires.fits)))
 
 pub invariant_of-serving : goal.invariant_of-serving
 invariant_of-serving g c = let was = busy_server _ _ _ c.args.serving.now.serves c.requires.taken in let put_in = slot_is_exchanged _ _ _ _ _ _ was.0 was.1 c.exchange-was.ensures.3 in

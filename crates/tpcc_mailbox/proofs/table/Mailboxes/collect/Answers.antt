@@ -18,8 +18,8 @@ pub exchange-found-requires : goal.exchange-found-requires
 exchange-found-requires g c = let got = (c.compare_exchange.ensures.2 _ _ (ap (λ s. s.me.0.roles) c.args.waiting.sent)).0 (search rules) in
     (search rules, (Some (Reply got.0), ap (λ m. m.1) got.2 ∙ ap (λ l. (c.args.waiting.mailbox, Some (Reply got.0)) ∷ rest l) (sym (ap (λ m. m.1) got.2))))
 
-pub invariant_of-result-2 : goal.invariant_of-result-2
-invariant_of-result-2 g c = let got = (c.compare_exchange.ensures.2 _ _ (ap (λ s. s.me.0.roles) c.args.waiting.sent)).0 (search rules) in
+pub invariant_of-idle : goal.invariant_of-idle
+invariant_of-idle g c = let got = (c.compare_exchange.ensures.2 _ _ (ap (λ s. s.me.0.roles) c.args.waiting.sent)).0 (search rules) in
     let took = slot_is_exchanged _ _ _ _ (Some (Reply got.0)) _ (ap (λ m. m.0.roles) got.2) (ap (λ m. m.1) got.2 ∙ ap (λ s. (c.args.waiting.mailbox, Some (Reply got.0)) ∷ s.me.1) c.args.waiting.sent) c.exchange-found.ensures.3 in record {
       within = search rules;
       sized = search rules;

@@ -11,7 +11,7 @@ pub vacant-opened-requires : goal.vacant-opened-requires
 vacant-opened-requires g c = let words = first_words c.args.n c.as_slice.result.now (first_of (search rules, grind (arith, common_steps))) in begins (λ j a. g.A.Answers.fits (g.A.Answers.label j) a) c.args.n c.as_slice.result.now words.0 words.1
 
 pub loop-k-init : goal.loop-k-init
-loop-k-init g c = (search rules, ap (λ m. m.0) c.in_ok-table.ensures.4, search rules, search rules, new_none _ _ c.in_ok-idles.ensures.items)
+loop-k-init g c = (search rules, ap (λ m. m.0) c.in_ok-table.ensures.4, search rules, search rules, grind (arith, common_steps), new_none _ _ c.in_ok-idles.ensures.items)
 
 pub split_seat-seat-requires : goal.split_seat-seat-requires
 split_seat-seat-requires g c = (search rules, search rules, deals (λ j a. g.A.Answers.fits (g.A.Answers.label j) a) _ _ c.loop-k.k (ap (λ v. v.roles) c.loop-k.invariant.1))
@@ -35,7 +35,8 @@ loop-k-preserved g c = let is = c.split_seat-seat.ensures.4 in let did = c.compa
   ap (λ m. m.0) c.split_seat-seat.ensures.2 ∙ ap opener_after c.loop-k.invariant.1,
   grind (arith, common_steps),
   grind (arith, common_steps),
-  new_more _ _ _ _ c.push_reserved.ensures.items c.loop-k.invariant.4 (search rules) (first_of (search rules, grind (arith, common_steps)))
+  grind (arith, common_steps),
+  new_more _ _ _ _ c.push_reserved.ensures.items c.loop-k.invariant.5 (search rules) (first_of (search rules, grind (arith, common_steps)))
       (ap (λ m. m.0.closed) did ∙ (ap (λ m. m.0.closed) is ∙ ap (λ v. v.closed) c.loop-k.invariant.1)),
 )
 
@@ -53,10 +54,10 @@ pub returns-clause-one_each : goal.returns-clause-one_each
 returns-clause-one_each g c = grind (arith, common_steps)
 
 pub returns-clause-idles : goal.returns-clause-idles
-returns-clause-idles g c = all_to (λ x. x.seat.table_id ≡ c.in_ok-table.table.shared.table_id) c.loop-k.idles.items (λ k x e. (c.loop-k.invariant.4 k x e).0)
+returns-clause-idles g c = all_to (λ x. x.seat.table_id ≡ c.in_ok-table.table.shared.table_id) c.loop-k.idles.items (λ k x e. (c.loop-k.invariant.5 k x e).0)
 
 pub returns-clause-numbers : goal.returns-clause-numbers
-returns-clause-numbers g c = c.loop-k.invariant.4
+returns-clause-numbers g c = c.loop-k.invariant.5
 
 pub returns-clause-serving : goal.returns-clause-serving
 returns-clause-serving g c = let is = ap (λ m. m.0) c.split_seat-seat-2.ensures.4 ∙ ap first_server c.loop-k.invariant.1 in (ap hand_of is, ap splits_of is)

@@ -4,11 +4,11 @@ use Rattle.tpcc_mailbox.proofs.table.Mailboxes.post.Goals as goal
 
 pub compare_exchange-requires : goal.compare_exchange-requires
 compare_exchange-requires g c = let put_in = slot_is_exchanged _ _ _ _ _ _ (ap (λ s. s.me.0.roles) c.args.idle.free) (ap (λ s. s.me.1) c.args.idle.free) c.exchange-was.ensures.3 in
-    (search rules, search rules, rw c.word_index.ensures (posts (λ j a. g.A.Answers.fits (g.A.Answers.label j) a) _ _ _ _ c.args.letter (search rules) put_in.0 put_in.1))
+    (search rules, search rules, rw c.word_index.ensures (posts (λ j a. g.A.Answers.fits (g.A.Answers.label j) a) _ _ _ _ c.new.result (search rules) put_in.0 put_in.1))
 
 pub invariant_of-result : goal.invariant_of-result
 invariant_of-result g c = let put_in = slot_is_exchanged _ _ _ _ _ _ (ap (λ s. s.me.0.roles) c.args.idle.free) (ap (λ s. s.me.1) c.args.idle.free) c.exchange-was.ensures.3 in
-    let did = c.compare_exchange.ensures.2 _ c.args.letter put_in.0 put_in.1 in record {
+    let did = c.compare_exchange.ensures.2 _ c.new.result put_in.0 put_in.1 in record {
       within = search rules;
       sized = search rules;
       sent = is_seat_with _ _ _ (ap (λ m. m.0.roles) did ∙ search rules) (ap (λ m. m.1) did);

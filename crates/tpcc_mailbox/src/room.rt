@@ -1,0 +1,106 @@
+//! A letter with room for its answer, and the answer in that room.
+//!
+//! The room is made with the mailbox and goes with each letter. So an answer moves once, out of the server's hands
+//! into the room; what lies in a slot is small, however large answers are.
+ghost use Rattle.std.specs.Prelude.{◌≡◌, ◌≤◌, [], ◌∷◌, vec_capacity};
+
+use std::alloc::{AllocError, Global};
+use std::marker::Model;
+use std::snapshot::Snapshot;
+
+/// Room for one answer.
+#[derive(Drop)]
+pub struct Room<A> {
+    /// Holds nothing.
+    place: Vec<A>,
+    ghost empty: { place.items ≡ [] },
+    ghost room: { 1 ≤ vec_capacity place },
+}
+
+/// A letter that was posted, with room for its answer.
+#[derive(Drop)]
+pub struct Posted<J, A> {
+    /// What clauses see of it.
+    letter: J,
+    /// The mailbox's own room.
+    room: Room<A>,
+}
+
+/// An answer, in the room that its letter came with.
+#[derive(Drop)]
+pub struct Answered<A> {
+    /// Holds the answer alone.
+    place: Vec<A>,
+    /// The answer, as clauses see it.
+    answer: Snapshot<A>,
+}
+
+impl<J, A> Model for Posted<J, A> {
+    ghost Value = { J };
+
+    ghost view = { λ p. p.letter };
+}
+
+impl<A> Model for Answered<A> {
+    ghost use Rattle.std.specs.Prelude.{◌≡◌, ◌≤◌, [], ◌∷◌, vec_capacity};
+
+    ghost Value = { A };
+
+    ghost view = { λ a. a.answer.value };
+
+    ghost invariant = { λ a. (a.place.items ≡ a.answer.value ∷ []) × (1 ≤ vec_capacity a.place) };
+}
+
+impl<A> Room<A> {
+    /// Refused only for want of memory.
+    pub(crate) fn new(alloc: Global) -> Result<Room<A>, AllocError> {
+        let place = Vec::with_capacity(alloc, 1)?;
+        Ok(Room { place })
+    }
+
+    /// The answer in this room. It takes no memory.
+    pub(crate) fn fill(self, answer: A) -> Answered<A>
+        ensures answer { result ≡ answer }
+    {
+        let Room { mut place } = self;
+        let kept = Snapshot::of(&answer);
+        place.push_reserved(answer);
+        Answered {
+            place,
+            answer: kept,
+        }
+    }
+}
+
+impl<J, A> Posted<J, A> {
+    /// The letter with this room.
+    pub(crate) fn new(letter: J, room: Room<A>) -> Posted<J, A>
+        ensures letter { result ≡ letter }
+    {
+        Posted { letter, room }
+    }
+
+    /// The letter, and the room for its answer.
+    pub(crate) fn open(self) -> (J, Room<A>)
+        ensures letter { result.0 ≡ self }
+    {
+        let Posted { letter, room } = self;
+        (letter, room)
+    }
+}
+
+impl<A> Answered<A> {
+    /// The answer out of its room.
+    pub(crate) fn take_out(self) -> (A, Room<A>)
+        ensures answer { result.0 ≡ self }
+    {
+        let Answered {
+            mut place,
+            answer: _,
+        } = self;
+        let Some(answer) = place.pop() else {
+            unreachable!()
+        };
+        (answer, Room { place })
+    }
+}
