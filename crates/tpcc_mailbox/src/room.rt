@@ -2,11 +2,10 @@
 //!
 //! The room is made with the mailbox and goes with each letter. So an answer moves once, out of the server's hands
 //! into the room; what lies in a slot is small, however large answers are.
-ghost use Rattle.std.specs.Prelude.{◌≡◌, ◌≤◌, [], ◌∷◌, vec_capacity};
+ghost use Rattle.std.specs.Prelude.{◌≡◌, ◌≤◌, [], length, vec_capacity};
 
 use std::alloc::{AllocError, Global};
 use std::marker::Model;
-use std::snapshot::Snapshot;
 
 /// Room for one answer.
 #[derive(Drop)]
@@ -31,8 +30,8 @@ pub struct Posted<J, A> {
 pub struct Answered<A> {
     /// Holds the answer alone.
     place: Vec<A>,
-    /// The answer, as clauses see it.
-    answer: Snapshot<A>,
+    ghost one: { length place.items ≡ 1 },
+    ghost room: { 1 ≤ vec_capacity place },
 }
 
 impl<J, A> Model for Posted<J, A> {
@@ -42,13 +41,11 @@ impl<J, A> Model for Posted<J, A> {
 }
 
 impl<A> Model for Answered<A> {
-    ghost use Rattle.std.specs.Prelude.{◌≡◌, ◌≤◌, [], ◌∷◌, vec_capacity};
+    ghost use Rattle.tpcc_mailbox.specs.Only.{only};
 
     ghost Value = { A };
 
-    ghost view = { λ a. a.answer.value };
-
-    ghost invariant = { λ a. (a.place.items ≡ a.answer.value ∷ []) × (1 ≤ vec_capacity a.place) };
+    ghost view = { λ a. only a.place.items a.one };
 }
 
 impl<A> Room<A> {
@@ -63,12 +60,8 @@ impl<A> Room<A> {
         ensures answer { result ≡ answer }
     {
         let Room { mut place } = self;
-        let kept = Snapshot::of(&answer);
         place.push_reserved(answer);
-        Answered {
-            place,
-            answer: kept,
-        }
+        Answered { place }
     }
 }
 
@@ -94,10 +87,7 @@ impl<A> Answered<A> {
     pub(crate) fn take_out(self) -> (A, Room<A>)
         ensures answer { result.0 ≡ self }
     {
-        let Answered {
-            mut place,
-            answer: _,
-        } = self;
+        let Answered { mut place } = self;
         let Some(answer) = place.pop() else {
             unreachable!()
         };
