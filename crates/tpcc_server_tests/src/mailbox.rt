@@ -193,7 +193,7 @@ fn a_server_withheld_with_an_empty_hand_holds_no_letter(rt: HostRuntime) {
 }
 
 /// Keeps a letter until the tests end: a `Taken` can't be let go.
-fn keep<R: Wait + Clock>(rt: &R, taken: Taken<u64>) {
+fn keep<R: Wait + Clock>(rt: &R, taken: Taken<u64, Served>) {
     let _taken = taken;
     for _ in rt.forever() {
         thread::sleep(rt, Duration::from_millis(100));
