@@ -11,7 +11,13 @@ use crate::runs;
 use tpcc_money::Moment;
 use tpcc_rows::{DistrictKey, OrderLineRow};
 
-fn stamp(part: &mut DistrictPart<OrderLineRow>, warehouse: u32, district: u32, order: u32, moment: Moment)
+fn stamp(
+    part: &mut DistrictPart<OrderLineRow>,
+    warehouse: u32,
+    district: u32,
+    order: u32,
+    moment: Moment,
+)
     requires keyed { is_ascending order_line_key part.old.rows.items ≡ true }
     ensures owner { part.new.owner ≡ part.old.owner }
     ensures rows { part.new.rows.items ≡ updated (is_line_of warehouse district order)

@@ -43,7 +43,10 @@ fn chosen_customer<'a>(tables: &'a Tables, payment: &Payment) -> Option<&'a Cust
 }
 
 /// The rows of a payment that nothing refuses.
-pub fn rows_of_payment<'a>(tables: &'a Tables, payment: &Payment) -> Result<PaymentRows<'a>, Refusal>
+pub fn rows_of_payment<'a>(
+    tables: &'a Tables,
+    payment: &Payment,
+) -> Result<PaymentRows<'a>, Refusal>
     ensures ok { IfOk result (IsNamed tables.now.rows payment.now) }
     ensures err { IfErr result (λ refusal.
         payment_refusal tables.now.rows payment.now ≡ Some refusal) }

@@ -5,8 +5,8 @@ ghost use Rattle.tpcc_rows.specs.Payment.{payment_refusal, payment_reply, after_
 ghost use Rattle.tpcc_payment.specs.Prepares.{IsPrepared};
 
 use crate::history::history_row;
-use crate::payment_rows::{named_rows, rows_of_payment};
 use crate::note::information_after;
+use crate::payment_rows::{named_rows, rows_of_payment};
 use crate::replies::show_payment;
 use tpcc_rows::{CustomerKey, Paid, Payment, Refusal};
 use tpcc_tables::Tables;
