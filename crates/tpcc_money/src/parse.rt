@@ -89,6 +89,7 @@ pub fn parse_number(bytes: &[u8], most: u64) -> Option<u64>
     }
 }
 
+/// The greatest amount that can be written, in cents: 9,999,999,999.99.
 pub const GREATEST_AMOUNT: u64 = 999_999_999_999;
 
 fn amount_of_parts(whole: &[u8], cents: &[u8]) -> Result<Cents, AmountFault>

@@ -51,7 +51,12 @@ impl Model for Scale {
 
     ghost inverse = { λ v. record { warehouses = v.warehouses; customers = v.customers; items = v.items } };
 
-    ghost invariant = { λ s. IsScale (record { warehouses = s.warehouses; customers = s.customers; items = s.items }) };
+    ghost invariant = { λ s.
+        IsScale (record {
+          warehouses = s.warehouses;
+          customers = s.customers;
+          items = s.items;
+        }) };
 }
 
 impl Scale {
@@ -62,9 +67,12 @@ impl Scale {
         ensures warehouses { IsErrOf result ScaleFault.Warehouses
             ↔ (is_within 1 GREATEST_WAREHOUSE warehouses ≡ false) }
         ensures customers { IsErrOf result ScaleFault.Customers
-            ↔ ((is_within 1 GREATEST_WAREHOUSE warehouses ≡ true) × (are_customers customers ≡ false)) }
-        ensures items { IsErrOf result ScaleFault.Items ↔ ((is_within 1 GREATEST_WAREHOUSE warehouses ≡ true)
-            × (are_customers customers ≡ true) × (is_within LEAST_ITEMS GREATEST_ITEM items ≡ false)) }
+            ↔ ((is_within 1 GREATEST_WAREHOUSE warehouses ≡ true)
+            × (are_customers customers ≡ false)) }
+        ensures items { IsErrOf result ScaleFault.Items
+            ↔ ((is_within 1 GREATEST_WAREHOUSE warehouses ≡ true)
+            × (are_customers customers ≡ true)
+            × (is_within LEAST_ITEMS GREATEST_ITEM items ≡ false)) }
     {
         if warehouses < 1 || warehouses > GREATEST_WAREHOUSE {
             return Err(ScaleFault::Warehouses);
