@@ -7,5 +7,5 @@ mod names;
 mod stream;
 
 pub use cards::Card;
-pub use names::last_name;
-pub use stream::Stream;
+pub use names::{LAST_NAMES, last_name};
+pub use stream::{GREATEST_DRAW, Stream};

@@ -3,17 +3,17 @@ ghost use Rattle.std.specs.Prelude.{◌≡◌, ◌<◌, ◌≤◌, length, true}
 ghost use Rattle.std.specs.List.{list_all};
 ghost use Rattle.tpcc_rows.specs.Printable.{is_printable};
 ghost use Rattle.tpcc_rows.specs.LastName.{last_name, syllable};
-ghost use Rattle.tpcc_draws.specs.declared.names.TheConstants.{NAME_NUMBERS};
+ghost use Rattle.tpcc_draws.specs.declared.names.TheConstants.{LAST_NAMES};
 
 use tpcc_rows::Text;
 
-/// How many numbers have a last name: three digits, a syllable for each.
-pub const NAME_NUMBERS: u32 = 1_000;
+/// How many last names there are (4.3.2.3): one for each number of three digits.
+pub const LAST_NAMES: u32 = 1_000;
 
 /// The last name of a number from 0 to 999: a syllable for each of its three decimal digits,
 /// leading zeros kept (4.3.2.3). At most 15 bytes.
 pub fn last_name(number: u32) -> Text<16>
-    requires small { number < NAME_NUMBERS }
+    requires small { number < LAST_NAMES }
     ensures name { result ≡ last_name number }
 {
     let mut name = Text::empty();

@@ -13,4 +13,4 @@ mod texts;
 
 pub use filled::fill;
 pub use opening::{Opening, opening_is_sound};
-pub use scale::{Scale, ScaleFault};
+pub use scale::{LEAST_CUSTOMERS, LEAST_ITEMS, Scale, ScaleFault};

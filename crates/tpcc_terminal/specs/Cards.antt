@@ -2,6 +2,7 @@
 use Rattle.std.specs.Prelude.{ℕ, zero, suc, ◌+◌, ◌-◌, ◌/◌, ◌%◌, ◌==◌, ◌&&◌, ◌||◌, Bool, List, [], ◌∷◌, ◌++◌, min, pos, unsigned_abs, nat_lt, nat_le, if◌then◌else◌}
 use Rattle.rand_core.specs.Stream.{Stream}
 use Rattle.tpcc_draws.specs.Draws.{between, nurand}
+use Rattle.tpcc_draws.specs.declared.names.TheConstants.{LAST_NAMES}
 use Rattle.tpcc_draws.specs.declared.cards.Card.{Card}
 use Rattle.tpcc_draws.specs.declared.cards.Card.TheVariants as cards
 use Rattle.tpcc_rows.specs.LastName.{last_name}
@@ -16,7 +17,6 @@ use Rattle.tpcc_rows.specs.declared.requests.Request.{Request}
 use Rattle.tpcc_rows.specs.declared.requests.Request.TheVariants as requests
 use Rattle.tpcc_rows.specs.declared.limits.TheConstants.{LEAST_PAYMENT, GREATEST_PAYMENT}
 use Rattle.tpcc_terminal.specs.declared.home.Home.{Home}
-use Rattle.tpcc_terminal.specs.declared.drafts.TheConstants.{LAST_NAMES}
 use Rattle.tpcc_terminal.specs.declared.drafts.DrawnCustomer.{DrawnCustomer}
 use Rattle.tpcc_terminal.specs.declared.drafts.DrawnCustomer.TheVariants as customers
 use Rattle.tpcc_terminal.specs.declared.drafts.OrderDraft.{OrderDraft}

@@ -1,7 +1,7 @@
 //! What a card's draws gave: the numbers of a request, before its texts are made.
 ghost use Rattle.std.specs.Prelude.{◌≡◌, ◌<◌, IfOk};
 ghost use Rattle.tpcc_terminal.specs.Cards.{who_of, order_of, payment_of, request_of};
-ghost use Rattle.tpcc_terminal.specs.declared.drafts.TheConstants.{LAST_NAMES};
+ghost use Rattle.tpcc_draws.specs.declared.names.TheConstants.{LAST_NAMES};
 
 use crate::home::Home;
 use std::alloc::Global;
@@ -10,10 +10,7 @@ use tpcc_draws::last_name;
 use tpcc_money::{Cents, Moment, NoMemory};
 use tpcc_rows::{Few, Line, Lines, Order, Payment, Request, StatusQuery, StockQuery, Ticket, Who};
 
-/// How many last names there are (4.3.2.3): one for each number of three digits.
-pub const LAST_NAMES: u32 = 1_000;
-
-/// The number of a last name, less than [`LAST_NAMES`], seen as that number.
+/// The number of a last name, less than [`LAST_NAMES`](tpcc_draws::LAST_NAMES), seen as that number.
 #[derive(Clone, Copy)]
 pub struct NameNumber {
     /// Its three digits are the name's three syllables.
@@ -22,7 +19,7 @@ pub struct NameNumber {
 
 impl Model for NameNumber {
     ghost use Rattle.std.specs.Prelude.{ℕ, ◌<◌};
-    ghost use Rattle.tpcc_terminal.specs.declared.drafts.TheConstants.{LAST_NAMES};
+    ghost use Rattle.tpcc_draws.specs.declared.names.TheConstants.{LAST_NAMES};
 
     ghost Value = { ℕ };
 

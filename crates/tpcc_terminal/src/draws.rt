@@ -3,11 +3,9 @@ ghost use Rattle.std.specs.Prelude.{◌≡◌, ◌+◌, ◌==◌, ◌&&◌, ◌<
 ghost use Rattle.tpcc_draws.specs.Draws.{answers};
 ghost use Rattle.tpcc_terminal.specs.Cards.{other_warehouse, supplier, drawn_line, drawn_lines, drawn_customer, payer, drawn_order, drawn_payment, drawn_status, drawn_draft};
 
-use crate::drafts::{
-    Draft, DrawnCustomer, LAST_NAMES, NameNumber, OrderDraft, PaymentDraft, StatusDraft,
-};
+use crate::drafts::{Draft, DrawnCustomer, NameNumber, OrderDraft, PaymentDraft, StatusDraft};
 use crate::home::Home;
-use tpcc_draws::{Card, Stream};
+use tpcc_draws::{Card, LAST_NAMES, Stream};
 use tpcc_rows::limits::{GREATEST_PAYMENT, LEAST_PAYMENT};
 use tpcc_rows::{DistrictKey, Few, Line};
 
