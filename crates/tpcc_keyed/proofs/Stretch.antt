@@ -116,3 +116,17 @@ mapped_all change [] zero lt = refl
 mapped_all change [] (suc i) lt = refl
 mapped_all change (x ∷ xs) zero lt = absurd (omega arith)
 mapped_all change (x ∷ xs) (suc i) lt = ap (λ ys. change x ∷ ys) (mapped_all change xs i (omega arith))
+
+-- ---- a front, one element after another
+
+-- an element that passes, at the end of what is known of the front
+pub front_grows : {X : Type 0} (p : X → Bool) (xs : List X) (i : ℕ) (d : X) → i ≤ prefix_len p xs → i < length xs → p (get_or xs i d) ≡ true → i + 1 ≤ prefix_len p xs
+front_grows p [] i d le lt e = absurd (omega arith)
+front_grows p (x ∷ xs) zero d le lt e = grind (arith, e)
+front_grows p (x ∷ xs) (suc i) d le lt e = grind (arith, front_grows p xs i d)
+
+-- an element that fails there is the first that does
+pub front_ends : {X : Type 0} (p : X → Bool) (xs : List X) (i : ℕ) (d : X) → i ≤ prefix_len p xs → i < length xs → p (get_or xs i d) ≡ false → i ≡ prefix_len p xs
+front_ends p [] i d le lt e = absurd (omega arith)
+front_ends p (x ∷ xs) zero d le lt e = grind (arith, e)
+front_ends p (x ∷ xs) (suc i) d le lt e = grind (arith, front_ends p xs i d)

@@ -137,18 +137,26 @@ fn start_of(names: &[CustomerName], warehouse: u32, district: u32, last: &[u8]) 
     )
 }
 
-/// How many names stand before the first one after those of a last name, searched by halves.
-fn end_of(names: &[CustomerName], warehouse: u32, district: u32, last: &[u8]) -> usize
-    requires order { is_in_order name_before names.now ≡ true }
+/// How many names stand before the first one after those of a last name, looked for from their first one on: few share one.
+fn end_of(
+    names: &[CustomerName],
+    warehouse: u32,
+    district: u32,
+    last: &[u8],
+    start: usize,
+) -> usize
+    requires start { start
+        ≤ prefix_len (λ name. not (is_gt (last_cmp name warehouse district last.now))) names.now }
     ensures within { result ≤ length names.now }
     ensures end { result
         ≡ prefix_len (λ name. not (is_gt (last_cmp name warehouse district last.now))) names.now }
 {
-    names.partition_point(
-        |name: &CustomerName| -> bool
-            ensures { result ≡ not (is_gt (last_cmp name.now warehouse district last.entry.now)) }
-        { !name.is_after(warehouse, district, last) },
-    )
+    for end in start..names.len() {
+        if names[end].is_after(warehouse, district, last) {
+            return end;
+        }
+    }
+    names.len()
 }
 
 /// Where the names of a last name begin and end.
@@ -162,7 +170,7 @@ fn place_of(names: &[CustomerName], warehouse: u32, district: u32, last: &[u8]) 
         ≡ prefix_len (λ name. not (is_gt (last_cmp name warehouse district last.now))) names.now }
 {
     let start = start_of(names, warehouse, district, last);
-    let end = end_of(names, warehouse, district, last);
+    let end = end_of(names, warehouse, district, last, start);
     (start, end)
 }
 

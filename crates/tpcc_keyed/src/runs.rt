@@ -36,19 +36,26 @@ fn start_of(rows: &[OrderLineRow], warehouse: u32, district: u32, order: u32) ->
     )
 }
 
-/// How many rows stand before the first one after an order's lines, searched by halves.
-fn end_of(rows: &[OrderLineRow], warehouse: u32, district: u32, order: u32) -> usize
-    requires keyed { is_ascending order_line_key rows.now ≡ true }
+/// How many rows stand before the first one after an order's lines, looked for from their first row on: an order has few.
+fn end_of(
+    rows: &[OrderLineRow],
+    warehouse: u32,
+    district: u32,
+    order: u32,
+    start: usize,
+) -> usize
+    requires start { start ≤ prefix_len (λ row.
+        not (key_before (warehouse ∷ district ∷ order ∷ []) (order_line_key row))) rows.now }
     ensures within { result ≤ length rows.now }
     ensures end { result ≡ prefix_len (λ row.
         not (key_before (warehouse ∷ district ∷ order ∷ []) (order_line_key row))) rows.now }
 {
-    rows.partition_point(
-        |row: &OrderLineRow| -> bool
-            ensures { result
-                ≡ not (key_before (warehouse ∷ district ∷ order ∷ []) (order_line_key row.now)) }
-        { !is_after(row, warehouse, district, order) },
-    )
+    for end in start..rows.len() {
+        if is_after(&rows[end], warehouse, district, order) {
+            return end;
+        }
+    }
+    rows.len()
 }
 
 /// Where an order's lines begin and end.
@@ -62,7 +69,7 @@ fn place_of(rows: &[OrderLineRow], warehouse: u32, district: u32, order: u32) ->
         not (key_before (warehouse ∷ district ∷ order ∷ []) (order_line_key row))) rows.now }
 {
     let start = start_of(rows, warehouse, district, order);
-    let end = end_of(rows, warehouse, district, order);
+    let end = end_of(rows, warehouse, district, order, start);
     (start, end)
 }
 

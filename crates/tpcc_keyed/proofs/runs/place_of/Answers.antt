@@ -3,6 +3,12 @@ use Rattle.tpcc_keyed.proofs.Stretch.{front_within}
 use Rattle.tpcc_keyed.proofs.Run.{line_before, line_not_after, before_not_after}
 use Rattle.tpcc_keyed.proofs.runs.place_of.Goals as goal
 
+pub end_of-end-requires : goal.end_of-end-requires
+end_of-end-requires c =
+    let before = line_before c.args.warehouse c.args.district c.args.order in
+    let not_after = line_not_after c.args.warehouse c.args.district c.args.order in
+    record { start = omega (arith, c.start_of-start.ensures.start, front_within before not_after (before_not_after c.args.warehouse c.args.district c.args.order) c.args.rows.now) }
+
 pub returns-clause-order : goal.returns-clause-order
 returns-clause-order c =
     let before = line_before c.args.warehouse c.args.district c.args.order in
