@@ -7,7 +7,7 @@ ghost use Rattle.tpcc_rows.specs.Turn.{refusal, state_after, reply_to};
 ghost use Rattle.tpcc_book.specs.Ready.{IsReady, HasRoom, state_of, room_in};
 
 use tpcc_delivery::{PreparedRun, Queue, finish_run, finish_ticket, prepare_run, prepare_ticket};
-use tpcc_lookups::{Level, order_status, stock_level};
+use tpcc_lookups::{Level, judge_status, order_status, stock_level};
 use tpcc_rows::{Refusal, Reply, Request, StatusQuery};
 use tpcc_tables::Tables;
 
@@ -26,18 +26,6 @@ pub enum Prepared {
     Ticket,
     /// What the run will answer.
     Run(PreparedRun),
-}
-
-// The refusal of a query. A function has room for its longest value, so the long reply stays in here.
-fn judge_status(tables: &Tables, query: &StatusQuery) -> Result<(), Refusal>
-    ensures accepted { OnOk result (status_refusal tables.now.rows query.now ≡ None) }
-    ensures refused { IfErr result (λ refusal.
-        status_refusal tables.now.rows query.now ≡ Some refusal) }
-{
-    match order_status(tables, query) {
-        Ok(_) => Ok(()),
-        Err(refusal) => Err(refusal),
-    }
 }
 
 /// Tells the first refusal of the rows, the request and the queue, and makes every growth; changes no row and no ticket.

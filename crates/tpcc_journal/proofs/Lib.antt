@@ -1,3 +1,4 @@
 mod Elements
 mod Log
 pub mod Counts
+mod Shelves

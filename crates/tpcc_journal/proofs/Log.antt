@@ -7,6 +7,7 @@ use Rattle.tpcc_rows.specs.declared.entry.Entry.{Entry}
 use Rattle.tpcc_rows.specs.declared.replies.DistrictDelivery.{DistrictDelivery}
 use Rattle.tpcc_rows.specs.declared.replies.Delivered.{Delivered}
 use Rattle.tpcc_rows.specs.Replay.{district_delivery, district_deliveries, whole_ticket}
+use Rattle.tpcc_journal.specs.Kept.{run_at}
 use Rattle.tpcc_journal.proofs.Elements.{are_rest}
 
 then_one : {X : Type 0} (o : Option X) (ls ms : List X) → cons_option o (ls ++ ms) ≡ cons_option o ls ++ ms
@@ -17,14 +18,14 @@ alone : {X : Type 0} (o : Option X) → cons_option o [] ≡ option_to_list o
 alone None = refl
 alone (Some l) = refl
 
-pub one_more_run : (entries : List Entry) (i : ℕ) (e : Entry) → i < length entries → e ≡ get_or entries i e → district_deliveries (take (i + 1) entries) ≡ district_deliveries (take i entries) ++ option_to_list (district_delivery e.reply)
-one_more_run [] i e lt here = absurd (omega arith)
-one_more_run (x ∷ xs) zero e lt here = ap (λ y. cons_option (district_delivery y.reply) []) (sym here) ∙ alone (district_delivery e.reply)
-one_more_run (x ∷ xs) (suc i) e lt here =
+pub one_more_run : (entries : List Entry) (i : ℕ) → i < length entries → district_deliveries (take (i + 1) entries) ≡ district_deliveries (take i entries) ++ option_to_list (run_at entries i)
+one_more_run [] i lt = absurd (omega arith)
+one_more_run (x ∷ xs) zero lt = alone (district_delivery x.reply)
+one_more_run (x ∷ xs) (suc i) lt =
     let more : suc i + 1 ≡ suc (i + 1) = omega arith in
     ap (λ k. district_deliveries (take k (x ∷ xs))) more
-    ∙ ap (cons_option (district_delivery x.reply)) (one_more_run xs i e (omega arith) here)
-    ∙ then_one (district_delivery x.reply) (district_deliveries (take i xs)) (option_to_list (district_delivery e.reply))
+    ∙ ap (cons_option (district_delivery x.reply)) (one_more_run xs i (omega arith))
+    ∙ then_one (district_delivery x.reply) (district_deliveries (take i xs)) (option_to_list (run_at xs i))
 
 -- the lines of so many tens of runs
 abbrev pub line_at : List DistrictDelivery → ℕ → Option Delivered

@@ -1,2 +1,4 @@
 pub mod Log
+pub mod Kept
+pub mod View
 pub mod Tallies

@@ -1,38 +1,48 @@
 //! A list of entries that only grows.
-ghost use Rattle.std.specs.Prelude.{◌≡◌, ◌<◌, ◌==◌, ◌++◌, ◌∷◌, [], OnOk, length, slice_get};
-ghost use Rattle.std.specs.Option.{option_copied};
+ghost use Rattle.std.specs.Prelude.{◌≡◌, ◌<◌, ◌==◌, ◌++◌, ◌∷◌, [], OnOk, length, slice_get, option_map};
 ghost use Rattle.tpcc_rows.specs.Replay.{count_of};
+ghost use Rattle.tpcc_journal.specs.Kept.{entry_of};
 
+use crate::kept::{KeptEntry, Replies};
 use crate::tallies::{Tally, add_one, tally_of};
 use std::alloc::Global;
 use std::marker::Model;
 use tpcc_money::NoMemory;
-use tpcc_rows::Entry;
+use tpcc_rows::{Entry, Reply, Request};
+
+/// An entry as it is lent: the request where it stands, and a copy of the reply.
+#[derive(Drop)]
+pub struct EntryRef<'a> {
+    /// The terminal whose request it was.
+    pub terminal: u32,
+    /// How many entries of this terminal stand before this one: 0, 1, 2 and so on.
+    pub number: u64,
+    /// The request, as it was asked.
+    pub request: &'a Request,
+    /// What it was answered.
+    pub reply: Reply,
+}
 
 /// The accepted requests with their replies, in the order in which they were served.
 #[derive(Drop)]
 pub struct Journal {
     /// The oldest first.
-    entries: Vec<Entry>,
+    entries: Vec<KeptEntry>,
+    /// The long ones of their replies.
+    replies: Replies,
     /// One for each terminal that has entries, so that they need not be counted again.
     tallies: Vec<Tally>,
 }
 
 impl Model for Journal {
-    ghost use Rattle.std.specs.Prelude.{ℕ, ◌≡◌, ◌-◌, min, vec_len, vec_capacity};
-    ghost use Rattle.tpcc_rows.specs.Replay.{count_of};
     ghost use Rattle.tpcc_journal.specs.Log.{Log};
-    ghost use Rattle.tpcc_journal.specs.Tallies.{tally_of};
+    ghost use Rattle.tpcc_journal.specs.View.{log_of, IsLog};
 
     ghost Value = { Log };
 
-    ghost view = { λ j. record {
-      entries = j.entries.items;
-      room = min (vec_capacity j.entries - vec_len j.entries) (vec_capacity j.tallies - vec_len j.tallies);
-    } };
+    ghost view = { log_of };
 
-    ghost invariant = { λ j. (terminal : ℕ)
-        → tally_of terminal j.tallies.items ≡ count_of terminal j.entries.items };
+    ghost invariant = { IsLog };
 }
 
 impl Journal {
@@ -42,6 +52,7 @@ impl Journal {
     {
         Journal {
             entries: Vec::new(alloc),
+            replies: Replies::new(alloc),
             tallies: Vec::new(alloc),
         }
     }
@@ -68,17 +79,16 @@ impl Journal {
     }
 
     /// The entry at a place, counted from 0.
-    pub fn entry(&self, place: usize) -> Option<&Entry>
-        ensures entry { option_copied result ≡ slice_get self.now.entries place }
+    pub fn entry(&self, place: usize) -> Option<EntryRef<'_>>
+        ensures entry { option_map entry_of result ≡ slice_get self.now.entries place }
     {
-        self.entries.get(place)
-    }
-
-    /// The entries in their order.
-    pub fn entries(&self) -> &[Entry]
-        ensures entries { result.now ≡ self.now.entries }
-    {
-        self.entries.as_slice()
+        let kept = self.entries.get(place)?;
+        Some(EntryRef {
+            terminal: kept.terminal,
+            number: kept.number,
+            request: &kept.request,
+            reply: self.replies.reply(kept.reply),
+        })
     }
 
     /// Makes room for one more entry; refuses for want of memory alone, with the entries as they were.
@@ -88,6 +98,7 @@ impl Journal {
     {
         self.tallies.reserve(1)?;
         self.entries.reserve(1)?;
+        self.replies.reserve()?;
         Ok(())
     }
 
@@ -96,7 +107,19 @@ impl Journal {
         requires room { 0 < self.old.room }
         ensures appended { self.new.entries ≡ self.old.entries ++ entry ∷ [] }
     {
-        add_one(&mut self.tallies, entry.terminal);
-        self.entries.push_reserved(entry);
+        let Entry {
+            terminal,
+            number,
+            request,
+            reply,
+        } = entry;
+        add_one(&mut self.tallies, terminal);
+        let reply = self.replies.keep(reply);
+        self.entries.push_reserved(KeptEntry {
+            terminal,
+            number,
+            request,
+            reply,
+        });
     }
 }

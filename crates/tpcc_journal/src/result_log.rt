@@ -1,18 +1,19 @@
 //! The delivery result log (2.7.2.2).
 ghost use Rattle.std.specs.Prelude.{◌≡◌, ◌++◌, ◌∷◌, [], Some, IfOk, OnOk, length};
 ghost use Rattle.std.specs.Option.{option_to_list};
+ghost use Rattle.tpcc_journal.specs.Kept.{run_at};
 ghost use Rattle.tpcc_rows.specs.Replay.{district_delivery, district_deliveries, results_of, whole_ticket};
 
 use crate::journal::Journal;
 use std::alloc::Global;
 use tpcc_money::NoMemory;
-use tpcc_rows::{Delivered, Delivery, DistrictDelivery, Entry, Reply};
+use tpcc_rows::{Delivered, Delivery, DistrictDelivery, Reply};
 
-/// The run of an entry, if it is one and delivered or skipped a district.
-fn district_delivery(entry: &Entry) -> Option<DistrictDelivery>
-    ensures { result ≡ district_delivery entry.now.reply }
+/// The run that a reply tells of, if it is of one and delivered or skipped a district.
+fn district_delivery(reply: &Reply) -> Option<DistrictDelivery>
+    ensures { result ≡ district_delivery reply.now }
 {
-    match &entry.reply {
+    match reply {
         Reply::Delivery(Delivery::District(delivery)) => Some(*delivery),
         _ => None,
     }
@@ -35,12 +36,22 @@ fn add_line(lines: &mut Vec<Delivered>, line: Delivered) -> Result<(), NoMemory>
     Ok(())
 }
 
-fn district_deliveries(alloc: Global, entries: &[Entry]) -> Result<Vec<DistrictDelivery>, NoMemory>
-    ensures { IfOk result (λ v. v.items ≡ district_deliveries entries.now) }
+/// The run of the entry at a place, if it is one and delivered or skipped a district.
+fn run_at(journal: &Journal, place: usize) -> Option<DistrictDelivery>
+    ensures { result ≡ run_at journal.now.entries place }
+{
+    match journal.entry(place) {
+        Some(entry) => district_delivery(&entry.reply),
+        None => None,
+    }
+}
+
+fn district_deliveries(alloc: Global, journal: &Journal) -> Result<Vec<DistrictDelivery>, NoMemory>
+    ensures { IfOk result (λ v. v.items ≡ district_deliveries journal.now.entries) }
 {
     let mut runs = Vec::new(alloc);
-    for entry in entries {
-        add_run(&mut runs, district_delivery(entry))?;
+    for place in 0..journal.len() {
+        add_run(&mut runs, run_at(journal, place))?;
     }
     Ok(runs)
 }
@@ -73,7 +84,7 @@ fn whole_ticket(runs: &[DistrictDelivery]) -> Delivered
 pub fn results(alloc: Global, journal: &Journal) -> Result<Vec<Delivered>, NoMemory>
     ensures log { IfOk result (λ v. v.items ≡ results_of journal.now.entries) }
 {
-    let runs = district_deliveries(alloc, journal.entries())?;
+    let runs = district_deliveries(alloc, journal)?;
     let runs = runs.as_slice();
     let mut lines = Vec::new(alloc);
     for ten in 0..runs.len() / 10 {

@@ -6,6 +6,6 @@ mod lines;
 mod orders;
 mod stocks;
 
-pub use orders::order_status;
+pub use orders::{judge_status, order_status};
 pub use stocks::stock_level;
 pub use tpcc_rows::{LastOrder, Level, Status, StatusLine, StatusQuery, StockQuery};

@@ -55,6 +55,16 @@ fn status(tables: &Tables, query: &StatusQuery, customer: &CustomerRow) -> Statu
     }
 }
 
+/// Why an Order-Status is refused, if it is: as [`order_status`] tells it, with nothing looked up for the reply.
+pub fn judge_status(tables: &Tables, query: &StatusQuery) -> Result<(), Refusal>
+    ensures accepted { OnOk result (status_refusal tables.now.rows query.now ≡ None) }
+    ensures refused { IfErr result
+        (λ refusal. status_refusal tables.now.rows query.now ≡ Some refusal) }
+{
+    asking_customer(tables, query)?;
+    Ok(())
+}
+
 /// One Order-Status. The refusals are NoWarehouse, NoDistrict and NoCustomer, the first that
 /// applies. Takes no memory.
 pub fn order_status(tables: &Tables, query: &StatusQuery) -> Result<Status, Refusal>

@@ -1,14 +1,18 @@
 -- The numbers of a STOCK row, line after line.
-use Rattle.std.proofs.Common.{◌≡◌, ℕ, ◌+◌, ◌==◌, Bool, true, false, List, [], ◌∷◌, length, refl, sym, ap, ◌∙◌, arith}
-use Rattle.std.specs.Prelude.{◌&&◌, fold, filter, if◌then◌else◌}
+use Rattle.std.proofs.Common.{◌≡◌, ℕ, ◌+◌, ◌*◌, ◌≤◌, ◌==◌, Bool, true, false, List, [], ◌∷◌, length, refl, sym, ap, ◌∙◌, arith}
+use Rattle.std.specs.Prelude.{◌&&◌, ◌||◌, fold, filter, not, nat_lt, if◌then◌else◌}
 use Rattle.std.specs.List.{list_all}
+use Rattle.std.proofs.lemmas.Bool.Decides.{nat_tests}
 use Rattle.tpcc_rows.specs.declared.rows.StockRow.{StockRow}
 use Rattle.tpcc_rows.specs.declared.requests.Line.{Line}
-use Rattle.tpcc_rows.specs.Ranges.{is_within, is_stock_row, is_text, is_exact_text, greatest_count, greatest_stock_ytd}
+use Rattle.tpcc_rows.specs.Ranges.{is_within, is_count, is_stock_row, is_text, is_exact_text, greatest_count, greatest_stock_ytd}
 use Rattle.tpcc_rows.specs.NewOrder.{quantity_after, stock_after_line, stock_after}
 use Rattle.tpcc_rows.proofs.Booleans.{split}
-use Rattle.tpcc_laws.proofs.Numbers.{within}
-use Rattle.tpcc_new_order.specs.Supplied.{numbers_of, numbers_after_line, IsNear}
+use Rattle.tpcc_laws.proofs.Numbers.{within, is_in}
+use Rattle.tpcc_new_order.specs.declared.ranges.Overruns.{Overruns}
+use Rattle.tpcc_new_order.specs.declared.supply.StockNumbers.{StockNumbers}
+use Rattle.tpcc_new_order.specs.Supplied.{numbers_of, numbers_after_line, is_far, IsNear}
+use Rattle.tpcc_new_order.specs.Tests.{overruns_with}
 
 abbrev is_line_of_item : ℕ → ℕ → Line → Bool
 is_line_of_item w i l = (l.supply == w) && (l.item == i)
@@ -55,3 +59,67 @@ near_start s h =
       orders = omega (arith, (within 0 greatest_count s.order_count o.1).1);
       remotes = omega (arith, (within 0 greatest_count s.remote_count r.1).1);
     }
+
+-- ---- a row that is far from its limits
+
+remote_adds : (b : Bool) (n : ℕ) → (if b then n else n + 1) ≤ n + 1
+remote_adds true n = omega arith
+remote_adds false n = omega arith
+
+-- what a line adds at most
+abbrev AddsFew : StockNumbers → StockNumbers → ℕ → Type 0
+AddsFew old new lines = (new.ytd ≤ old.ytd + 10 * lines) × (new.order_count ≤ old.order_count + lines) × (new.remote_count ≤ old.remote_count + lines)
+
+abbrev with_line_if : Bool → ℕ → StockRow → StockNumbers → Line → StockNumbers
+with_line_if b home s n l =
+    if b then record {
+      quantity = quantity_after n.quantity l.quantity;
+      ytd = n.ytd + l.quantity;
+      order_count = n.order_count + 1;
+      remote_count = if s.warehouse == home then n.remote_count else n.remote_count + 1;
+    } else n
+
+adds_if : (b : Bool) (home : ℕ) (s : StockRow) (n : StockNumbers) (l : Line) → l.quantity ≤ 10 → AddsFew n (with_line_if b home s n l) 1
+adds_if true home s n l q = (omega (arith, q), omega arith, remote_adds (s.warehouse == home) n.remote_count)
+adds_if false home s n l q = (omega arith, omega arith, omega arith)
+
+line_adds : (home : ℕ) (s : StockRow) (n : StockNumbers) (l : Line) → l.quantity ≤ 10 → AddsFew n (numbers_after_line home s n l) 1
+line_adds home s n l q = adds_if ((l.supply == s.warehouse) && (l.item == s.item)) home s n l q
+
+lines_add : (home : ℕ) (s : StockRow) (n : StockNumbers) (ls : List Line) → list_all (λ l. is_within 1 10 l.quantity) ls ≡ true → AddsFew n (fold (numbers_after_line home s) n ls) (length ls)
+lines_add home s n [] h = (omega arith, omega arith, omega arith)
+lines_add home s n (l ∷ ls) h =
+    let here : is_within 1 10 l.quantity ≡ true = grind (arith, h) in
+    let rest : list_all (λ x. is_within 1 10 x.quantity) ls ≡ true = grind (arith, h) in
+    let one = line_adds home s n l (within 1 10 l.quantity here).1 in
+    let all = lines_add home s (numbers_after_line home s n l) ls rest in
+    (omega (arith, one.0, all.0), omega (arith, one.1, all.1), omega (arith, one.2, all.2))
+
+or_not : (a b : Bool) → b ≡ true → a ≡ (a || not b)
+or_not true b e = refl
+or_not false b e = ap not (sym e)
+
+or_no : (a b : Bool) → b ≡ false → a ≡ (a || b)
+or_no true b e = refl
+or_no false b e = sym e
+
+far_tells : (s : StockRow) → is_far s ≡ true → (s.ytd + 150 ≤ greatest_stock_ytd) × (s.order_count + 15 ≤ greatest_count) × (s.remote_count + 15 ≤ greatest_count)
+far_tells s h = (grind (arith, nat_tests, h), grind (arith, nat_tests, h), grind (arith, nat_tests, h))
+
+not_over : (n : ℕ) → n ≤ greatest_stock_ytd → nat_lt greatest_stock_ytd n ≡ false
+not_over n h = grind (arith, nat_tests, h)
+
+within_if : (over : Overruns) (n : StockNumbers) → n.ytd ≤ greatest_stock_ytd → n.order_count ≤ greatest_count → n.remote_count ≤ greatest_count → over ≡ overruns_with over n
+within_if over n y o r = λ i. record {
+  orders = or_not over.orders (is_count n.order_count) (is_in 0 greatest_count n.order_count (omega arith) o) i;
+  remotes = or_not over.remotes (is_count n.remote_count) (is_in 0 greatest_count n.remote_count (omega arith) r) i;
+  ytd = or_no over.ytd (nat_lt greatest_stock_ytd n.ytd) (not_over n.ytd y) i;
+}
+
+-- no column of it is past its limit after the lines of an order
+pub far_is_within : (home : ℕ) (s : StockRow) (ls : List Line) (over : Overruns) → is_far s ≡ true → length ls ≤ 15 → list_all (λ l. is_within 1 10 l.quantity) ls ≡ true → over ≡ overruns_with over (numbers_of (stock_after home ls s))
+far_is_within home s ls over far few quantities =
+    let adds = lines_add home s (numbers_of s) ls quantities in
+    let f = far_tells s far in
+    within_if over (fold (numbers_after_line home s) (numbers_of s) ls) (omega (arith, adds.0, f.0, few)) (omega (arith, adds.1, f.1, few)) (omega (arith, adds.2, f.2, few))
+    ∙ ap (overruns_with over) (numbers_in_turn home s ls)

@@ -1,5 +1,5 @@
 -- What the lines of an order leave of a STOCK row, and what is known of its lines.
-use Rattle.std.specs.Prelude.{◌≡◌, ◌≤◌, ◌+◌, ◌*◌, ◌==◌, ◌&&◌, ℕ, Bool, true, List, length, is_some, if◌then◌else◌}
+use Rattle.std.specs.Prelude.{◌≡◌, ◌≤◌, ◌+◌, ◌-◌, ◌*◌, nat_le, ◌==◌, ◌&&◌, ℕ, Bool, true, List, length, is_some, if◌then◌else◌}
 use Rattle.std.specs.List.{list_all}
 use Rattle.tpcc_rows.specs.declared.rows.StockRow.{StockRow}
 use Rattle.tpcc_rows.specs.declared.requests.Line.{Line}
@@ -28,6 +28,10 @@ pub record IsNear (taken : ℕ) (n : StockNumbers) : Type 0 where
   pub ytd : n.ytd ≤ greatest_stock_ytd + 10 * taken
   pub orders : n.order_count ≤ greatest_count + taken
   pub remotes : n.remote_count ≤ greatest_count + taken
+
+-- so far below its limits that fifteen lines of at most 10 take no column past them
+abbrev pub is_far : StockRow → Bool
+is_far s = nat_le s.ytd (greatest_stock_ytd - 150) && nat_le s.order_count (greatest_count - 15) && nat_le s.remote_count (greatest_count - 15)
 
 -- a line's quantity is 1 to 10, its item is used and in stock
 abbrev pub is_servable_line : Rows → Line → Bool

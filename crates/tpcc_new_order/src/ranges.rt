@@ -4,13 +4,13 @@ ghost use Rattle.tpcc_rows.specs.Lists.{first_finding};
 ghost use Rattle.tpcc_rows.specs.Ranges.{is_count, greatest_stock_ytd};
 ghost use Rattle.tpcc_rows.specs.Tables.{stock_at};
 ghost use Rattle.tpcc_rows.specs.NewOrder.{order_number, order_refusal_by_range, stock_after, stocks_after};
-ghost use Rattle.tpcc_new_order.specs.Supplied.{numbers_of, is_servable_line, IsServable};
+ghost use Rattle.tpcc_new_order.specs.Supplied.{numbers_of, is_far, is_servable_line, IsServable};
 ghost use Rattle.tpcc_new_order.specs.Tests.{overruns_of, overruns_with, range_tests};
 
 use crate::lookups::stock_of;
 use crate::supply::{StockNumbers, numbers_after};
 use tpcc_rows::limits::{GREATEST_COUNT, GREATEST_ORDER, GREATEST_STOCK_YTD};
-use tpcc_rows::{Field, Line, Order, Refusal};
+use tpcc_rows::{Field, Line, Order, Refusal, StockRow};
 use tpcc_tables::Tables;
 
 /// Which columns would leave their ranges in some STOCK row of an order.
@@ -35,15 +35,34 @@ fn with_row(over: Overruns, numbers: StockNumbers) -> Overruns
     }
 }
 
-/// The numbers of a line's STOCK row after all the lines.
-fn numbers_of_line(tables: &Tables, home: u32, lines: &[Line], line: &Line) -> StockNumbers
+/// Whether no order can take a column of the row out of its range: its at most fifteen lines add 150 to S_YTD at most.
+fn is_far(stock: &StockRow) -> bool
+    ensures { result ≡ is_far stock.now }
+{
+    stock.ytd <= GREATEST_STOCK_YTD - 150
+        && stock.order_count <= GREATEST_COUNT - 15
+        && stock.remote_count <= GREATEST_COUNT - 15
+}
+
+/// The same, with the STOCK row of one line more. The lines of a row are looked at only where it is near a limit.
+fn with_line(
+    over: Overruns,
+    tables: &Tables,
+    home: u32,
+    lines: &[Line],
+    line: &Line,
+) -> Overruns
     requires servable { IsServable tables.now.rows lines.now }
     requires line { is_servable_line tables.now.rows line.now ≡ true }
     ensures { result
-        ≡ numbers_of (stock_after home lines.now
-        (stock_at tables.now.rows line.now.supply line.now.item)) }
+        ≡ overruns_with over (numbers_of (stock_after home lines.now
+        (stock_at tables.now.rows line.now.supply line.now.item))) }
 {
-    numbers_after(stock_of(tables, line), home, lines)
+    let stock = stock_of(tables, line);
+    if is_far(stock) {
+        return over;
+    }
+    with_row(over, numbers_after(stock, home, lines))
 }
 
 /// Which columns of the lines' STOCK rows would leave their ranges.
@@ -60,7 +79,7 @@ fn overruns_after(tables: &Tables, home: u32, lines: &[Line]) -> Overruns
         ytd: false,
     };
     for line in lines {
-        over = with_row(over, numbers_of_line(tables, home, lines, line));
+        over = with_line(over, tables, home, lines, line);
     }
     over
 }

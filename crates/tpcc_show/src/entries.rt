@@ -1,14 +1,15 @@
 //! The journal's entries, one after another.
 ghost use Rattle.std.specs.Prelude.{◌≡◌, ◌++◌, IfOk, OnErr, OnOk, flat_map};
 ghost use Rattle.tpcc_audit.specs.Part.{AppendsPart, PassesBytes};
+ghost use Rattle.tpcc_journal.specs.Kept.{entry_of};
 ghost use Rattle.tpcc_terminal.specs.RequestLines as lines;
 ghost use Rattle.tpcc_terminal.specs.Screens as screens;
 
 use std::alloc::Global;
 use std::io::Write;
 use tpcc_audit::{Blocks, DumpFault};
+use tpcc_journal::{EntryRef, Journal};
 use tpcc_money::NoMemory;
-use tpcc_rows::Entry;
 use tpcc_terminal::{Screen, reply_screen, request_line};
 
 /// What is written of each entry.
@@ -20,8 +21,8 @@ pub trait EntryText {
     ghost text: { Entry → List ℕ };
 
     /// Makes it. Refused only for want of memory.
-    fn make(alloc: Global, entry: &Entry) -> Result<Screen, NoMemory>
-        ensures text { IfOk result (λ made. made ≡ text entry.now) };
+    fn make(alloc: Global, entry: &EntryRef) -> Result<Screen, NoMemory>
+        ensures text { IfOk result (λ made. made ≡ text (entry_of entry.now)) };
 }
 
 /// The line of its request.
@@ -30,8 +31,8 @@ pub struct RequestLines;
 impl EntryText for RequestLines {
     ghost text = { λ entry. lines.request_line entry.request };
 
-    fn make(alloc: Global, entry: &Entry) -> Result<Screen, NoMemory> {
-        request_line(alloc, &entry.request)
+    fn make(alloc: Global, entry: &EntryRef) -> Result<Screen, NoMemory> {
+        request_line(alloc, entry.request)
     }
 }
 
@@ -41,7 +42,7 @@ pub struct ReplyScreens;
 impl EntryText for ReplyScreens {
     ghost text = { λ entry. screens.reply_screen entry.reply };
 
-    fn make(alloc: Global, entry: &Entry) -> Result<Screen, NoMemory> {
+    fn make(alloc: Global, entry: &EntryRef) -> Result<Screen, NoMemory> {
         reply_screen(alloc, &entry.reply)
     }
 }
@@ -51,12 +52,12 @@ fn put_entry<T: EntryText, W: Write>(
     alloc: Global,
     blocks: &mut Blocks,
     out: &mut W,
-    entry: &Entry,
+    entry: &EntryRef,
 ) -> Result<(), DumpFault>
     ensures written { OnOk result (PassesBytes (W.contents out.old) (W.contents out.new)
-        (blocks.old ++ T.text entry.now) blocks.new) }
+        (blocks.old ++ T.text (entry_of entry.now)) blocks.new) }
     ensures part { OnErr result (AppendsPart (W.contents out.old) (W.contents out.new)
-        (blocks.old ++ T.text entry.now)) }
+        (blocks.old ++ T.text (entry_of entry.now))) }
 {
     let text = T::make(alloc, entry)?;
     blocks.put(out, text.bytes())?;
@@ -68,15 +69,18 @@ pub fn put_each<T: EntryText, W: Write>(
     alloc: Global,
     blocks: &mut Blocks,
     out: &mut W,
-    entries: &[Entry],
+    journal: &Journal,
 ) -> Result<(), DumpFault>
     ensures written { OnOk result (PassesBytes (W.contents out.old) (W.contents out.new)
-        (blocks.old ++ flat_map T.text entries.now) blocks.new) }
+        (blocks.old ++ flat_map T.text journal.now.entries) blocks.new) }
     ensures part { OnErr result (AppendsPart (W.contents out.old) (W.contents out.new)
-        (blocks.old ++ flat_map T.text entries.now)) }
+        (blocks.old ++ flat_map T.text journal.now.entries)) }
 {
-    for entry in entries {
-        put_entry::<T, W>(alloc, blocks, out, entry)?;
+    for place in 0..journal.len() {
+        let Some(entry) = journal.entry(place) else {
+            unreachable!()
+        };
+        put_entry::<T, W>(alloc, blocks, out, &entry)?;
     }
     Ok(())
 }

@@ -163,7 +163,7 @@ fn show_part<N: Naming, W: Write>(
 {
     match part {
         Part::Screens => put_shown(alloc, blocks, out, book, screens),
-        Part::Journal => put_each::<RequestLines, W>(alloc, blocks, out, book.journal().entries()),
+        Part::Journal => put_each::<RequestLines, W>(alloc, blocks, out, book.journal()),
         Part::Results => put_results(alloc, blocks, out, book.journal()),
         Part::Check => put_check(alloc, blocks, out, book.tables()),
         Part::Report => put_report(alloc, blocks, out, book),
@@ -189,7 +189,7 @@ fn put_shown<N: Naming, W: Write>(
             blocks.put(out, screens)?;
             Ok(())
         }
-        None => put_each::<ReplyScreens, W>(alloc, blocks, out, book.journal().entries()),
+        None => put_each::<ReplyScreens, W>(alloc, blocks, out, book.journal()),
     }
 }
 

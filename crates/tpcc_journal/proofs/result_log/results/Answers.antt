@@ -15,7 +15,7 @@ pub returns : goal.returns
 unfolding results_of
 returns c =
     let all : c.loop-ten.ten ≡ length c.as_slice-runs.result.now / 10 = omega (arith, c.loop-ten-test.false, c.loop-ten.auto.ten-end) in
-    let runs = c.as_slice-runs.ensures.value ∙ c.in_ok-runs.ensures ∙ ap district_deliveries c.entries.ensures.entries in
+    let runs = c.as_slice-runs.ensures.value ∙ c.in_ok-runs.ensures in
     record {
       log = c.loop-ten.invariant
           ∙ ap (lines_of c.as_slice-runs.result.now 0) all

@@ -3,5 +3,5 @@ use Rattle.std.specs.Prelude.{flat_map}
 use Rattle.tpcc_audit.specs.Part.{PassesBytes}
 use Rattle.tpcc_show.proofs.entries.put_each.Given as goal
 
-abbrev pub invariant-loop-entry : goal.invariant-loop-entry
-invariant-loop-entry g l = PassesBytes (g.W.Write.contents l.fn.out) (g.W.Write.contents l.out) (l.fn.blocks ++ flat_map g.T.EntryText.text (take l.entry-index l.entries)) l.blocks
+abbrev pub invariant-loop-place : goal.invariant-loop-place
+invariant-loop-place g l = PassesBytes (g.W.Write.contents l.fn.out) (g.W.Write.contents l.out) (l.fn.blocks ++ flat_map g.T.EntryText.text (take l.place l.journal.entries)) l.blocks
