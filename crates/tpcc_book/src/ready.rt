@@ -9,7 +9,7 @@ ghost use Rattle.tpcc_book.specs.Turn.{journal_refusal, turn_refusal};
 use crate::halves::{Prepared, finish, prepare};
 use tpcc_delivery::Queue;
 use tpcc_journal::Journal;
-use tpcc_rows::{Entry, Refusal, Request};
+use tpcc_rows::{Entry, Refusal, Reply, Request};
 use tpcc_tables::Tables;
 
 /// How many entries a journal has at most.
@@ -108,7 +108,7 @@ fn journal_refusal(journal: &Journal, terminal: u32, number: u64) -> Option<Refu
     None
 }
 
-/// Makes a turn that is ready, and its entry; takes no memory.
+/// Makes a turn that is ready, and its entry, whose reply it gives; takes no memory.
 pub(crate) fn commit(
     tables: &mut Tables,
     queue: &mut Queue,
@@ -116,7 +116,7 @@ pub(crate) fn commit(
     ready: Ready,
     terminal: u32,
     number: u64,
-)
+) -> Reply
     requires stocked { IsStocked tables.old.rows }
     requires accepted { refusal (state_of tables.old queue.old) ready.copy ≡ None }
     requires prepared { IsReady (state_of tables.old queue.old) ready.copy ready.prepared }
@@ -132,13 +132,16 @@ pub(crate) fn commit(
           request = ready.copy;
           reply = reply_to (state_of tables.old queue.old) ready.copy;
         } ∷ [] }
+    ensures reply { result ≡ reply_to (state_of tables.old queue.old) ready.copy }
 {
     let Ready { prepared, copy } = ready;
     let reply = finish(tables, queue, &copy, prepared);
+    let answer = reply;
     journal.append(Entry {
         terminal,
         number,
         request: copy,
         reply,
     });
+    answer
 }

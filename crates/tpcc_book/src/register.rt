@@ -1,7 +1,6 @@
 //! The register: the rows of an opening, and the journal that they are the replay of.
 ghost use Rattle.std.specs.Prelude.{◌≡◌, Some, None, IfOk, IfErr, OnOk, length};
 ghost use Rattle.tpcc_book.specs.Past.{IsKept, Rises, opening_past, rise_of};
-ghost use Rattle.tpcc_rows.specs.Turn.{reply_to};
 ghost use Rattle.tpcc_book.specs.Turn.{IsTurn, TakesTurn, MakesTurn, Accepts, Refuses};
 
 use crate::outcome::Turned;
@@ -14,7 +13,7 @@ use tpcc_journal::Journal;
 use tpcc_laws::laws;
 use tpcc_money::{Cents, NoMemory};
 use tpcc_population::{Opening, fill, opening_is_sound};
-use tpcc_rows::{Refusal, Request};
+use tpcc_rows::{Refusal, Reply, Request};
 use tpcc_tables::Tables;
 
 /// Tables, queue and journal of one opening. Whenever it can be seen, its rows satisfy the
@@ -156,17 +155,11 @@ impl Register {
         ensures turn { IsTurn self.old terminal number request result self.new }
     {
         match self.try_turn(&request, terminal, number) {
-            Ok(()) => {
-                let place = self.journal.len() - 1;
-                let Some(entry) = self.journal.entry(place) else {
-                    unreachable!()
-                };
-                Turned {
-                    request,
-                    outcome: Ok(entry.reply),
-                    place: Some(place as u64),
-                }
-            }
+            Ok(reply) => Turned {
+                request,
+                outcome: Ok(reply),
+                place: Some((self.journal.len() - 1) as u64),
+            },
             Err(refusal) => Turned {
                 request,
                 outcome: Err(refusal),
@@ -175,12 +168,11 @@ impl Register {
         }
     }
 
-    // Makes the turn and its entry, or tells why not.
-    fn try_turn(&mut self, request: &Request, terminal: u32, number: u64) -> Result<(), Refusal>
-        ensures ok { OnOk result
+    // Makes the turn and its entry, and gives the reply, or tells why not.
+    fn try_turn(&mut self, request: &Request, terminal: u32, number: u64) -> Result<Reply, Refusal>
+        ensures ok { IfOk result
             (Accepts self.old terminal number request.now
-            (Some (length self.old.entries)) self.new
-            (reply_to self.old.state request.now)) }
+            (Some (length self.old.entries)) self.new) }
         ensures err { IfErr result (λ e.
             Refuses self.old terminal number request.now None self.new e) }
     {
@@ -192,7 +184,7 @@ impl Register {
             terminal,
             number,
         )?;
-        commit(
+        let reply = commit(
             &mut self.tables,
             &mut self.queue,
             &mut self.journal,
@@ -204,6 +196,6 @@ impl Register {
         laws::turn_keeps();
         laws::turn_pays();
         laws::journal_grows();
-        Ok(())
+        Ok(reply)
     }
 }

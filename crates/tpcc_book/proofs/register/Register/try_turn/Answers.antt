@@ -12,9 +12,9 @@ invariant_of-self-2 c =
     let entries = c.self.inside.journal.entries in
     let same = same-state c.make_ready.new.tables.rows c.self.inside.tables.rows c.make_ready.new.queue.tickets c.self.inside.queue.tickets c.make_ready.ensures.rows c.make_ready.ensures.tickets in
     let together =
-    turn_is_made c.self.inside.opening state (state_of c.make_ready.new.tables c.make_ready.new.queue) (state_of c.commit.new.tables c.commit.new.queue)
-    entries c.make_ready.new.journal.entries c.commit.new.journal.entries c.args.terminal c.args.number c.args.request.now c.in_ok-ready.ready.copy
-    same c.make_ready.ensures.entries c.in_ok-ready.ensures.copy c.commit.ensures.state c.commit.ensures.entries in
+    turn_is_made c.self.inside.opening state (state_of c.make_ready.new.tables c.make_ready.new.queue) (state_of c.commit-reply.new.tables c.commit-reply.new.queue)
+    entries c.make_ready.new.journal.entries c.commit-reply.new.journal.entries c.args.terminal c.args.number c.args.request.now c.in_ok-ready.ready.copy
+    same c.make_ready.ensures.entries c.in_ok-ready.ensures.copy c.commit-reply.ensures.state c.commit-reply.ensures.entries in
     let kept =
     subst IsKept (sym together)
     (after-kept keeps pays (record { opening = c.self.inside.opening; state = state; entries = entries }) c.args.terminal c.args.number c.args.request.now
