@@ -9,7 +9,7 @@ ghost use Rattle.tpcc_book.specs.Turn.{journal_refusal, turn_refusal};
 use crate::halves::{Prepared, finish, prepare};
 use tpcc_delivery::Queue;
 use tpcc_journal::Journal;
-use tpcc_rows::{Entry, Refusal, Reply, Request};
+use tpcc_rows::{Refusal, Reply, Request};
 use tpcc_tables::Tables;
 
 /// How many entries a journal has at most.
@@ -136,12 +136,6 @@ pub(crate) fn commit(
 {
     let Ready { prepared, copy } = ready;
     let reply = finish(tables, queue, &copy, prepared);
-    let answer = reply;
-    journal.append(Entry {
-        terminal,
-        number,
-        request: copy,
-        reply,
-    });
-    answer
+    journal.append(terminal, number, copy, &reply);
+    reply
 }

@@ -8,7 +8,7 @@ use crate::tallies::{Tally, add_one, tally_of};
 use std::alloc::Global;
 use std::marker::Model;
 use tpcc_money::NoMemory;
-use tpcc_rows::{Entry, Reply, Request};
+use tpcc_rows::{Reply, Request};
 
 /// An entry as it is lent: the request where it stands, and a copy of the reply.
 #[derive(Drop)]
@@ -102,17 +102,14 @@ impl Journal {
         Ok(())
     }
 
-    /// Appends an entry, for which there is room; takes no memory.
-    pub fn append(&mut self, entry: Entry)
+    /// Appends an entry, for which there is room; takes no memory. The reply is lent, so that only what is kept of it is copied.
+    pub fn append(&mut self, terminal: u32, number: u64, request: Request, reply: &Reply)
         requires room { 0 < self.old.room }
-        ensures appended { self.new.entries ≡ self.old.entries ++ entry ∷ [] }
+        ensures appended { self.new.entries
+            ≡ self.old.entries
+            ++ record { terminal = terminal; number = number; request = request; reply = reply.now }
+            ∷ [] }
     {
-        let Entry {
-            terminal,
-            number,
-            request,
-            reply,
-        } = entry;
         add_one(&mut self.tallies, terminal);
         let reply = self.replies.keep(reply);
         self.entries.push_reserved(KeptEntry {

@@ -108,29 +108,29 @@ impl Replies {
     }
 
     /// Keeps a reply, for which there is room; the others stay.
-    pub(crate) fn keep(&mut self, reply: Reply) -> KeptReply
+    pub(crate) fn keep(&mut self, reply: &Reply) -> KeptReply
         requires room { 0 < self.old.room }
         ensures there { is_in self.new.kinds result ≡ true }
-        ensures reply { reply_in self.new.kinds result ≡ reply }
+        ensures reply { reply_in self.new.kinds result ≡ reply.now }
         ensures others { Keeps self.old.kinds self.new.kinds }
     {
         match reply {
             Reply::Entered(Entered::Accepted(order)) => {
-                self.orders.push_reserved(order);
+                self.orders.push_reserved(*order);
                 KeptReply::Accepted(self.orders.len() - 1)
             }
-            Reply::Entered(Entered::RolledBack(order)) => KeptReply::RolledBack(order),
+            Reply::Entered(Entered::RolledBack(order)) => KeptReply::RolledBack(*order),
             Reply::Paid(paid) => {
-                self.payments.push_reserved(paid);
+                self.payments.push_reserved(*paid);
                 KeptReply::Paid(self.payments.len() - 1)
             }
             Reply::Status(status) => {
-                self.statuses.push_reserved(status);
+                self.statuses.push_reserved(*status);
                 KeptReply::Status(self.statuses.len() - 1)
             }
-            Reply::Level(level) => KeptReply::Level(level),
-            Reply::Queued(ticket) => KeptReply::Queued(ticket),
-            Reply::Delivery(delivery) => KeptReply::Delivery(delivery),
+            Reply::Level(level) => KeptReply::Level(*level),
+            Reply::Queued(ticket) => KeptReply::Queued(*ticket),
+            Reply::Delivery(delivery) => KeptReply::Delivery(*delivery),
         }
     }
 }

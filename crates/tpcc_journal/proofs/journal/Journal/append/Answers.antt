@@ -13,12 +13,12 @@ invariant_of-self c =
     let old = c.self.inside.replies.kinds in
     let new = c.keep-reply.new.self.kinds in
     let es = c.self.inside.entries.items in
-    let e : KeptEntry = record { terminal = c.args.entry.terminal; number = c.args.entry.number; request = c.args.entry.request; reply = c.keep-reply.result } in
+    let e : KeptEntry = record { terminal = c.args.terminal; number = c.args.number; request = c.args.request; reply = c.keep-reply.result } in
     let more = ap (map (entry_in new)) c.push_reserved.ensures.items ∙ entries_more old new es e c.keep-reply.ensures.others c.self.invariant.there in
     record {
       there = ap (list_all (λ x. is_in new x.reply)) c.push_reserved.ensures.items ∙ there_more old new es e c.keep-reply.ensures.others c.self.invariant.there c.keep-reply.ensures.there;
       counted = λ t. c.add_one.ensures.counted t
-          ∙ ap (λ n. n + (if t == c.args.entry.terminal then 1 else 0)) (c.self.invariant.counted t)
+          ∙ ap (λ n. n + (if t == c.args.terminal then 1 else 0)) (c.self.invariant.counted t)
           ∙ sym (ap (count_of t) more ∙ count_more t (map (entry_in old) es) (entry_in new e));
     }
 
@@ -27,9 +27,9 @@ returns c =
     let old = c.self.inside.replies.kinds in
     let new = c.keep-reply.new.self.kinds in
     let es = c.self.inside.entries.items in
-    let e : KeptEntry = record { terminal = c.args.entry.terminal; number = c.args.entry.number; request = c.args.entry.request; reply = c.keep-reply.result } in
+    let e : KeptEntry = record { terminal = c.args.terminal; number = c.args.number; request = c.args.request; reply = c.keep-reply.result } in
     record {
       appended = ap (map (entry_in new)) c.push_reserved.ensures.items
           ∙ entries_more old new es e c.keep-reply.ensures.others c.self.invariant.there
-          ∙ (λ i. ap (λ (l : Log). l.entries) c.self.view_is i ++ record { terminal = c.args.entry.terminal; number = c.args.entry.number; request = c.args.entry.request; reply = c.keep-reply.ensures.reply i } ∷ []);
+          ∙ (λ i. ap (λ (l : Log). l.entries) c.self.view_is i ++ record { terminal = c.args.terminal; number = c.args.number; request = c.args.request; reply = c.keep-reply.ensures.reply i } ∷ []);
     }

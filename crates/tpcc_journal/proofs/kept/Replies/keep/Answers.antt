@@ -1,4 +1,4 @@
-use Rattle.std.proofs.Common.{rules, ◌∙◌, ◌++◌, ◌∷◌, [], ap, sym}
+use Rattle.std.proofs.Common.{rules, ◌≡◌, ◌∙◌, ◌++◌, ◌∷◌, [], ap, sym}
 use Rattle.tpcc_rows.specs.declared.replies.Reply.TheVariants as tell
 use Rattle.tpcc_rows.specs.declared.replies.Entered.TheVariants as entered
 use Rattle.tpcc_journal.specs.Kept.{Shelf}
@@ -6,7 +6,7 @@ use Rattle.tpcc_journal.proofs.Shelves.{begins_longer, begins_same, keeps, last_
 use Rattle.tpcc_journal.proofs.kept.Replies.keep.Goals as goal
 
 pub returns-in-Entered-Accepted-clause-reply : goal.returns-in-Entered-Accepted-clause-reply
-returns-in-Entered-Accepted-clause-reply c = last_reply (λ order. tell.Entered (entered.Accepted order)) c.self.inside.orders.items c.push_reserved.new.self.items c.in-Entered-Accepted.order c.len.result c.push_reserved.ensures.items (search rules) ∙ cc
+returns-in-Entered-Accepted-clause-reply c = last_reply (λ order. tell.Entered (entered.Accepted order)) c.self.inside.orders.items c.push_reserved.new.self.items c.in-Entered-Accepted.order c.len.result c.push_reserved.ensures.items (search rules) ∙ (let f : c.in-Entered-Accepted.field-0 ≡ entered.Accepted c.in-Entered-Accepted.order = rw c.in-Entered-Accepted.is at c.in-Entered-Accepted.field-0-is in sym (c.in-Entered-Accepted.is ∙ ap tell.Entered f))
 
 pub returns-in-Entered-Accepted-clause-others : goal.returns-in-Entered-Accepted-clause-others
 returns-in-Entered-Accepted-clause-others c =
