@@ -3,12 +3,15 @@ ghost use Rattle.std.specs.Prelude.{◌≡◌, ◌<◌, ◌==◌, ◌++◌, ◌�
 ghost use Rattle.tpcc_rows.specs.Replay.{count_of};
 ghost use Rattle.tpcc_journal.specs.Kept.{entry_of};
 
-use crate::kept::{KeptEntry, Replies};
+use crate::kept::{KeptEntry, Replies, reserve_one};
 use crate::tallies::{Tally, add_one, tally_of};
 use std::alloc::Global;
 use std::marker::Model;
 use tpcc_money::NoMemory;
 use tpcc_rows::{Reply, Request};
+
+/// For how many entries there is room at first.
+const FIRST_ENTRIES: usize = 300_000;
 
 /// An entry as it is lent: the request where it stands, and a copy of the reply.
 #[derive(Drop)]
@@ -97,7 +100,7 @@ impl Journal {
         ensures room { OnOk result (0 < self.new.room) }
     {
         self.tallies.reserve(1)?;
-        self.entries.reserve(1)?;
+        reserve_one(&mut self.entries, FIRST_ENTRIES)?;
         self.replies.reserve()?;
         Ok(())
     }

@@ -1,5 +1,5 @@
 //! Entries as the journal keeps them: the long replies, which differ in length, stand by themselves, kind by kind.
-ghost use Rattle.std.specs.Prelude.{◌≡◌, ◌<◌, [], OnOk, true};
+ghost use Rattle.std.specs.Prelude.{◌≡◌, ◌<◌, [], OnOk, true, vec_len, vec_capacity};
 ghost use Rattle.tpcc_journal.specs.Kept.{is_in, reply_in, Keeps};
 
 use std::alloc::Global;
@@ -8,6 +8,24 @@ use tpcc_money::NoMemory;
 use tpcc_rows::{
     AcceptedOrder, Delivery, Entered, Level, Paid, Reply, Request, RolledBackOrder, Status, Ticket,
 };
+
+/// For how many orders there is room at first. So much, and as much of payments and entries, is over 32 MB: the allocator maps it by itself
+/// and lets it grow where it stands. What is not used yet takes no memory of the machine.
+const FIRST_ORDERS: usize = 32_768;
+
+/// For how many payments there is room at first.
+const FIRST_PAYMENTS: usize = 65_536;
+
+/// Makes room for one more; at first for so many.
+pub(crate) fn reserve_one<T>(rows: &mut Vec<T>, first: usize) -> Result<(), NoMemory>
+    requires some { 0 < first }
+    ensures same { rows.new.items ≡ rows.old.items }
+    ensures room { OnOk result (vec_len rows.new < vec_capacity rows.new) }
+{
+    let more = if rows.capacity() == 0 { first } else { 1 };
+    rows.reserve(more)?;
+    Ok(())
+}
 
 /// A reply, or where it stands among those of its kind.
 #[derive(Clone, Copy)]
@@ -101,9 +119,9 @@ impl Replies {
         ensures same { self.new.kinds ≡ self.old.kinds }
         ensures room { OnOk result (0 < self.new.room) }
     {
-        self.orders.reserve(1)?;
-        self.payments.reserve(1)?;
-        self.statuses.reserve(1)?;
+        reserve_one(&mut self.orders, FIRST_ORDERS)?;
+        reserve_one(&mut self.payments, FIRST_PAYMENTS)?;
+        reserve_one(&mut self.statuses, 1)?;
         Ok(())
     }
 
