@@ -1,6 +1,9 @@
-use Rattle.std.proofs.Common.{None, refl, arith}
+use Rattle.std.proofs.Common.{rules, None, refl, arith}
 use Rattle.tpcc_terminal.proofs.Districts.{one_more}
 use Rattle.tpcc_terminal.proofs.delivery.put_district_lines.Goals as goal
+
+pub loop-order-init : goal.loop-order-init
+loop-order-init c = search rules
 
 pub loop-order-preserved : goal.loop-order-preserved
 loop-order-preserved c = record {
