@@ -4,11 +4,11 @@ use thiserror::Error;
 use tpcc_money::NoMemory;
 
 /// The writer failed, took nothing, or was interrupted 1,001 times in a row.
-#[derive(Clone, Copy, Debug, PartialEq, Eq)]
+#[derive(Clone, Copy)]
 pub struct Unwritten;
 
 /// Why a dump ended early; a first part of its text is written. The text is the program's line on standard error.
-#[derive(Clone, Copy, Debug, PartialEq, Eq, Error)]
+#[derive(Clone, Copy, Debug, Error)]
 pub enum DumpFault {
     /// The writer failed, took nothing, or was interrupted 1,001 times in a row.
     #[error("fault 1 Write")]

@@ -8,7 +8,7 @@ use thiserror::Error;
 use tpcc_terminal::Report;
 
 /// Why a report was not written whole. The text is the program's line on standard error.
-#[derive(Clone, Copy, Debug, PartialEq, Eq, Error)]
+#[derive(Clone, Copy, Debug, Error)]
 pub enum ReportFault {
     /// The writer failed or took nothing.
     #[error("fault 1 Write")]

@@ -10,7 +10,7 @@ use tpcc_book::{Book, Naming, SeatedPurse, Seating, Turns};
 use tpcc_terminal::{Receipt, Report, receipts_stay};
 
 /// Why a book was not settled.
-#[derive(Clone, Copy, Debug, PartialEq, Eq, Error)]
+#[derive(Clone, Copy, Debug, Error)]
 pub enum Unsettled {
     /// The purses are not all there: their number and their rooms do not add up to 10,001.
     #[error("fault 1 Missing")]

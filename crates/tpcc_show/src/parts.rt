@@ -9,7 +9,7 @@ use tpcc_audit::{table_name, table_named};
 use tpcc_rows::{Blank, Few, Table};
 
 /// What is shown of a book.
-#[derive(Clone, Copy, Debug, PartialEq, Eq)]
+#[derive(Clone, Copy, PartialEq, Eq)]
 pub enum Part {
     /// The screens of the journal's entries, in its order.
     Screens,

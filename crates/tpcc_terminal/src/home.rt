@@ -5,7 +5,7 @@ ghost use Rattle.tpcc_terminal.specs.Cards.{home_of};
 use tpcc_population::Scale;
 
 /// A terminal's own warehouse (2.4.1.1) and district (2.8.1.1), and the scale that it draws rows of.
-#[derive(Clone, Copy, Debug)]
+#[derive(Clone, Copy)]
 pub struct Home {
     /// W_ID, from 1 on.
     pub warehouse: u32,

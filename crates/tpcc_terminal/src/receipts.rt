@@ -9,7 +9,7 @@ use tpcc_money::NoMemory;
 use tpcc_rows::{Reply, Request};
 
 /// What a terminal keeps of an accepted request, to be settled with the journal at the end.
-#[derive(Drop, PartialEq, Eq)]
+#[derive(Drop)]
 pub struct Receipt {
     /// The terminal of the purse that was handed in.
     pub terminal: u32,

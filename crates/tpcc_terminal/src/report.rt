@@ -5,7 +5,7 @@ use tpcc_money::Cents;
 
 /// What a run adds up to: the journal's entries, the payments in the terminals' purses and the
 /// rise of W_YTD over all warehouses. Its text is three lines.
-#[derive(Clone, Copy, Debug, PartialEq, Eq)]
+#[derive(Clone, Copy)]
 pub struct Report {
     /// How many entries the journal has.
     pub entries: u64,
