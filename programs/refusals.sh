@@ -1,14 +1,14 @@
 #!/usr/bin/env bash
-# Each allocation refused in turn under the tests of tpcc_memory_tests, each of which makes a call, looks that a refused one has changed
-# nothing, and makes it again. Prints test by test how many allocations were refused within its call; those before it end the test, and say
+# Each allocation refused in turn under the tests of refused.rt in tpcc_tests, each of which makes a call, looks that a refused one has
+# changed nothing, and makes it again. Prints test by test how many allocations were refused within its call; those before it end the test, and say
 # so. Stops at the first that differs.
 #
-# TESTS is the program of tests (crates/tpcc_memory_tests/out/tpcc_memory_tests_tests), which `rt ci` leaves; STEP (1) tries each STEP-th
+# TESTS is the program of tests (crates/tpcc_tests/out/tpcc_tests_tests), which `rt ci` leaves; STEP (1) tries each STEP-th
 # allocation alone.
 set -u -o pipefail
 top=$(cd "$(dirname "$0")/.." && pwd)
-tests=$(realpath "${TESTS:-$top/crates/tpcc_memory_tests/out/tpcc_memory_tests_tests}")
-[ -x "$tests" ] || { echo "refusals: there is no program at $tests; (cd crates/tpcc_memory_tests && rt test) builds it"; exit 1; }
+tests=$(realpath "${TESTS:-$top/crates/tpcc_tests/out/tpcc_tests_tests}")
+[ -x "$tests" ] || { echo "refusals: there is no program at $tests; (cd crates/tpcc_tests && rt test) builds it"; exit 1; }
 scratch=$(mktemp -d)
 trap 'rm -rf "$scratch"' EXIT
 trap 'exit 1' INT TERM
@@ -33,7 +33,7 @@ tried() {
 
 begun=$SECONDS
 all=0
-for name in $("$tests" --list | sed -n 's/: test$//p'); do
+for name in $("$tests" --list | sed -n '/^refused::/s/: test$//p'); do
     within=0
     for ((call = 1; ; call += ${STEP:-1})); do
         tried "$name" "$call" 2> /dev/null

@@ -9,7 +9,7 @@ mod reposts;
 mod rounds;
 
 use gates::hold_up_first;
-use left::{ask_closed_mailboxes, collect_no_answer};
+use left::ask_closed_mailboxes;
 use reposts::close_meanwhile;
 use rounds::serve_to_limits;
 use std::alloc::Global;
@@ -23,13 +23,12 @@ use tpcc_book::{Blanks, Naming, Register, SeatedPurse, Seating, Turned, Turns, U
 use tpcc_money::{Cents, Moment};
 use tpcc_population::{Opening, Scale};
 use tpcc_rows::{Payment, Request, Who};
-use tpcc_server::{Job, JobIdle, JobMailboxes, JobServing, JobWaiting, OneTurn};
+use tpcc_server::{Job, JobAnswer, JobIdle, JobMailboxes, JobServing, JobWaiting, OneTurn};
 
 /// What happens at the turns of a new book.
 #[derive(Clone, Copy)]
 enum Story {
     AskedInVain,
-    NotCollected,
     Limited,
     HeldUp,
     ClosedMeanwhile,
@@ -91,14 +90,10 @@ fn happens<
     let (keeper, other) = keepers;
     match story {
         Story::AskedInVain => {
-            let_go((keeper, other));
-            ask_closed_mailboxes(rt, alloc, one, two)
+            let_go((two, keeper, other));
+            ask_closed_mailboxes(rt, alloc, one)
         }
         Story::HeldUp => hold_up_first(rt, alloc, turns, one, two, keeper, other),
-        Story::NotCollected => {
-            let_go((other, two));
-            collect_no_answer(rt, alloc, turns, one, keeper)
-        }
         Story::Limited => {
             let_go(other);
             serve_to_limits(rt, alloc, turns, one, two, keeper)
@@ -142,7 +137,8 @@ fn payment() -> Request {
     })
 }
 
-fn let_go<X: Drop>(_value: X) {}
+/// Lets a value go, in one place for all of its type.
+pub fn let_go<X: Drop>(_value: X) {}
 
 /// The token of the last client of these. The mailboxes are lent for the clauses alone, which name their identity.
 fn last_of<N: Naming, T: Seating, C, R: Abort>(
@@ -193,7 +189,58 @@ fn post<N: Naming, T: Seating, C: OneTurn>(
     mailboxes.post(idle, Job::of(payment(), purse, call))
 }
 
-/// The answer is there, and its purse has one entry.
+/// Three mailboxes, with payments in the first and in the last one, and a server.
+#[derive(Drop)]
+struct Opened<N: Naming, T: Seating, C> {
+    mailboxes: JobMailboxes<N, T, C>,
+    first: JobWaiting<N, T, C>,
+    last: JobWaiting<N, T, C>,
+    serving: JobServing<N, T, C>,
+    ghost first_origin: { waiting_origin first ≡ identity mailboxes },
+    ghost last_origin: { waiting_origin last ≡ identity mailboxes },
+    ghost origin: { serving_origin serving ≡ identity mailboxes },
+    ghost hand: { serving_hand serving ≡ None },
+}
+
+fn open<N: Naming, T: Seating, C: OneTurn, R: Abort>(
+    rt: &R,
+    alloc: Global,
+    one: SeatedPurse<N, T>,
+    two: SeatedPurse<N, T>,
+    calls: (C, C),
+) -> Opened<N, T, C> {
+    let opened = JobMailboxes::<N, T, C>::new(alloc, 3);
+    let (mailboxes, mut idles, serving) = opened.expect(rt, "memory for three mailboxes");
+    let last = last_of(rt, &mut idles, &mailboxes);
+    let_go(last_of(rt, &mut idles, &mailboxes));
+    let first = last_of(rt, &mut idles, &mailboxes);
+    let_go(idles);
+    let (call, other) = calls;
+    let first = post(&mailboxes, first, one, call);
+    let last = post(&mailboxes, last, two, other);
+    Opened {
+        mailboxes,
+        first,
+        last,
+        serving,
+    }
+}
+
+/// Both answers are there, and each purse has one entry.
+fn are_paid<N: Naming, T: Seating, C: Drop, R: Abort>(
+    rt: &R,
+    mailboxes: JobMailboxes<N, T, C>,
+    first: JobWaiting<N, T, C>,
+    last: JobWaiting<N, T, C>,
+)
+    requires first { waiting_origin first ≡ identity mailboxes }
+    requires last { waiting_origin last ≡ identity mailboxes }
+{
+    is_paid(rt, &mailboxes, first);
+    is_paid(rt, &mailboxes, last);
+    let_go(mailboxes)
+}
+
 fn is_paid<N: Naming, T: Seating, C: Drop, R: Abort>(
     rt: &R,
     mailboxes: &JobMailboxes<N, T, C>,
@@ -204,8 +251,13 @@ fn is_paid<N: Naming, T: Seating, C: Drop, R: Abort>(
     let collected = mailboxes.collect(waiting).ok();
     let (idle, answer) = collected.expect(rt, "a job was not answered");
     let_go(idle);
-    let purse = answer.purse();
-    let seen = (purse.entries(), purse.paid());
+    let seen = paid_by(&answer);
     let_go(answer);
     assert!(rt; seen == (1, Cents::new(100)));
+}
+
+/// The entries and cents of an answer's purse.
+fn paid_by<N: Naming, T: Seating>(answer: &JobAnswer<N, T>) -> (u64, Cents) {
+    let purse = answer.purse();
+    (purse.entries(), purse.paid())
 }

@@ -11,53 +11,70 @@ fn is_printed(rt: &(impl Abort + AllocGlobal), value: impl Display + Drop, expec
     assert!(rt; text.as_str() == expected, "{expected}");
 }
 
+/// Each value's text is the one beside it.
+fn are_printed<T: Display + Copy + Drop>(rt: &(impl Abort + AllocGlobal), values: &[(T, &str)]) {
+    for (value, expected) in values {
+        is_printed(rt, *value, expected);
+    }
+}
+
 #[test]
 fn amounts_and_rates_print_their_decimals(rt: HostRuntime) {
-    is_printed(&rt, Cents::new(5), "0.05");
-    is_printed(&rt, Cents::new(-5), "-0.05");
-    is_printed(&rt, Cents::new(i64::MIN), "-92233720368547758.08");
-    is_printed(&rt, Rate::new(1), "0.0001");
-    is_printed(&rt, Rate::new(9999), "0.9999");
+    let amounts = [
+        (Cents::new(5), "0.05"),
+        (Cents::new(-5), "-0.05"),
+        (Cents::new(i64::MIN), "-92233720368547758.08"),
+    ];
+    are_printed(&rt, &amounts);
+    are_printed(
+        &rt,
+        &[(Rate::new(1), "0.0001"), (Rate::new(9999), "0.9999")],
+    );
 }
 
 #[test]
-fn faults_and_refusals_print_their_lines(rt: HostRuntime) {
-    is_printed(&rt, AmountFault::Shape, "Shape");
-    is_printed(&rt, AmountFault::Range, "Range");
-    is_printed(&rt, TextFault::TooLong, "TooLong");
-    is_printed(&rt, Refusal::Stranger(3), "Stranger 3");
-    is_printed(&rt, Refusal::Count(Field::StockOrders), "Count StockOrders");
+fn faults_print_their_names(rt: HostRuntime) {
+    are_printed(
+        &rt,
+        &[(AmountFault::Shape, "Shape"), (AmountFault::Range, "Range")],
+    );
+    are_printed(&rt, &[(TextFault::TooLong, "TooLong")]);
 }
 
-// The names of docs/formats.md.
+// Those of docs/formats.md and of docs/model.md.
 #[test]
-fn each_field_prints_its_own_name(rt: HostRuntime) {
-    is_printed(&rt, Field::PaymentCount, "PaymentCount");
-    is_printed(&rt, Field::DeliveryCount, "DeliveryCount");
-    is_printed(&rt, Field::StockOrders, "StockOrders");
-    is_printed(&rt, Field::RemoteOrders, "RemoteOrders");
-    is_printed(&rt, Field::WarehouseYtd, "WarehouseYtd");
-    is_printed(&rt, Field::DistrictYtd, "DistrictYtd");
-    is_printed(&rt, Field::Balance, "Balance");
-    is_printed(&rt, Field::YtdPayment, "YtdPayment");
-    is_printed(&rt, Field::StockYtd, "StockYtd");
+fn each_field_and_each_refusal_prints_its_own_name(rt: HostRuntime) {
+    are_printed(&rt, &FIELDS);
+    are_printed(&rt, &REFUSALS);
 }
 
-// Those of docs/model.md.
-#[test]
-fn each_refusal_prints_its_own_name(rt: HostRuntime) {
-    is_printed(&rt, Refusal::NoWarehouse, "NoWarehouse");
-    is_printed(&rt, Refusal::NoDistrict, "NoDistrict");
-    is_printed(&rt, Refusal::NoCustomer, "NoCustomer");
-    is_printed(&rt, Refusal::LineCount, "LineCount");
-    is_printed(&rt, Refusal::Quantity, "Quantity");
-    is_printed(&rt, Refusal::NoSupply, "NoSupply");
-    is_printed(&rt, Refusal::Amount, "Amount");
-    is_printed(&rt, Refusal::Carrier, "Carrier");
-    is_printed(&rt, Refusal::Threshold, "Threshold");
-    is_printed(&rt, Refusal::JournalFull, "JournalFull");
-    is_printed(&rt, Refusal::QueueFull, "QueueFull");
-    is_printed(&rt, Refusal::OrderNumbers, "OrderNumbers");
-    is_printed(&rt, Refusal::Total(Field::YtdPayment), "Total YtdPayment");
-    is_printed(&rt, Refusal::NoMemory, "NoMemory");
-}
+const FIELDS: [(Field, &str); 9] = [
+    (Field::PaymentCount, "PaymentCount"),
+    (Field::DeliveryCount, "DeliveryCount"),
+    (Field::StockOrders, "StockOrders"),
+    (Field::RemoteOrders, "RemoteOrders"),
+    (Field::WarehouseYtd, "WarehouseYtd"),
+    (Field::DistrictYtd, "DistrictYtd"),
+    (Field::Balance, "Balance"),
+    (Field::YtdPayment, "YtdPayment"),
+    (Field::StockYtd, "StockYtd"),
+];
+
+const REFUSALS: [(Refusal, &str); 16] = [
+    (Refusal::NoWarehouse, "NoWarehouse"),
+    (Refusal::NoDistrict, "NoDistrict"),
+    (Refusal::NoCustomer, "NoCustomer"),
+    (Refusal::LineCount, "LineCount"),
+    (Refusal::Quantity, "Quantity"),
+    (Refusal::NoSupply, "NoSupply"),
+    (Refusal::Amount, "Amount"),
+    (Refusal::Carrier, "Carrier"),
+    (Refusal::Threshold, "Threshold"),
+    (Refusal::Stranger(3), "Stranger 3"),
+    (Refusal::JournalFull, "JournalFull"),
+    (Refusal::QueueFull, "QueueFull"),
+    (Refusal::OrderNumbers, "OrderNumbers"),
+    (Refusal::Count(Field::StockOrders), "Count StockOrders"),
+    (Refusal::Total(Field::YtdPayment), "Total YtdPayment"),
+    (Refusal::NoMemory, "NoMemory"),
+];

@@ -3,7 +3,7 @@ ghost use Rattle.std.specs.Prelude.{◌≡◌, None};
 ghost use Rattle.std.specs.Thread.{IsSync};
 ghost use Rattle.tpcc_mailbox.specs.Tokens.{identity, serving_origin, serving_hand};
 
-use super::{Story, is_paid, last_of, let_go, post, tell};
+use super::{Opened, Story, are_paid, let_go, open, tell};
 use crate::plain_turn::PlainTurn;
 use std::alloc::Global;
 use std::process::Abort;
@@ -65,19 +65,16 @@ pub(super) fn hold_up_first<
     keeper: SeatedPurse<N, T>,
     stand_in: SeatedPurse<N, T>,
 ) {
-    let opened = JobMailboxes::<N, T, PlainTurn>::new(alloc, 2);
-    let (mailboxes, mut idles, mut serving) = opened.expect(rt, "memory for two mailboxes");
-    let last = last_of(rt, &mut idles, &mailboxes);
-    let first = last_of(rt, &mut idles, &mailboxes);
-    let_go(idles);
-    let first = post(&mailboxes, first, one, PlainTurn);
-    let last = post(&mailboxes, last, two, PlainTurn);
+    let Opened {
+        mailboxes,
+        first,
+        last,
+        mut serving,
+    } = open(rt, alloc, one, two, (PlainTurn, PlainTurn));
     mailboxes.close(&mut serving);
     let other = serving.split(&mailboxes);
     both_serve(rt, &mailboxes, turns, serving, other, keeper, stand_in);
-    is_paid(rt, &mailboxes, first);
-    is_paid(rt, &mailboxes, last);
-    let_go(mailboxes)
+    are_paid(rt, mailboxes, first, last)
 }
 
 /// Each server answers one job, since the gate's limit isn't met.

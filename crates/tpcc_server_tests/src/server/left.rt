@@ -1,19 +1,15 @@
-//! Jobs that are left in mailboxes: one that nobody served, and one whose answer nobody collected.
-ghost use Rattle.std.specs.Prelude.{◌≡◌};
+//! A job that is left in closed mailboxes.
+ghost use Rattle.std.specs.Prelude.{◌≡◌, [], ◌∷◌};
 ghost use Rattle.tpcc_mailbox.specs.Tokens.{identity, client_origin, idle_origin, waiting_origin, serving_origin};
 
-use super::{CountedTurn, One, Story, let_go, make_one, payment, post, tell};
+use super::{CountedTurn, One, Story, let_go, make_one, payment, tell};
 use std::alloc::Global;
 use std::process::Abort;
 use std::sync::Wait;
 use std::sync::atomic::{AtomicU64, Ordering};
-use tpcc_book::{Naming, SeatedPurse, Seating, Turns};
+use tpcc_book::{Naming, SeatedPurse, Seating};
 use tpcc_mailbox::{Client, Left};
-use tpcc_rows::Request;
-use tpcc_server::{
-    Job, JobAnswer, JobIdle, JobMailboxes, JobServing, JobWaiting, OneTurn, OpenGate, ask,
-    serve_round,
-};
+use tpcc_server::{Job, JobAnswer, JobIdle, JobMailboxes, JobServing, JobWaiting, OneTurn, ask};
 
 #[test]
 fn a_job_at_closed_mailboxes_is_given_back_uncalled(rt: HostRuntime) {
@@ -24,20 +20,19 @@ pub(super) fn ask_closed_mailboxes<N: Naming, T: Seating, R: Wait + Abort>(
     rt: &R,
     alloc: Global,
     one: SeatedPurse<N, T>,
-    two: SeatedPurse<N, T>,
 ) {
-    let_go(two);
     let made = AtomicU64::new(0);
     let job = Job::of(payment(), one, CountedTurn { made: &made });
-    let (request, purse) = no_answer(rt, alloc, job).give_back();
-    let seen = (is_payment(&request), purse.entries());
-    let_go(request);
-    let_go(purse);
+    let seen = given_back(no_answer(rt, alloc, job));
     assert!(rt; seen == (true, 0) && made.load(Ordering::SeqCst) == 0);
 }
 
-fn is_payment(request: &Request) -> bool {
-    *request == payment()
+/// Whether the payment comes back, and the entries of its purse.
+fn given_back<N: Naming, T: Seating, C: OneTurn>(job: Job<N, T, C>) -> (bool, u64) {
+    let (request, purse) = job.give_back();
+    let seen = (request == payment(), purse.entries());
+    let_go(purse);
+    seen
 }
 
 /// Closes new mailboxes, asks the job there, and reclaims it.
@@ -65,26 +60,20 @@ fn ask_in_vain<N: Naming, T: Seating, C: Drop, R: Wait + Abort>(
     requires { idle_origin idle ≡ identity mailboxes.now }
     ensures { waiting_origin result ≡ identity mailboxes.now }
 {
-    let Err(waiting) = ask(rt, mailboxes, idle, job) else {
-        panic!(rt; "no server was there")
-    };
-    waiting
+    ask(rt, mailboxes, idle, job)
+        .err()
+        .expect(rt, "no server is there")
 }
 
 /// The letter that was never taken.
 fn letter_of<J: Drop, A: Drop, R: Abort>(rt: &R, left: Left<J, A>) -> J {
-    let Left::Letter(letter) = left else {
-        panic!(rt; "the letter was not there")
-    };
-    letter
-}
-
-/// The answer that was never collected.
-fn reply_of<J: Drop, A: Drop, R: Abort>(rt: &R, left: Left<J, A>) -> A {
-    let Left::Reply(reply) = left else {
-        panic!(rt; "the answer was not there")
-    };
-    reply
+    match left {
+        Left::Letter(letter) => letter,
+        other => {
+            let_go(other);
+            panic!(rt; "the letter was not there")
+        }
+    }
 }
 
 type JobLeft<N, T, C> = Left<Job<N, T, C>, JobAnswer<N, T>>;
@@ -100,57 +89,23 @@ fn reclaim<N: Naming, T: Seating, C: Drop, R: Abort>(
     requires { (client_origin (Client.Waiting waiting) ≡ identity mailboxes)
         × (serving_origin serving ≡ identity mailboxes) }
 {
-    let mut clients = Vec::with_capacity(alloc, 1).expect(rt, "memory for a client");
-    clients.push_reserved(Client::Waiting(waiting));
-    let mut servings = Vec::with_capacity(alloc, 1).expect(rt, "memory for a server");
-    servings.push_reserved(serving);
+    let clients = only(rt, alloc, Client::Waiting(waiting));
+    let servings = only(rt, alloc, serving);
     let lefts = mailboxes.reclaim(clients, servings).ok();
     last_left(rt, lefts.expect(rt, "memory for what is left"))
+}
+
+/// A list of one.
+fn only<X, R: Abort>(rt: &R, alloc: Global, value: X) -> Vec<X>
+    ensures { result.items ≡ value ∷ [] }
+{
+    let mut values = Vec::with_capacity(alloc, 1).expect(rt, "memory for one");
+    values.push_reserved(value);
+    values
 }
 
 /// What is left for the last client.
 fn last_left<X: Drop, R: Abort>(rt: &R, lefts: Vec<X>) -> X {
     let mut lefts = lefts;
     lefts.pop().expect(rt, "there is one")
-}
-
-#[test]
-fn an_answer_is_reclaimed_whose_call_was_made_once(rt: HostRuntime) {
-    tell(&rt, rt.alloc(), Story::NotCollected)
-}
-
-pub(super) fn collect_no_answer<N: Naming, T: Seating, R: Wait + Abort>(
-    rt: &R,
-    alloc: Global,
-    turns: &Turns<N, T>,
-    one: SeatedPurse<N, T>,
-    keeper: SeatedPurse<N, T>,
-) {
-    let made = AtomicU64::new(0);
-    let call = CountedTurn { made: &made };
-    let (served, answer) = answer_left(rt, alloc, turns, one, keeper, call);
-    let place = answer.place();
-    let_go(answer);
-    assert!(rt; (served, place, made.load(Ordering::SeqCst)) == (1, Some(0), 1));
-}
-
-/// Serves a round, and takes the only job's answer out of the mailboxes that are taken apart.
-fn answer_left<N: Naming, T: Seating, C: OneTurn, R: Wait + Abort>(
-    rt: &R,
-    alloc: Global,
-    turns: &Turns<N, T>,
-    purse: SeatedPurse<N, T>,
-    keeper: SeatedPurse<N, T>,
-    call: C,
-) -> (u64, JobAnswer<N, T>) {
-    let One {
-        mailboxes,
-        idle,
-        mut serving,
-    } = make_one(rt, alloc);
-    let waiting = post(&mailboxes, idle, purse, call);
-    let (served, keeper) = serve_round(rt, &mailboxes, &mut serving, turns, &mut OpenGate, keeper);
-    let_go(keeper);
-    let left = reclaim(rt, alloc, mailboxes, waiting, serving);
-    (served, reply_of(rt, left))
 }

@@ -8,7 +8,7 @@ use std::alloc::Global;
 use std::process::Abort;
 use std::sync::Wait;
 use tpcc_book::{Naming, SeatedPurse, Seating, Turns};
-use tpcc_server::{Gate, JobMailboxes, JobServing, JobWaiting, serve_until_closed};
+use tpcc_server::{Gate, JobAnswer, JobMailboxes, JobServing, JobWaiting, serve_until_closed};
 
 /// A gate behind which the client of the first job posts again.
 #[derive(Drop)]
@@ -49,14 +49,17 @@ impl<'a, N: Naming, T: Seating> Reposter<'a, N, T> {
             waiting,
         } = self;
         let mut closer = closer;
-        let Ok((idle, answer)) = mailboxes.collect(waiting) else {
-            return;
-        };
-        let (_, _, _, purse) = answer.into_parts();
-        let_go(post(mailboxes, idle, purse, PlainTurn));
+        if let Some((idle, answer)) = mailboxes.collect(waiting).ok() {
+            let_go(post(mailboxes, idle, purse_of(answer), PlainTurn));
+        }
         mailboxes.close(&mut closer);
         let_go(closer)
     }
+}
+
+fn purse_of<N: Naming, T: Seating>(answer: JobAnswer<N, T>) -> SeatedPurse<N, T> {
+    let (_, _, _, purse) = answer.into_parts();
+    purse
 }
 
 #[test]

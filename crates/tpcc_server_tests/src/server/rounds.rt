@@ -1,16 +1,14 @@
 //! Rounds with limits on one thread: which jobs they find, how many, and when they pass a gate.
-ghost use Rattle.std.specs.Prelude.{◌≡◌, All, None};
-ghost use Rattle.tpcc_mailbox.specs.Tokens.{identity, idle_origin, waiting_origin, serving_origin, serving_hand};
+ghost use Rattle.std.specs.Prelude.{◌≡◌, None};
+ghost use Rattle.tpcc_mailbox.specs.Tokens.{identity, serving_origin, serving_hand};
 
-use super::{CountedTurn, Story, is_paid, last_of, let_go, post, tell};
+use super::{CountedTurn, Opened, Story, are_paid, let_go, open, tell};
 use std::alloc::Global;
 use std::process::Abort;
 use std::sync::Wait;
 use std::sync::atomic::{AtomicU64, Ordering};
 use tpcc_book::{Naming, SeatedPurse, Seating, Turns};
-use tpcc_server::{
-    Gate, JobIdle, JobMailboxes, JobServing, JobWaiting, OneTurn, serve_round, serve_until_closed,
-};
+use tpcc_server::{Gate, JobMailboxes, JobServing, OneTurn, serve_round, serve_until_closed};
 
 /// A gate that sees whether each job is turned between its two calls, in the order of the mailboxes.
 #[derive(Drop)]
@@ -65,37 +63,15 @@ pub(super) fn serve_to_limits<N: Naming, T: Seating, R: Wait + Abort>(
     keeper: SeatedPurse<N, T>,
 ) {
     let made = AtomicU64::new(0);
-    let opened = JobMailboxes::<N, T, CountedTurn>::new(alloc, 3);
-    let (mailboxes, idles, serving) = opened.expect(rt, "memory for three mailboxes");
-    let (first, last) = post_outer(rt, &mailboxes, idles, one, two, &made);
+    let calls = (CountedTurn { made: &made }, CountedTurn { made: &made });
+    let Opened {
+        mailboxes,
+        first,
+        last,
+        serving,
+    } = open(rt, alloc, one, two, calls);
     one_by_one(rt, &mailboxes, turns, serving, keeper, &made);
-    is_paid(rt, &mailboxes, first);
-    is_paid(rt, &mailboxes, last);
-    let_go(mailboxes)
-}
-
-/// Posts in the first and the last of three mailboxes.
-fn post_outer<'a, N: Naming, T: Seating, R: Abort>(
-    rt: &R,
-    mailboxes: &JobMailboxes<N, T, CountedTurn<'a>>,
-    idles: Vec<JobIdle<N, T, CountedTurn<'a>>>,
-    one: SeatedPurse<N, T>,
-    two: SeatedPurse<N, T>,
-    made: &'a AtomicU64,
-) -> (
-    JobWaiting<N, T, CountedTurn<'a>>,
-    JobWaiting<N, T, CountedTurn<'a>>,
-)
-    requires { All (λ x. idle_origin x ≡ identity mailboxes.now) idles.items }
-    ensures first { waiting_origin result.0 ≡ identity mailboxes.now }
-    ensures last { waiting_origin result.1 ≡ identity mailboxes.now }
-{
-    let mut idles = idles;
-    let last = last_of(rt, &mut idles, mailboxes);
-    let_go(last_of(rt, &mut idles, mailboxes));
-    let first = last_of(rt, &mut idles, mailboxes);
-    let first = post(mailboxes, first, one, CountedTurn { made });
-    (first, post(mailboxes, last, two, CountedTurn { made }))
+    are_paid(rt, mailboxes, first, last)
 }
 
 /// The limit 0 answers none, the limit 1 the first job, a round the last one, and another round none.

@@ -1,9 +1,0 @@
-//! Runs that are refused memory, and the progress of a run, by their public calls alone.
-#![tactic(auto)]
-
-#[cfg(test)]
-mod plain_turn;
-#[cfg(test)]
-mod program;
-#[cfg(test)]
-mod run;

@@ -1,0 +1,179 @@
+//! Desks of two terminals and two servers, step by step and as one run.
+ghost use Rattle.std.specs.Prelude.{◌≡◌};
+
+use crate::asked::{balance, let_go, opening, payment, status};
+use std::alloc::Global;
+use std::marker::Brand;
+use std::process::Abort;
+use tpcc_book::{Blanks, Naming};
+use tpcc_core::{CoreFault, Desk, Event};
+use tpcc_money::{Cents, NoMemory};
+
+/// What happens at a new desk of two terminals and two servers.
+#[derive(Clone, Copy)]
+pub enum Story {
+    Overtaking,
+    KeptLetter,
+    Post,
+}
+
+/// Tells a story of a desk whose book is named here.
+pub fn tell<R: Abort>(rt: &R, alloc: Global, story: Story) -> Result<(), NoMemory> {
+    at_a_desk::<Brand, R>(rt, alloc, Blanks::new(), story)
+}
+
+/// Tells it of a desk of the plain opening, with two terminals and two servers.
+fn at_a_desk<N: Naming, R: Abort>(
+    rt: &R,
+    alloc: Global,
+    blanks: Blanks,
+    story: Story,
+) -> Result<(), NoMemory>
+    requires entries { blanks.entries.name ≡ N.entries }
+    requires cents { blanks.cents.name ≡ N.cents }
+{
+    let mut desk = Desk::<N>::start(alloc, &opening(rt), 2, 2, blanks)?;
+    happens(rt, alloc, &mut desk, story);
+    let_go(desk);
+    Ok(())
+}
+
+/// The story itself.
+fn happens<N: Naming, R: Abort>(rt: &R, alloc: Global, desk: &mut Desk<N>, story: Story) {
+    match story {
+        Story::Overtaking => overtake(rt, alloc, desk),
+        Story::KeptLetter => kept_letter(rt, alloc, desk),
+        Story::Post => post(rt, desk),
+    }
+}
+
+/// One event more; the test ends where there is no memory for it.
+fn push<R: Abort>(rt: &R, events: &mut Vec<Event>, event: Event) {
+    events.push(event).expect(rt, "memory for an event")
+}
+
+/// Customer 1 pays 1.00 at a terminal.
+fn payment_at(terminal: u32) -> Event {
+    Event::Post {
+        terminal,
+        request: payment(100),
+    }
+}
+
+/// A server takes the letter of a terminal.
+fn push_take<R: Abort>(rt: &R, events: &mut Vec<Event>, server: u32, terminal: u32) {
+    push(rt, events, Event::Take { server, terminal });
+}
+
+/// The letter in a server's hand is served, and its terminal has the answer.
+fn push_turn<R: Abort>(rt: &R, events: &mut Vec<Event>, server: u32, terminal: u32) {
+    push(rt, events, Event::Serve { server });
+    push(rt, events, Event::Answer { server });
+    push(rt, events, Event::Collect { terminal });
+}
+
+/// Terminal 1 posts its payment before terminal 2 posts its query, which is served first; the second take isn't ready.
+fn overtake_events<R: Abort>(rt: &R, alloc: Global) -> Vec<Event> {
+    let mut events = Vec::new(alloc);
+    push(rt, &mut events, payment_at(1));
+    push(
+        rt,
+        &mut events,
+        Event::Post {
+            terminal: 2,
+            request: status(),
+        },
+    );
+    push_take(rt, &mut events, 1, 1);
+    push_take(rt, &mut events, 2, 1);
+    push_take(rt, &mut events, 2, 2);
+    push_turn(rt, &mut events, 2, 2);
+    push_turn(rt, &mut events, 1, 1);
+    events
+}
+
+/// Server 1 takes the letter of terminal 1 and keeps it, while server 2, which can't take it too, serves terminal 2 five
+/// times.
+fn kept_letter_events<R: Abort>(rt: &R, alloc: Global) -> Vec<Event> {
+    let mut events = Vec::new(alloc);
+    push(rt, &mut events, payment_at(1));
+    push_take(rt, &mut events, 1, 1);
+    push_take(rt, &mut events, 2, 1);
+    for _ in 0..5u32 {
+        push(rt, &mut events, payment_at(2));
+        push_take(rt, &mut events, 2, 2);
+        push_turn(rt, &mut events, 2, 2);
+    }
+    events
+}
+
+/// Each event is ready but the one at this place.
+fn step_all<N: Naming, R: Abort>(rt: &R, desk: &mut Desk<N>, events: Vec<Event>, refused: u32) {
+    let mut place = 0u32;
+    for event in events {
+        assert!(rt; desk.step(event).is_ok() == (place != refused));
+        place = place.saturating_add(1);
+    }
+}
+
+/// The entries and cents of a terminal's purse, and how many answers it collected.
+fn at_terminal<N: Naming>(desk: &Desk<N>, terminal: u32) -> (Option<(u64, Cents)>, usize) {
+    (
+        desk.purse(terminal)
+            .map(|purse| (purse.entries(), purse.paid())),
+        desk.collected(terminal).len(),
+    )
+}
+
+/// The terminal of the entry at a place, and the balance in its reply.
+fn entry_at<N: Naming>(desk: &Desk<N>, place: usize) -> Option<(u32, Option<Cents>)> {
+    desk.book()
+        .journal()
+        .entry(place)
+        .map(|entry| (entry.terminal, balance(&entry.reply)))
+}
+
+/// The place of the first answer that a terminal collected.
+fn first_place<N: Naming>(desk: &Desk<N>, terminal: u32) -> Option<u64> {
+    match desk.collected(terminal).first() {
+        Some(answer) => answer.place,
+        None => None,
+    }
+}
+
+#[test]
+fn the_later_post_is_served_first(rt: HostRuntime) {
+    assert!(rt; tell(&rt, rt.alloc(), Story::Overtaking).is_ok())
+}
+
+fn overtake<N: Naming, R: Abort>(rt: &R, alloc: Global, desk: &mut Desk<N>) {
+    step_all(rt, desk, overtake_events(rt, alloc), 3);
+    let query = (2, Some(Cents::new(-1_000)));
+    let paid = (1, Some(Cents::new(-1_100)));
+    assert!(rt; [entry_at(desk, 0), entry_at(desk, 1)] == [Some(query), Some(paid)]);
+    assert!(rt; [first_place(desk, 1), first_place(desk, 2)] == [Some(1), Some(0)]);
+    let paid = (Some((1, Cents::new(100))), 1);
+    let query = (Some((1, Cents::new(0))), 1);
+    assert!(rt; [at_terminal(desk, 1), at_terminal(desk, 2)] == [paid, query]);
+}
+
+#[test]
+fn a_kept_letter_stops_nobody_else(rt: HostRuntime) {
+    assert!(rt; tell(&rt, rt.alloc(), Story::KeptLetter).is_ok())
+}
+
+fn kept_letter<N: Naming, R: Abort>(rt: &R, alloc: Global, desk: &mut Desk<N>) {
+    assert!(rt; desk.run(kept_letter_events(rt, alloc)).is_ok());
+    assert!(rt; desk.book().journal().len() == 5);
+    let served = (Some((5, Cents::new(500))), 5);
+    assert!(rt; [at_terminal(desk, 1), at_terminal(desk, 2)] == [(None, 0), served]);
+}
+
+/// A post that is refused memory leaves the purse at its terminal, and can be made again.
+fn post<N: Naming, R: Abort>(rt: &R, desk: &mut Desk<N>) {
+    if let Err(fault) = desk.step(payment_at(1)) {
+        assert!(rt; fault == CoreFault::NoMemory && desk.purse(1).is_some());
+        assert!(rt; desk.step(payment_at(1)).is_ok());
+    }
+    assert!(rt; desk.purse(1).is_none());
+}
