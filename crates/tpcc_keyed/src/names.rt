@@ -138,13 +138,7 @@ fn start_of(names: &[CustomerName], warehouse: u32, district: u32, last: &[u8]) 
 }
 
 /// How many names stand before the first one after those of a last name, looked for from their first one on: few share one.
-fn end_of(
-    names: &[CustomerName],
-    warehouse: u32,
-    district: u32,
-    last: &[u8],
-    start: usize,
-) -> usize
+fn end_of(names: &[CustomerName], warehouse: u32, district: u32, last: &[u8], start: usize) -> usize
     requires start { start
         ≤ prefix_len (λ name. not (is_gt (last_cmp name warehouse district last.now))) names.now }
     ensures within { result ≤ length names.now }

@@ -37,13 +37,7 @@ fn start_of(rows: &[OrderLineRow], warehouse: u32, district: u32, order: u32) ->
 }
 
 /// How many rows stand before the first one after an order's lines, looked for from their first row on: an order has few.
-fn end_of(
-    rows: &[OrderLineRow],
-    warehouse: u32,
-    district: u32,
-    order: u32,
-    start: usize,
-) -> usize
+fn end_of(rows: &[OrderLineRow], warehouse: u32, district: u32, order: u32, start: usize) -> usize
     requires start { start ≤ prefix_len (λ row.
         not (key_before (warehouse ∷ district ∷ order ∷ []) (order_line_key row))) rows.now }
     ensures within { result ≤ length rows.now }

@@ -45,13 +45,7 @@ fn is_far(stock: &StockRow) -> bool
 }
 
 /// The same, with the STOCK row of one line more. The lines of a row are looked at only where it is near a limit.
-fn with_line(
-    over: Overruns,
-    tables: &Tables,
-    home: u32,
-    lines: &[Line],
-    line: &Line,
-) -> Overruns
+fn with_line(over: Overruns, tables: &Tables, home: u32, lines: &[Line], line: &Line) -> Overruns
     requires servable { IsServable tables.now.rows lines.now }
     requires line { is_servable_line tables.now.rows line.now ≡ true }
     ensures { result
