@@ -10,8 +10,8 @@ use std::marker::Model;
 use tpcc_money::NoMemory;
 use tpcc_rows::{Reply, Request};
 
-/// For how many entries there is room at first.
-const FIRST_ENTRIES: usize = 300_000;
+/// For how many entries there is room once there are more than a few.
+const MANY_ENTRIES: usize = 300_000;
 
 /// An entry as it is lent: the request where it stands, and a copy of the reply.
 #[derive(Drop)]
@@ -100,7 +100,7 @@ impl Journal {
         ensures room { OnOk result (0 < self.new.room) }
     {
         self.tallies.reserve(1)?;
-        reserve_one(&mut self.entries, FIRST_ENTRIES)?;
+        reserve_one(&mut self.entries, MANY_ENTRIES)?;
         self.replies.reserve()?;
         Ok(())
     }

@@ -9,21 +9,26 @@ use tpcc_rows::{
     AcceptedOrder, Delivery, Entered, Level, Paid, Reply, Request, RolledBackOrder, Status, Ticket,
 };
 
-/// For how many orders there is room at first. So much, and as much of payments and entries, is over 32 MB: the allocator maps it by itself
-/// and lets it grow where it stands. What is not used yet takes no memory of the machine.
-const FIRST_ORDERS: usize = 32_768;
+/// How many rows stand in a small vector, which grows as vectors do.
+const FEW: usize = 1_000;
 
-/// For how many payments there is room at first.
-const FIRST_PAYMENTS: usize = 65_536;
+/// For how many orders there is room once there are more than a few. So much, and as much of payments and entries, is over 32 MB: the
+/// allocator maps it by itself and lets it grow where it stands. What is not used yet takes no memory of the machine.
+const MANY_ORDERS: usize = 32_768;
 
-/// Makes room for one more; at first for so many.
-pub(crate) fn reserve_one<T>(rows: &mut Vec<T>, first: usize) -> Result<(), NoMemory>
-    requires some { 0 < first }
+/// The same of payments.
+const MANY_PAYMENTS: usize = 65_536;
+
+/// Makes room for one more; for many at once where a few stand, if memory for so many is had.
+pub(crate) fn reserve_one<T>(rows: &mut Vec<T>, many: usize) -> Result<(), NoMemory>
     ensures same { rows.new.items ≡ rows.old.items }
     ensures room { OnOk result (vec_len rows.new < vec_capacity rows.new) }
 {
-    let more = if rows.capacity() == 0 { first } else { 1 };
-    rows.reserve(more)?;
+    let is_small = rows.len() == rows.capacity() && rows.len() < many;
+    if is_small && FEW <= rows.len() && rows.reserve(many).is_ok() {
+        return Ok(());
+    }
+    rows.reserve(1)?;
     Ok(())
 }
 
@@ -119,9 +124,9 @@ impl Replies {
         ensures same { self.new.kinds ≡ self.old.kinds }
         ensures room { OnOk result (0 < self.new.room) }
     {
-        reserve_one(&mut self.orders, FIRST_ORDERS)?;
-        reserve_one(&mut self.payments, FIRST_PAYMENTS)?;
-        reserve_one(&mut self.statuses, 1)?;
+        reserve_one(&mut self.orders, MANY_ORDERS)?;
+        reserve_one(&mut self.payments, MANY_PAYMENTS)?;
+        self.statuses.reserve(1)?;
         Ok(())
     }
 
