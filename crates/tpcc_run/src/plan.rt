@@ -18,7 +18,7 @@ pub const GREATEST_RETIRE: u32 = 100_000;
 pub const MOST_CARDS: u32 = 100_000;
 
 /// Who makes the turns of a run.
-#[derive(Clone, Copy, Debug, PartialEq, Eq)]
+#[derive(Clone, Copy)]
 pub enum Service {
     /// Servers, to which the terminals post their jobs.
     Servers {
@@ -32,7 +32,7 @@ pub enum Service {
 }
 
 /// What a run is made of.
-#[derive(Clone, Copy, Debug, PartialEq, Eq)]
+#[derive(Clone, Copy)]
 pub struct Plan {
     /// How many terminals ask requests, 1 to [`MOST_TERMINALS`].
     pub terminals: u32,
