@@ -11,7 +11,7 @@ use tpcc_run::RunFault;
 use tpcc_script::ScriptFault;
 
 /// Why the program ends early. The text is its line on standard error.
-#[derive(Clone, Copy, Debug, PartialEq, Eq, Error)]
+#[derive(Clone, Copy, Debug, Error)]
 pub enum ProgramFault {
     /// The words name no command, or an option or a value that there is not.
     #[error("fault 1 Arguments")]

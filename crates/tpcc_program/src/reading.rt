@@ -23,7 +23,7 @@ use tpcc_show::{ShownParts, part_named};
 const MOST_SHOWS: usize = 16;
 
 /// Which requests are to be written.
-#[derive(Clone, Copy, Debug, PartialEq, Eq)]
+#[derive(Clone, Copy)]
 pub struct Asking {
     /// `--terminal`, 1 to [`GREATEST_TERMINAL`], else 1: the terminal whose requests they are.
     pub terminal: u32,
@@ -32,7 +32,7 @@ pub struct Asking {
 }
 
 /// What the program is to do.
-#[derive(Clone, Copy, Debug, PartialEq, Eq)]
+#[derive(Clone, Copy)]
 pub enum Task {
     /// Serve a script.
     Script,

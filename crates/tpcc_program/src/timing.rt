@@ -74,7 +74,7 @@ impl Timing {
 
 /// How long a command took, in two lines such as `opening 0.412 s` and
 /// `requests 92000 in 0.310 s, 296774 a second`.
-#[derive(Clone, Copy, Debug, PartialEq, Eq)]
+#[derive(Clone, Copy)]
 pub struct Times {
     /// From the command's beginning to its opening, in nanoseconds.
     pub opening: u64,
