@@ -3,7 +3,7 @@
 use tpcc_rows::Request;
 
 /// A request, or a call of the script's own.
-#[derive(Drop, PartialEq, Eq)]
+#[derive(Drop)]
 pub enum Call {
     /// One of the six requests.
     Ask(Request),

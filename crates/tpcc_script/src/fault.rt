@@ -4,7 +4,7 @@ use thiserror::Error;
 
 /// Why a script ended early. The screens of all earlier lines have been written, after Write a
 /// first part of them. Lines are numbered from 1. The text is the program's line on standard error.
-#[derive(Clone, Copy, Debug, PartialEq, Eq, Error)]
+#[derive(Clone, Copy, Debug, Error)]
 pub enum ScriptFault {
     /// The line says no request and no call.
     #[error("fault 1 Bad {0}")]
