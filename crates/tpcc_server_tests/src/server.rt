@@ -9,7 +9,7 @@ mod reposts;
 mod rounds;
 
 use gates::hold_up_first;
-use left::ask_closed_mailboxes;
+use left::{ask_closed_mailboxes, collect_no_answer};
 use reposts::close_meanwhile;
 use rounds::serve_to_limits;
 use std::alloc::Global;
@@ -29,6 +29,7 @@ use tpcc_server::{Job, JobAnswer, JobIdle, JobMailboxes, JobServing, JobWaiting,
 #[derive(Clone, Copy)]
 enum Story {
     AskedInVain,
+    NotCollected,
     Limited,
     HeldUp,
     ClosedMeanwhile,
@@ -92,6 +93,10 @@ fn happens<
         Story::AskedInVain => {
             let_go((two, keeper, other));
             ask_closed_mailboxes(rt, alloc, one)
+        }
+        Story::NotCollected => {
+            let_go((two, other));
+            collect_no_answer(rt, alloc, turns, one, keeper)
         }
         Story::HeldUp => hold_up_first(rt, alloc, turns, one, two, keeper, other),
         Story::Limited => {

@@ -2,14 +2,17 @@
 ghost use Rattle.std.specs.Prelude.{◌≡◌, [], ◌∷◌};
 ghost use Rattle.tpcc_mailbox.specs.Tokens.{identity, client_origin, idle_origin, waiting_origin, serving_origin};
 
-use super::{CountedTurn, One, Story, let_go, make_one, payment, tell};
+use super::{CountedTurn, One, Story, let_go, make_one, payment, post, tell};
 use std::alloc::Global;
 use std::process::Abort;
 use std::sync::Wait;
 use std::sync::atomic::{AtomicU64, Ordering};
-use tpcc_book::{Naming, SeatedPurse, Seating};
+use tpcc_book::{Naming, SeatedPurse, Seating, Turns};
 use tpcc_mailbox::{Client, Left};
-use tpcc_server::{Job, JobAnswer, JobIdle, JobMailboxes, JobServing, JobWaiting, OneTurn, ask};
+use tpcc_server::{
+    Job, JobAnswer, JobIdle, JobMailboxes, JobServing, JobWaiting, OneTurn, OpenGate, ask,
+    serve_round,
+};
 
 #[test]
 fn a_job_at_closed_mailboxes_is_given_back_uncalled(rt: HostRuntime) {
@@ -76,6 +79,17 @@ fn letter_of<J: Drop, A: Drop, R: Abort>(rt: &R, left: Left<J, A>) -> J {
     }
 }
 
+/// The answer that was never collected.
+fn reply_of<J: Drop, A: Drop, R: Abort>(rt: &R, left: Left<J, A>) -> A {
+    match left {
+        Left::Reply(reply) => reply,
+        other => {
+            let_go(other);
+            panic!(rt; "the answer was not there")
+        }
+    }
+}
+
 type JobLeft<N, T, C> = Left<Job<N, T, C>, JobAnswer<N, T>>;
 
 /// What is left for the only client.
@@ -108,4 +122,45 @@ fn only<X, R: Abort>(rt: &R, alloc: Global, value: X) -> Vec<X>
 fn last_left<X: Drop, R: Abort>(rt: &R, lefts: Vec<X>) -> X {
     let mut lefts = lefts;
     lefts.pop().expect(rt, "there is one")
+}
+
+#[test]
+fn an_answer_is_reclaimed_whose_call_was_made_once(rt: HostRuntime) {
+    tell(&rt, rt.alloc(), Story::NotCollected)
+}
+
+pub(super) fn collect_no_answer<N: Naming, T: Seating, R: Wait + Abort>(
+    rt: &R,
+    alloc: Global,
+    turns: &Turns<N, T>,
+    one: SeatedPurse<N, T>,
+    keeper: SeatedPurse<N, T>,
+) {
+    let made = AtomicU64::new(0);
+    let call = CountedTurn { made: &made };
+    let (served, answer) = answer_left(rt, alloc, turns, one, keeper, call);
+    let place = answer.place();
+    let_go(answer);
+    assert!(rt; (served, place, made.load(Ordering::SeqCst)) == (1, Some(0), 1));
+}
+
+/// Serves a round, and takes the only job's answer out of the mailboxes that are taken apart.
+fn answer_left<N: Naming, T: Seating, C: OneTurn, R: Wait + Abort>(
+    rt: &R,
+    alloc: Global,
+    turns: &Turns<N, T>,
+    purse: SeatedPurse<N, T>,
+    keeper: SeatedPurse<N, T>,
+    call: C,
+) -> (u64, JobAnswer<N, T>) {
+    let One {
+        mailboxes,
+        idle,
+        mut serving,
+    } = make_one(rt, alloc);
+    let waiting = post(&mailboxes, idle, purse, call);
+    let (served, keeper) = serve_round(rt, &mailboxes, &mut serving, turns, &mut OpenGate, keeper);
+    let_go(keeper);
+    let left = reclaim(rt, alloc, mailboxes, waiting, serving);
+    (served, reply_of(rt, left))
 }
