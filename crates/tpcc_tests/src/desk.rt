@@ -127,10 +127,10 @@ fn at_terminal<N: Naming>(desk: &Desk<N>, terminal: u32) -> (Option<(u64, Cents)
 
 /// The terminal of the entry at a place, and the balance in its reply.
 fn entry_at<N: Naming>(desk: &Desk<N>, place: usize) -> Option<(u32, Option<Cents>)> {
-    desk.book()
-        .journal()
-        .entry(place)
-        .map(|entry| (entry.terminal, balance(&entry.reply)))
+    match desk.book().journal().entry(place) {
+        Some(entry) => Some((entry.terminal, balance(&entry.reply))),
+        None => None,
+    }
 }
 
 /// The place of the first answer that a terminal collected.
