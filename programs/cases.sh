@@ -601,6 +601,12 @@ for size in 4000 12000 40000 80000 100000 120000 150000 200000 300000 400000 600
     compare "a run in $size KiB" "$(wanted_status)"
 done
 
+# More entries than few, in an address space where one vector of the journal could take what the others need.
+for size in 20000 40000 60000; do
+    times 2500 'payment 1 1 1 1 1 5000.00 0\n' > stdin
+    by "2,500 payments in $size KiB" "within $size script" 0 '' '@payments 2500'
+done
+
 # All that is printed in ample memory, or want of memory and nothing.
 for size in 4000 20000 60000 140000 400000; do
     for words in 'dump STOCK --items 100000' 'script --customers 3000 --items 100000'; do

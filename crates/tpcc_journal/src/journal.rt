@@ -10,7 +10,7 @@ use std::marker::Model;
 use tpcc_money::NoMemory;
 use tpcc_rows::{Reply, Request};
 
-/// For how many entries there is room once there are more than a few.
+/// For how many entries there is room once an eighth of them stand.
 const MANY_ENTRIES: usize = 300_000;
 
 /// An entry as it is lent: the request where it stands, and a copy of the reply.

@@ -9,23 +9,21 @@ use tpcc_rows::{
     AcceptedOrder, Delivery, Entered, Level, Paid, Reply, Request, RolledBackOrder, Status, Ticket,
 };
 
-/// How many rows stand in a small vector, which grows as vectors do.
-const FEW: usize = 1_000;
-
-/// For how many orders there is room once there are more than a few. So much, and as much of payments and entries, is over 32 MB: the
+/// For how many orders there is room once an eighth of them stand. So much, and as much of payments and entries, is over 32 MB: the
 /// allocator maps it by itself and lets it grow where it stands. What is not used yet takes no memory of the machine.
 const MANY_ORDERS: usize = 32_768;
 
 /// The same of payments.
 const MANY_PAYMENTS: usize = 65_536;
 
-/// Makes room for one more; for many at once where a few stand, if memory for so many is had.
+/// Makes room for one more; for many at once where an eighth of them stand, if memory for so many is had.
 pub(crate) fn reserve_one<T>(rows: &mut Vec<T>, many: usize) -> Result<(), NoMemory>
     ensures same { rows.new.items ≡ rows.old.items }
     ensures room { OnOk result (vec_len rows.new < vec_capacity rows.new) }
 {
-    let is_small = rows.len() == rows.capacity() && rows.len() < many;
-    if is_small && FEW <= rows.len() && rows.reserve(many).is_ok() {
+    let is_full = rows.len() == rows.capacity();
+    let are_some = many / 8 <= rows.len() && rows.len() < many;
+    if is_full && are_some && rows.reserve(many).is_ok() {
         return Ok(());
     }
     rows.reserve(1)?;
