@@ -3,6 +3,7 @@ use Rattle.std.proofs.Common.{◌≡◌, ◌∙◌, sym, ap, refl, ℕ, zero, su
 use Rattle.std.specs.Prelude.{nat_lt, option_map, unwrap_or, count_by, ◌==◌, if◌then◌else◌}
 use Rattle.std.specs.List.{list_all}
 use Rattle.std.proofs.lemmas.Bool.Decides.{nat_tests}
+use Rattle.std.proofs.lemmas.List.{length_push}
 use Rattle.std.proofs.lemmas.List.Sums.{sum_by-append}
 use Rattle.tpcc_rows.specs.declared.entry.Entry.{Entry}
 use Rattle.tpcc_rows.specs.declared.replies.Reply.{Reply}
@@ -33,10 +34,6 @@ pub begins_longer : {X : Type 0} (xs ys : List X) (y : X) → ys ≡ xs ++ y ∷
 begins_longer xs ys y e i h =
     let l = longer xs y i h in (ap (λ zs. nat_lt i (length zs)) e ∙ l.0, ap (λ zs. slice_get zs i) e ∙ l.1)
 
-one_longer : {X : Type 0} (xs : List X) (y : X) → length (xs ++ y ∷ []) ≡ length xs + 1
-one_longer [] y = refl
-one_longer (x ∷ xs) y = omega (arith, one_longer xs y)
-
 at_end : {X : Type 0} (xs : List X) (y : X) → slice_get (xs ++ y ∷ []) (length xs) ≡ Some y
 at_end [] y = refl
 at_end (x ∷ xs) y = at_end xs y
@@ -49,7 +46,7 @@ same_reply reply xs ys i e = ap (λ o. unwrap_or (option_map reply o) (tell.Deli
 -- the reply that was put behind the others
 pub last_reply : {X : Type 0} (reply : X → Reply) (xs ys : List X) (y : X) (n : ℕ) → ys ≡ xs ++ y ∷ [] → n ≡ length ys → reply_at reply ys (n - 1) ≡ reply y
 last_reply reply xs ys y n e len =
-    let place : n - 1 ≡ length xs = omega (arith, len, ap length e, one_longer xs y) in
+    let place : n - 1 ≡ length xs = omega (arith, len, ap length e, length_push xs y) in
     (λ i. reply_at reply (e i) (place i)) ∙ ap (λ o. unwrap_or (option_map reply o) (tell.Delivery NoneQueued)) (at_end xs y)
 
 pub keeps : (old new : Kinds) → Begins old.orders new.orders → Begins old.payments new.payments → Begins old.statuses new.statuses → Keeps old new
