@@ -23,7 +23,6 @@ use tpcc_tables::Tables;
 
 /// A register, and the two totals that its purses share: the journal's length, and by how much the
 /// sum of W_YTD rose since the opening.
-#[derive(Drop)]
 pub struct Book<N: Naming> {
     /// Rows, queue and journal.
     register: Register,
@@ -31,6 +30,17 @@ pub struct Book<N: Naming> {
     entries: LedgerBook<Entries<N>>,
     /// The ledger whose total is the rise of the sum of W_YTD, in cents.
     cents: LedgerBook<PaidCents<N>>,
+}
+
+// By hand, so that a crate above calls this where it lets go of a book, and proves none of its parts anew.
+impl<N: Naming> Drop for Book<N> {
+    fn drop(self) {
+        let Book {
+            register: _,
+            entries: _,
+            cents: _,
+        } = self;
+    }
 }
 
 impl<N: Naming> Model for Book<N> {

@@ -37,12 +37,18 @@ pub use unnamed::UnnamedTurns;
 
 /// A book that is served one request at a time, in the order in which turns were drawn. It is seen as
 /// the book's opening; what purses have seen of the journal stands in them.
-#[derive(Drop)]
 pub struct Turns<N: Naming, T: Seating> {
     /// Both words, the book's slot and the seats' rule.
     table: Table<Option<BoxedBook<N>>, Knows, Opening, TurnRule<N>, Global>,
     /// Which table it is, for its type alone.
     of: PhantomData<T>,
+}
+
+// By hand, as of a book.
+impl<N: Naming, T: Seating> Drop for Turns<N, T> {
+    fn drop(self) {
+        let Turns { table: _, of: _ } = self;
+    }
 }
 
 impl<N: Naming, T: Seating> Model for Turns<N, T> {
