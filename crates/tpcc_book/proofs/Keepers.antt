@@ -1,6 +1,6 @@
 -- The steps of a held turn, put together.
-use Rattle.std.proofs.Common.{◌≡◌, ℕ, ◌+◌, ◌-◌, ◌%◌, ◌^◌, ◌<◌, List, [], ◌∷◌, refl, sym, ap, ◌∙◌, subst, Some, arith}
-use Rattle.std.specs.Prelude.{Option, None, Result, Ok, Err, MatchResult}
+use Rattle.std.proofs.Common.{◌≡◌, ℕ, ◌+◌, ◌%◌, ◌^◌, ◌<◌, List, [], ◌∷◌, refl, sym, ap, ◌∙◌, subst, Some, arith}
+use Rattle.std.specs.Prelude.{Option, None, Result}
 use mathlib.Core.Option.{some}
 use mathlib.Core.List.{IsPrefix}
 use lib.ListN.{get_elem?}
@@ -9,19 +9,19 @@ use Rattle.tpcc_rows.specs.declared.entry.Entry.{Entry}
 use Rattle.tpcc_rows.specs.declared.requests.Request.{Request}
 use Rattle.tpcc_rows.specs.declared.replies.Reply.{Reply}
 use Rattle.tpcc_rows.specs.declared.refusals.Refusal.{Refusal}
-use Rattle.tpcc_rows.specs.Replay.{count_of, paid_by_request}
+use Rattle.tpcc_rows.specs.Replay.{count_of}
 use Rattle.tpcc_book.specs.Past.{Past, IsKept}
 use Rattle.tpcc_book.specs.Purses.{PurseView}
 use Rattle.tpcc_book.specs.AnswerView.{AnswerView}
-use Rattle.tpcc_book.specs.Serve.{IsServed, purse_after}
-use Rattle.tpcc_book.specs.Seats.{SeatedView, start_of, front_of, number_of, turn_holder, IsTurned}
-use Rattle.tpcc_book.specs.Shares.{heard_of, both_of, last_parts, freed_of, back_of}
+use Rattle.tpcc_book.specs.Serve.{IsServed}
+use Rattle.tpcc_book.specs.Seats.{SeatedView, view_of, number_of, turn_holder, IsTurned}
+use Rattle.tpcc_book.specs.Shares.{heard_of, both_of, last_parts, back_of}
 use Rattle.tpcc_book.specs.TurnRule.{knows, IsHeard, HasGrown}
-use Rattle.tpcc_book.specs.TurnSteps.{HasTaken, CanGive, CanShow, CanGrow, HasShown}
+use Rattle.tpcc_book.specs.TurnSteps.{CanGive, CanShow, CanGrow, HasShown}
 use Rattle.tpcc_book.specs.declared.turns.knows.Knows.{Knows}
 use Rattle.tpcc_book.specs.declared.turns.knows.Stage.TheVariants.{Idle, Holds}
 use Rattle.tpcc_book.proofs.Seats.{prefix_self}
-use Rattle.tpcc_book.proofs.Serves.{own_of, entries_grow, same_opening, head_same}
+use Rattle.tpcc_book.proofs.Serves.{own_of, entries_grow, head_same}
 use Rattle.tpcc_book.proofs.Grows.{base_of}
 
 abbrev Mine : Type 0
@@ -97,42 +97,42 @@ last_is me one two w new is shown =
     ap (λ (m : Mine). last_parts m.0.told) shown.now_is ∙ ap (λ (m : Mine). last_parts m.0.told) is
 
 -- what the other seat knows when it is split off
-pub back : (me one two four : Mine) (w : Knows) (old new : Past) (views : List Knows) (room : ℕ) → one ≡ (both_of me.0 w, me.1) → HasShown one new two → four ≡ (back_of two.0, []) → views ≡ four.0 ∷ [] → w.parts ≡ room + 1
-    → views ≡ knows (start_of views) (front_of views) (room + 1) Idle [] ∷ []
-back me one two four w old new views room is shown gone v count =
+pub back : (me one two four : Mine) (w : Knows) (new : Past) (room : ℕ) → one ≡ (both_of me.0 w, me.1) → HasShown one new two → four ≡ (back_of two.0, []) → w.parts ≡ room + 1
+    → four ≡ (knows four.0.start four.0.front (room + 1) Idle [], [])
+back me one two four w new room is shown gone count =
     let last = last_is me one two w new is shown ∙ count in
-    let here : views ≡ knows two.0.start two.0.front (room + 1) Idle [] ∷ [] = v ∙ (ap (λ (m : Mine). m.0 ∷ []) gone ∙ (λ i. knows two.0.start two.0.front (last i) Idle [] ∷ [])) in
-    here ∙ (λ i. knows (sym (ap start_of here) i) (sym (ap front_of here) i) (room + 1) Idle [] ∷ [])
+    let here : four ≡ (knows two.0.start two.0.front (room + 1) Idle [], []) = gone ∙ (λ i. (knows two.0.start two.0.front (last i) Idle [], [])) in
+    here ∙ (λ i. (knows (sym here i).0.start (sym here i).0.front (room + 1) Idle [], []))
 
 pub longer_of : (old new : Past) (request : Request) (held : PurseView) (answer : AnswerView PurseView) → IsServed old request held answer new → IsPrefix old.entries new.entries
 longer_of old new request held answer served =
     entries_grow old new held.terminal held.entries request answer.place answer.outcome served.turn.accepts served.turn.refuses
 
 -- one turn of the book for the purse that asked
-pub turned_within : (held after : PurseView) (views views' : List Knows) (purse : SeatedView) (me one two four : Mine) (w : Knows) (parts : ℕ) (old new : Past) (answer : AnswerView PurseView) (request asked : Request) (outcome : Result Reply Refusal) (place : Option ℕ)
-    → record { purse = held; start = start_of views; front = front_of views } ≡ purse → views ≡ w ∷ [] → me ≡ turn_holder me parts old → old.opening ≡ me.0.start → one ≡ (both_of me.0 w, me.1) → IsServed old request held answer new
-    → HasShown one new two → four ≡ (back_of two.0, []) → views' ≡ four.0 ∷ []
+pub turned_within : (held after : PurseView) (purse : SeatedView) (me one two four : Mine) (w : Knows) (parts : ℕ) (old new : Past) (answer : AnswerView PurseView) (request asked : Request) (outcome : Result Reply Refusal) (place : Option ℕ)
+    → held ≡ purse.purse → w ≡ view_of purse → me ≡ turn_holder me parts old → old.opening ≡ me.0.start → one ≡ (both_of me.0 w, me.1) → IsServed old request held answer new
+    → HasShown one new two → four ≡ (back_of two.0, [])
     → asked ≡ answer.request → outcome ≡ answer.outcome → place ≡ answer.place → after ≡ answer.purse → IsKept new
-    → IsTurned request purse (record { request = asked; outcome = outcome; place = place; purse = record { purse = after; start = start_of views'; front = front_of views' } })
-turned_within held after views views' purse me one two four w parts old new answer request asked outcome place is v keeps opening joined served shown gone v' e1 e2 e3 e4 kept =
+    → IsTurned request purse (record { request = asked; outcome = outcome; place = place; purse = record { purse = after; start = four.0.start; front = four.0.front } })
+turned_within held after purse me one two four w parts old new answer request asked outcome place is v keeps opening joined served shown gone e1 e2 e3 e4 kept =
     let first : get_elem? one.0.told 0 ≡ some (heard_of w) = ap (λ (m : Mine). get_elem? m.0.told 0) joined in
     let heard : IsHeard one.0.start shown.base (heard_of w) = shown.told (heard_of w) 0 first in
     let stage : one.0.stage ≡ Holds (number_of me.0.stage) old.entries = ap (λ (m : Mine). m.0.stage) joined ∙ ap (λ (m : Mine). m.0.stage) keeps in
     let base : shown.base ≡ old.entries = base_of shown.number (number_of me.0.stage) shown.base old.entries (sym shown.stage ∙ stage) in
-    let theirs : w.start ≡ purse.start = sym (ap start_of v) ∙ ap (λ (p : SeatedView). p.start) is in
+    let theirs : w.start ≡ purse.start = ap (λ (k : Knows). k.start) v in
     let mine : w.start ≡ me.0.start = heard.0 ∙ ap (λ (m : Mine). m.0.start) joined in
     let told : answer ≡ record { request = asked; outcome = outcome; place = place; purse = after } = λ i. record { request = sym e1 i; outcome = sym e2 i; place = sym e3 i; purse = sym e4 i } in
-    let it : IsServed old request purse.purse (record { request = asked; outcome = outcome; place = place; purse = after }) new = subst (λ (a : AnswerView PurseView). IsServed old request purse.purse a new) told (subst (λ (h : PurseView). IsServed old request h answer new) (ap (λ (p : SeatedView). p.purse) is) served) in
-    let seen : front_of views' ≡ new.entries = ap front_of v' ∙ (ap (λ (m : Mine). m.0.front) gone ∙ ap (λ (m : Mine). m.0.front) shown.now_is) in
+    let it : IsServed old request purse.purse (record { request = asked; outcome = outcome; place = place; purse = after }) new = subst (λ (a : AnswerView PurseView). IsServed old request purse.purse a new) told (subst (λ (h : PurseView). IsServed old request h answer new) is served) in
+    let seen : four.0.front ≡ new.entries = ap (λ (m : Mine). m.0.front) gone ∙ ap (λ (m : Mine). m.0.front) shown.now_is in
     record {
       old = old;
       new = new;
       kept = kept;
       own = λ reply ok. ap (count_of after.terminal) seen ∙ own_of old new request purse.purse after asked outcome place it reply ok;
       opening = opening ∙ (sym mine ∙ theirs);
-      begins = subst (λ (xs : List Entry). IsPrefix xs old.entries) (sym (ap front_of v) ∙ ap (λ (p : SeatedView). p.front) is) (subst (λ (xs : List Entry). IsPrefix w.front xs) base heard.1);
+      begins = subst (λ (xs : List Entry). IsPrefix xs old.entries) (ap (λ (k : Knows). k.front) v) (subst (λ (xs : List Entry). IsPrefix w.front xs) base heard.1);
       seen = seen;
-      start = ap start_of v' ∙ (ap (λ (m : Mine). m.0.start) gone ∙ (ap (λ (m : Mine). m.0.start) shown.now_is ∙ (ap (λ (m : Mine). m.0.start) joined ∙ (sym mine ∙ theirs))));
+      start = ap (λ (m : Mine). m.0.start) gone ∙ (ap (λ (m : Mine). m.0.start) shown.now_is ∙ (ap (λ (m : Mine). m.0.start) joined ∙ (sym mine ∙ theirs)));
       served = it;
     }
 

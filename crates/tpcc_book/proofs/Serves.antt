@@ -10,7 +10,7 @@ use Rattle.tpcc_book.specs.declared.turns.knows.Knows.{Knows}
 use Rattle.tpcc_book.specs.declared.turns.knows.Stage.TheVariants.{Idle, Holds}
 use Rattle.tpcc_book.specs.TurnRule.{knows, HasBook}
 use Rattle.tpcc_book.specs.TurnSteps.{HasDrawn, HasTaken, CanGive, CanEnd}
-use Rattle.tpcc_book.specs.Seats.{SeatedView, start_of, front_of, IsTurned}
+use Rattle.tpcc_book.specs.Seats.{SeatedView, view_of, IsTurned}
 use Rattle.std.specs.Prelude.{Result}
 use Rattle.tpcc_rows.specs.declared.requests.Request.{Request}
 use Rattle.tpcc_rows.specs.declared.replies.Reply.{Reply}
@@ -97,25 +97,25 @@ own_of old new request held after asked outcome place served reply is =
         let one : count_of terminal (e ∷ []) ≡ 1 = rw it refl in
         sum_by-append (λ (x : Entry). cond (x.terminal == terminal) 1 0) es (e ∷ []) ∙ ap (λ (n : ℕ). count_of terminal es + n) one
 
-pub turned_of : (held after : PurseView) (views views' : List Knows) (purse : SeatedView) (me two four : Mine) (ticket : ℕ) (old new : Past) (answer : AnswerView PurseView) (request asked : Request) (outcome : Result Reply Refusal) (place : Option ℕ)
-    → record { purse = held; start = start_of views; front = front_of views } ≡ purse → views ≡ me.0 ∷ [] → HasTaken me ticket old two → IsServed old request held answer new
-    → four ≡ (knows two.0.start new.entries two.0.parts Idle two.0.told, []) → views' ≡ four.0 ∷ []
+pub turned_of : (held after : PurseView) (purse : SeatedView) (me two four : Mine) (ticket : ℕ) (old new : Past) (answer : AnswerView PurseView) (request asked : Request) (outcome : Result Reply Refusal) (place : Option ℕ)
+    → held ≡ purse.purse → me ≡ (view_of purse, []) → HasTaken me ticket old two → IsServed old request held answer new
+    → four ≡ (knows two.0.start new.entries two.0.parts Idle two.0.told, [])
     → asked ≡ answer.request → outcome ≡ answer.outcome → place ≡ answer.place → after ≡ answer.purse → IsKept new
-    → IsTurned request purse (record { request = asked; outcome = outcome; place = place; purse = record { purse = after; start = start_of views'; front = front_of views' } })
-turned_of held after views views' purse me two four ticket old new answer request asked outcome place is v t served ended v' e1 e2 e3 e4 kept =
-    let begun : me.0.start ≡ purse.start = sym (ap start_of v) ∙ ap (λ (p : SeatedView). p.start) is in
+    → IsTurned request purse (record { request = asked; outcome = outcome; place = place; purse = record { purse = after; start = four.0.start; front = four.0.front } })
+turned_of held after purse me two four ticket old new answer request asked outcome place is seat t served ended e1 e2 e3 e4 kept =
+    let begun : me.0.start ≡ purse.start = ap (λ (m : Mine). m.0.start) seat in
     let told : answer ≡ record { request = asked; outcome = outcome; place = place; purse = after } = λ i. record { request = sym e1 i; outcome = sym e2 i; place = sym e3 i; purse = sym e4 i } in
-    let one : IsServed old request purse.purse (record { request = asked; outcome = outcome; place = place; purse = after }) new = subst (λ (a : AnswerView PurseView). IsServed old request purse.purse a new) told (subst (λ (h : PurseView). IsServed old request h answer new) (ap (λ (p : SeatedView). p.purse) is) served) in
-    let seen : front_of views' ≡ new.entries = ap front_of v' ∙ ap (λ (m : Mine). m.0.front) ended in
+    let one : IsServed old request purse.purse (record { request = asked; outcome = outcome; place = place; purse = after }) new = subst (λ (a : AnswerView PurseView). IsServed old request purse.purse a new) told (subst (λ (h : PurseView). IsServed old request h answer new) is served) in
+    let seen : four.0.front ≡ new.entries = ap (λ (m : Mine). m.0.front) ended in
     record {
       old = old;
       new = new;
       kept = kept;
       own = λ reply ok. ap (count_of after.terminal) seen ∙ own_of old new request purse.purse after asked outcome place one reply ok;
       opening = t.opening ∙ begun;
-      begins = subst (λ (xs : List Entry). IsPrefix xs old.entries) (sym (ap front_of v) ∙ ap (λ (p : SeatedView). p.front) is) t.begins;
+      begins = subst (λ (xs : List Entry). IsPrefix xs old.entries) (ap (λ (m : Mine). m.0.front) seat) t.begins;
       seen = seen;
-      start = ap start_of v' ∙ (ap (λ (m : Mine). m.0.start) ended ∙ (ap (λ (m : Mine). m.0.start) t.now_is ∙ begun));
+      start = ap (λ (m : Mine). m.0.start) ended ∙ (ap (λ (m : Mine). m.0.start) t.now_is ∙ begun);
       served = one;
     }
 

@@ -108,22 +108,12 @@ impl<N: Naming, T: Seating> Turns<N, T> {
         requires turns { MakesTurn (F.post turn) }
         ensures turned { IsTurned request purse result }
     {
-        let SeatedPurse {
-            mut purse,
-            badge,
-            of,
-        } = purse;
-        let mut seat = badge.into_seat::<Option<BoxedBook<N>>>();
+        let (mut purse, mut seat) = purse.into_seat();
         let board = &self.table.shared;
         let (ticket, mut book) = take(rt, board, &mut seat);
         let turned = book.serve_for(request, &mut purse, turn);
         let _journal = book.journal();
         give(board, &mut seat, ticket, book);
-        let purse = SeatedPurse {
-            purse,
-            badge: seat.into_badge(),
-            of,
-        };
-        Answer::new(turned, purse)
+        Answer::new(turned, SeatedPurse::seated(purse, seat))
     }
 }

@@ -68,12 +68,7 @@ fn join_all<N: Naming, T: Seating>(
     let Some(last) = rest.pop() else {
         return None;
     };
-    let SeatedPurse {
-        purse,
-        badge,
-        of: _,
-    } = last;
-    let mut seat = badge.into_seat::<Option<BoxedBook<N>>>();
+    let (purse, mut seat) = last.into_seat();
     let mut pool = Pool::of(purse);
     while let Some(next) = rest.pop() {
         join(board, &mut seat, &mut pool, next);
@@ -95,12 +90,8 @@ fn join<N: Naming, T: Seating>(
     ensures seat { seat.new.me.0 ≡ both_of seat.old.me.0 (view_of purse) }
     ensures pool { pool.new ≡ pool_with pool.old purse.purse }
 {
-    let SeatedPurse {
-        purse,
-        badge,
-        of: _,
-    } = purse;
-    board.join_seat::<Joining>(seat, badge.into_seat::<Option<BoxedBook<N>>>());
+    let (purse, other) = purse.into_seat();
+    board.join_seat::<Joining>(seat, other);
     pool.take_in(purse);
 }
 

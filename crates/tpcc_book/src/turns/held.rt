@@ -48,15 +48,14 @@ impl<N: Naming, T: Seating> Turns<N, T> {
     pub fn begin<R: Wait>(&self, rt: &R, purse: SeatedPurse<N, T>) -> HeldTurn<N, T>
         ensures keeper { result ≡ keeper_of purse }
     {
-        let SeatedPurse { purse, badge, of } = purse;
-        let mut seat = badge.into_seat::<Option<BoxedBook<N>>>();
+        let (purse, mut seat) = purse.into_seat();
         let (ticket, book) = take(rt, &self.table.shared, &mut seat);
         HeldTurn {
             purse,
             seat,
             ticket,
             book,
-            of,
+            of: PhantomData,
         }
     }
 
@@ -90,22 +89,14 @@ impl<N: Naming, T: Seating> Turns<N, T> {
             mut book,
             of,
         } = held;
-        let SeatedPurse {
-            mut purse,
-            badge,
-            of: _,
-        } = purse;
+        let (mut purse, other) = purse.into_seat();
         let board = &self.table.shared;
-        adopt(board, &mut seat, badge.into_seat::<Option<BoxedBook<N>>>());
+        adopt(board, &mut seat, other);
         let turned = book.serve_for(request, &mut purse, turn);
         let book = show(board, &mut seat, book);
         let _journal = book.journal();
         let back = free(board, &mut seat);
-        let purse = SeatedPurse {
-            purse,
-            badge: back.into_badge(),
-            of: PhantomData,
-        };
+        let purse = SeatedPurse::seated(purse, back);
         let held = HeldTurn {
             purse: keeper,
             seat,
@@ -125,13 +116,9 @@ impl<N: Naming, T: Seating> Turns<N, T> {
             mut seat,
             ticket,
             book,
-            of,
+            of: _,
         } = held;
         give(&self.table.shared, &mut seat, ticket, book);
-        SeatedPurse {
-            purse,
-            badge: seat.into_badge(),
-            of,
-        }
+        SeatedPurse::seated(purse, seat)
     }
 }

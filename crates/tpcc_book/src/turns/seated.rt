@@ -2,11 +2,13 @@
 ghost use Rattle.std.specs.Prelude.{◌≡◌, ◌+◌, ◌<◌, [], ◌∷◌, pos};
 ghost use Rattle.tpcc_book.specs.declared.turns.knows.Stage.TheVariants.{Idle};
 ghost use Rattle.tpcc_book.specs.TurnRule.{knows};
-ghost use Rattle.tpcc_book.specs.Seats.{start_of, front_of};
+ghost use Rattle.tpcc_book.specs.Seats.{view_of};
 
 use crate::naming::Naming;
 use crate::purse::Purse;
+use crate::turns::boxed_book::BoxedBook;
 use crate::turns::knows::Knows;
+use crate::turns::steps::BoardSeat;
 use atomic_table::Badge;
 use std::marker::{Brand, Model, PhantomData};
 use tpcc_money::Cents;
@@ -28,14 +30,24 @@ impl Seating for Brand {
 
 /// A purse with a seat at the turns of its book. It knows the book's opening and the front: the entries
 /// of the journal that the purse has seen, from the first one on.
-#[derive(Drop)]
 pub struct SeatedPurse<N: Naming, T: Seating> {
     /// The purse itself.
     pub(crate) purse: Purse<N>,
     /// Its seat, put away while it has no ticket.
     pub(crate) badge: Badge<Knows>,
     /// Which table it is, for its type alone.
-    pub(crate) of: PhantomData<T>,
+    of: PhantomData<T>,
+}
+
+// By hand, as of a book.
+impl<N: Naming, T: Seating> Drop for SeatedPurse<N, T> {
+    fn drop(self) {
+        let SeatedPurse {
+            purse: _,
+            badge: _,
+            of: _,
+        } = self;
+    }
 }
 
 impl<N: Naming, T: Seating> Model for SeatedPurse<N, T> {
@@ -59,18 +71,33 @@ impl<N: Naming, T: Seating> Model for SeatedPurse<N, T> {
 }
 
 impl<N: Naming, T: Seating> SeatedPurse<N, T> {
-    pub(crate) fn of(purse: Purse<N>, badge: Badge<Knows>) -> SeatedPurse<N, T>
-        requires table { badge.table_id ≡ T.table }
-        requires view { badge.views
-            ≡ knows (start_of badge.views) (front_of badge.views) (purse.room + 1) Idle [] ∷ [] }
+    // A purse whose seat has no ticket.
+    pub(crate) fn seated(purse: Purse<N>, seat: BoardSeat<N>) -> SeatedPurse<N, T>
+        requires table { seat.table_id ≡ T.table }
+        requires idle { seat.me
+            ≡ (knows seat.me.0.start seat.me.0.front (purse.room + 1) Idle [], []) }
         ensures seated { result
-            ≡ record { purse = purse; start = start_of badge.views; front = front_of badge.views } }
+            ≡ record { purse = purse; start = seat.me.0.start; front = seat.me.0.front } }
     {
         SeatedPurse {
             purse,
-            badge,
+            badge: seat.into_badge(),
             of: PhantomData,
         }
+    }
+
+    // The purse, and its seat.
+    pub(crate) fn into_seat(self) -> (Purse<N>, BoardSeat<N>)
+        ensures purse { result.0 ≡ self.purse }
+        ensures table { result.1.table_id ≡ T.table }
+        ensures seat { result.1.me ≡ (view_of self, []) }
+    {
+        let SeatedPurse {
+            purse,
+            badge,
+            of: _,
+        } = self;
+        (purse, badge.into_seat::<Option<BoxedBook<N>>>())
     }
 
     /// The terminal whose purse it is.

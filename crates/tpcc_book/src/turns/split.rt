@@ -7,7 +7,6 @@ use crate::turns::boxed_book::BoxedBook;
 use crate::turns::knows::Knows;
 use crate::turns::seated::{SeatedPurse, Seating};
 use atomic_table::{Badge, Split};
-use std::marker::PhantomData;
 use std::mem::replace;
 
 /// One part goes to a new seat, which has seen as much.
@@ -54,10 +53,6 @@ impl<N: Naming, T: Seating> SeatedPurse<N, T> {
         let mut seat = badge.into_seat::<Option<BoxedBook<N>>>();
         let given = board.split_seat::<OnePart>(&mut seat);
         self.badge = seat.into_badge();
-        SeatedPurse {
-            purse: self.purse.split(terminal),
-            badge: given.into_badge(),
-            of: PhantomData,
-        }
+        SeatedPurse::seated(self.purse.split(terminal), given)
     }
 }

@@ -67,7 +67,7 @@ impl<N: Naming> UnnamedTurns<N> {
             ≡ record { purse = first_purse; start = self.opening; front = [] } }
     {
         let UnnamedTurns { table, seat, purse } = self;
-        (Turns::of(table), SeatedPurse::of(purse, seat.into_badge()))
+        (Turns::of(table), SeatedPurse::seated(purse, seat))
     }
 }
 

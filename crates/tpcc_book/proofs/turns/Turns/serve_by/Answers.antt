@@ -1,4 +1,4 @@
-use Rattle.std.proofs.Common.{refl, sym, subst}
+use Rattle.std.proofs.Common.{◌∙◌, ap, refl, sym, subst}
 use Rattle.tpcc_book.specs.Seats.{IsTurned, SeatedView}
 use Rattle.tpcc_book.specs.AnswerView.{AnswerView, answer_of}
 use Rattle.tpcc_book.proofs.Serves.{turned_of, giving_of}
@@ -7,11 +7,11 @@ use Rattle.tpcc_book.proofs.turns.Turns.serve_by.Goals as goal
 pub give-requires-clause-giving : goal.give-requires-clause-giving
 give-requires-clause-giving g c =
     let served = c.serve_for-turned in
-    giving_of c.into_seat-seat.result.me c.take-ticket.new.seat.me c.take-ticket.result.0 c.take-ticket.result.1 served.new.self c.args.request c.purse.inside.purse (answer_of served.result served.new.purse) c.take-ticket.ensures.taken served.ensures.served
+    giving_of c.into_seat-purse.result.1.me c.take-ticket.new.seat.me c.take-ticket.result.0 c.take-ticket.result.1 served.new.self c.args.request c.into_seat-purse.result.0 (answer_of served.result served.new.purse) c.take-ticket.ensures.taken served.ensures.served
 
 pub returns : goal.returns
 returns g c =
     let served = c.serve_for-turned in
     let turned = served.result in
-    let told = turned_of c.purse.inside.purse served.new.purse c.purse.inside.badge.views c.into_badge.result.views c.args.purse c.into_seat-seat.result.me c.take-ticket.new.seat.me c.give.new.seat.me c.take-ticket.result.0 c.take-ticket.result.1 served.new.self (answer_of turned served.new.purse) c.args.request turned.request turned.outcome turned.place c.purse.view_is c.into_seat-seat.ensures.2 c.take-ticket.ensures.taken served.ensures.served c.give.ensures.ended c.into_badge.ensures.2 refl refl refl refl c.journal-journal.ensures.kept in
-    record { turned = subst (λ (t : AnswerView SeatedView). IsTurned c.args.request c.args.purse t) (sym c.new.ensures) told }
+    let told = turned_of c.into_seat-purse.result.0 served.new.purse c.args.purse c.into_seat-purse.result.1.me c.take-ticket.new.seat.me c.give.new.seat.me c.take-ticket.result.0 c.take-ticket.result.1 served.new.self (answer_of turned served.new.purse) c.args.request turned.request turned.outcome turned.place c.into_seat-purse.ensures.purse c.into_seat-purse.ensures.seat c.take-ticket.ensures.taken served.ensures.served c.give.ensures.ended refl refl refl refl c.journal-journal.ensures.kept in
+    record { turned = subst (λ (t : AnswerView SeatedView). IsTurned c.args.request c.args.purse t) (ap (answer_of turned) (sym c.seated.ensures.seated) ∙ sym c.new.ensures) told }

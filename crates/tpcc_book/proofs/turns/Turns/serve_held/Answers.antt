@@ -1,4 +1,4 @@
-use Rattle.std.proofs.Common.{◌+◌, refl, sym, subst, arith}
+use Rattle.std.proofs.Common.{◌+◌, ◌∙◌, ap, refl, sym, subst, arith}
 use Rattle.tpcc_book.specs.Past.{IsKept}
 use Rattle.tpcc_book.specs.Seats.{SeatedView, IsTurned}
 use Rattle.tpcc_book.specs.AnswerView.{AnswerView, answer_of}
@@ -9,8 +9,8 @@ pub show-book-requires-clause-growing : goal.show-book-requires-clause-growing
 show-book-requires-clause-growing g c =
     let h = c.held.inside in
     let served = c.serve_for-turned in
-    let longer = longer_of h.book served.new.self c.args.request c.purse.inside.purse (answer_of served.result served.new.purse) served.ensures.served in
-    growing_of h.seat.me c.adopt.new.seat.me c.into_seat.result.me.0 (h.purse.room + 1) h.book served.new.self c.held.invariant.holds (omega arith) c.adopt.ensures.adopted longer
+    let longer = longer_of h.book served.new.self c.args.request c.into_seat-purse.result.0 (answer_of served.result served.new.purse) served.ensures.served in
+    growing_of h.seat.me c.adopt.new.seat.me c.into_seat-purse.result.1.me.0 (h.purse.room + 1) h.book served.new.self c.held.invariant.holds (omega arith) c.adopt.ensures.adopted longer
 
 pub returns-clause-turned : goal.returns-clause-turned
 returns-clause-turned g c =
@@ -18,5 +18,5 @@ returns-clause-turned g c =
     let served = c.serve_for-turned in
     let turned = served.result in
     let kept = subst IsKept c.show-book.ensures.book c.journal-journal.ensures.kept in
-    let told = turned_within c.purse.inside.purse served.new.purse c.purse.inside.badge.views c.into_badge.result.views c.args.purse h.seat.me c.adopt.new.seat.me c.show-book.new.seat.me c.free-back.result.me c.into_seat.result.me.0 (h.purse.room + 1) h.book served.new.self (answer_of turned served.new.purse) c.args.request turned.request turned.outcome turned.place c.purse.view_is c.into_seat.ensures.2 c.held.invariant.holds c.held.invariant.opened c.adopt.ensures.adopted served.ensures.served c.show-book.ensures.shown c.free-back.ensures.back.1 c.into_badge.ensures.2 refl refl refl refl kept in
-    subst (λ (t : AnswerView SeatedView). IsTurned c.args.request c.args.purse t) (sym c.new.ensures) told
+    let told = turned_within c.into_seat-purse.result.0 served.new.purse c.args.purse h.seat.me c.adopt.new.seat.me c.show-book.new.seat.me c.free-back.result.me c.into_seat-purse.result.1.me.0 (h.purse.room + 1) h.book served.new.self (answer_of turned served.new.purse) c.args.request turned.request turned.outcome turned.place c.into_seat-purse.ensures.purse (ap (λ m. m.0) c.into_seat-purse.ensures.seat) c.held.invariant.holds c.held.invariant.opened c.adopt.ensures.adopted served.ensures.served c.show-book.ensures.shown c.free-back.ensures.back.1 refl refl refl refl kept in
+    subst (λ (t : AnswerView SeatedView). IsTurned c.args.request c.args.purse t) (ap (answer_of turned) (sym c.seated-purse.ensures.seated) ∙ sym c.new.ensures) told
