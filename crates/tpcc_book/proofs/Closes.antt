@@ -15,8 +15,7 @@ use Rattle.tpcc_book.specs.Serve.{rooms_of}
 use Rattle.tpcc_book.specs.Purses.{PoolView, all_parts}
 use Rattle.tpcc_book.specs.Closing.{TellsBook, IsLeft, IsAudited, IsGathered}
 use Rattle.tpcc_book.specs.Gathering.{AreAll, HasSeen, AllBegin, HasJoined}
-use Rattle.tpcc_book.specs.declared.turns.knows.Knows.{Knows}
-use Rattle.tpcc_book.specs.declared.turns.knows.Stage.TheVariants.{Idle}
+use Rattle.tpcc_book.specs.Knows.{Knows, Idle}
 use Rattle.tpcc_book.specs.TurnRule.{out_of, Stands, AtHome, Away, FollowsTurnRule}
 use Rattle.tpcc_book.proofs.Seats.{total_le}
 use Rattle.tpcc_book.proofs.Shares.{none_out}

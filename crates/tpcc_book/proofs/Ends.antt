@@ -7,9 +7,7 @@ use lib.ListN.{get_elem?}
 use Rattle.atomic_table.specs.Table.{State, Step, gives, rest, Allows}
 use Rattle.tpcc_rows.specs.declared.entry.Entry.{Entry}
 use Rattle.tpcc_book.specs.Past.{Past}
-use Rattle.tpcc_book.specs.declared.turns.knows.Knows.{Knows}
-use Rattle.tpcc_book.specs.declared.turns.knows.Stage.{Stage}
-use Rattle.tpcc_book.specs.declared.turns.knows.Stage.TheVariants.{Idle, Out, Holds}
+use Rattle.tpcc_book.specs.Knows.{Knows, Stage, Idle, Out, Holds}
 use Rattle.tpcc_book.specs.TurnRule.{knows, out_of, HasTicket, Stands, IsSeated, FollowsTurnRule, EndStep}
 use Rattle.tpcc_book.proofs.Seats.{total_set, each_set, apart_set, prefix_self, prefix_trans, heard_on}
 use Rattle.tpcc_population.specs.declared.opening.Opening.{Opening}

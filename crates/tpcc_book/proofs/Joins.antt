@@ -7,7 +7,7 @@ use Rattle.tpcc_book.specs.Purses.{PoolView, pool_of, pool_with}
 use Rattle.tpcc_book.specs.Seats.{SeatedView, view_of, purses_of}
 use Rattle.tpcc_book.specs.Gathering.{HasSeen, AllBegin, HasJoined}
 use Rattle.tpcc_book.specs.Shares.{both_of, heard_of}
-use Rattle.tpcc_book.specs.declared.turns.knows.Knows.{Knows}
+use Rattle.tpcc_book.specs.Knows.{Knows}
 use Rattle.tpcc_book.proofs.Gathers.{first_pooled, one_more_pooled}
 
 purses_push : (all rest : List SeatedView) (p : SeatedView) → all ≡ rest ++ p ∷ [] → purses_of all ≡ purses_of rest ++ p.purse ∷ []

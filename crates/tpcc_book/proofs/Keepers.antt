@@ -18,8 +18,7 @@ use Rattle.tpcc_book.specs.Seats.{SeatedView, view_of, number_of, turn_holder, I
 use Rattle.tpcc_book.specs.Shares.{heard_of, both_of, last_parts, back_of}
 use Rattle.tpcc_book.specs.TurnRule.{knows, IsHeard, HasGrown}
 use Rattle.tpcc_book.specs.TurnSteps.{CanGive, CanShow, CanGrow, HasShown}
-use Rattle.tpcc_book.specs.declared.turns.knows.Knows.{Knows}
-use Rattle.tpcc_book.specs.declared.turns.knows.Stage.TheVariants.{Idle, Holds}
+use Rattle.tpcc_book.specs.Knows.{Knows, Idle, Holds}
 use Rattle.tpcc_book.proofs.Seats.{prefix_self}
 use Rattle.tpcc_book.proofs.Serves.{own_of, entries_grow, head_same}
 use Rattle.tpcc_book.proofs.Grows.{base_of}

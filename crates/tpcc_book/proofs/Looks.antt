@@ -9,9 +9,7 @@ use Rattle.atomic_table.specs.Table.{State, Me, Step, keeps, takes, Act, Valid, 
 use Rattle.atomic_table.proofs.Lists.{set_again, one_turn}
 use Rattle.tpcc_rows.specs.declared.entry.Entry.{Entry}
 use Rattle.tpcc_book.specs.Past.{Past}
-use Rattle.tpcc_book.specs.declared.turns.knows.Knows.{Knows}
-use Rattle.tpcc_book.specs.declared.turns.knows.Stage.{Stage}
-use Rattle.tpcc_book.specs.declared.turns.knows.Stage.TheVariants.{Out, Holds}
+use Rattle.tpcc_book.specs.Knows.{Knows, Stage, Out, Holds}
 use Rattle.tpcc_book.specs.TurnRule.{knows, out_of, HasTicket, Stands, IsSeated, AtHome, Away, FollowsTurnRule, HasBook, LookStep}
 use Rattle.tpcc_book.specs.TurnSteps.{Awaits}
 use Rattle.tpcc_book.proofs.Seats.{total_set, total_le, each_set, apart_set, set_same, prefix_self}

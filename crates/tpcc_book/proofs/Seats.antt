@@ -7,10 +7,7 @@ use mathlib.Core.List.{IsPrefix}
 use lib.ListN.{get_elem?}
 use Rattle.atomic_table.proofs.Lists.{at_set}
 use Rattle.tpcc_rows.specs.declared.entry.Entry.{Entry}
-use Rattle.tpcc_book.specs.declared.turns.knows.Knows.{Knows}
-use Rattle.tpcc_book.specs.declared.turns.knows.Heard.{Heard}
-use Rattle.tpcc_book.specs.declared.turns.knows.Stage.{Stage}
-use Rattle.tpcc_book.specs.declared.turns.knows.Stage.TheVariants.{Idle, Out, Holds}
+use Rattle.tpcc_book.specs.Knows.{Knows, Heard, Stage, Idle, Out, Holds}
 use Rattle.tpcc_book.specs.TurnRule.{total, HasTicket, Stands, IsHeard, IsSeated}
 use Rattle.tpcc_population.specs.declared.opening.Opening.{Opening}
 

@@ -6,8 +6,7 @@ use mathlib.Core.List.{IsPrefix}
 use Rattle.atomic_table.specs.Table.{Me, rest}
 use Rattle.tpcc_rows.specs.declared.entry.Entry.{Entry}
 use Rattle.tpcc_book.specs.Past.{Past}
-use Rattle.tpcc_book.specs.declared.turns.knows.Knows.{Knows}
-use Rattle.tpcc_book.specs.declared.turns.knows.Stage.TheVariants.{Idle, Holds}
+use Rattle.tpcc_book.specs.Knows.{Knows, Idle, Holds}
 use Rattle.tpcc_book.specs.TurnRule.{knows, HasBook}
 use Rattle.tpcc_book.specs.TurnSteps.{HasDrawn, HasTaken, CanGive, CanEnd}
 use Rattle.tpcc_book.specs.Seats.{SeatedView, view_of, IsTurned}

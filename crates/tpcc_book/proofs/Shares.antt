@@ -9,10 +9,7 @@ use Rattle.atomic_table.proofs.Lists.{at_snoc, at_longer, set_else}
 use Rattle.tpcc_rows.specs.declared.entry.Entry.{Entry}
 use Rattle.tpcc_book.specs.Past.{Past}
 use Rattle.tpcc_book.specs.Purses.{all_parts}
-use Rattle.tpcc_book.specs.declared.turns.knows.Knows.{Knows}
-use Rattle.tpcc_book.specs.declared.turns.knows.Stage.{Stage}
-use Rattle.tpcc_book.specs.declared.turns.knows.Heard.{Heard}
-use Rattle.tpcc_book.specs.declared.turns.knows.Stage.TheVariants.{Idle, Out, Holds}
+use Rattle.tpcc_book.specs.Knows.{Knows, Stage, Heard, Idle, Out, Holds}
 use Rattle.tpcc_book.specs.TurnRule.{knows, out_of, total, HasTicket, IsHeard, IsSeated, AtHome, Away, FollowsTurnRule, no_opening}
 use Rattle.tpcc_book.specs.Shares.{kept_of, given_of, heard_of, both_of, nobody, last_parts, freed_of, back_of}
 use Rattle.tpcc_book.proofs.Seats.{total_set, total_le, each_set, apart_set, set_same}

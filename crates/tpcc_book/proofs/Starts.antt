@@ -6,8 +6,7 @@ use Rattle.atomic_table.specs.Table.{opening}
 use Rattle.tpcc_rows.specs.declared.entry.Entry.{Entry}
 use Rattle.tpcc_book.specs.Past.{Past, opening_past}
 use Rattle.std.specs.Prelude.{Option}
-use Rattle.tpcc_book.specs.declared.turns.knows.Knows.{Knows}
-use Rattle.tpcc_book.specs.declared.turns.knows.Stage.TheVariants.{Idle, Holds}
+use Rattle.tpcc_book.specs.Knows.{Knows, Idle, Holds}
 use Rattle.tpcc_book.specs.TurnRule.{first, HasTicket, IsSeated, FollowsTurnRule}
 use Rattle.tpcc_population.specs.declared.opening.Opening.{Opening}
 

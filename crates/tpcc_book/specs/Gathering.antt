@@ -7,9 +7,7 @@ use Rattle.tpcc_rows.specs.declared.entry.Entry.{Entry}
 use Rattle.tpcc_book.specs.Purses.{PurseView, PoolView}
 use Rattle.tpcc_book.specs.Serve.{rooms_of, entries_of, paid_of}
 use Rattle.tpcc_book.specs.Seats.{SeatedView, purses_of}
-use Rattle.tpcc_book.specs.declared.turns.knows.Knows.{Knows}
-use Rattle.tpcc_book.specs.declared.turns.knows.Heard.{Heard}
-use Rattle.tpcc_book.specs.declared.turns.knows.Stage.TheVariants.{Idle}
+use Rattle.tpcc_book.specs.Knows.{Knows, Heard, Idle}
 
 -- what is pooled and what is left are all
 pub record AreAll (purses : List PurseView) (pool : PoolView) (rest : List PurseView) : Type 0 where

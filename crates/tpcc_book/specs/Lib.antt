@@ -1,5 +1,6 @@
 pub mod Closing
 pub mod Gathering
+pub mod Knows
 pub mod Past
 pub mod Purses
 pub mod Ready

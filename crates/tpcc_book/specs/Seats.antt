@@ -5,9 +5,7 @@ use Rattle.atomic_table.specs.Table.{Me}
 use Rattle.atomic_table.specs.declared.shared.Seat.{Seat}
 use Rattle.tpcc_rows.specs.declared.entry.Entry.{Entry}
 use Rattle.tpcc_book.specs.Purses.{PurseView, first_purse}
-use Rattle.tpcc_book.specs.declared.turns.knows.Knows.{Knows}
-use Rattle.tpcc_book.specs.declared.turns.knows.Stage.{Stage}
-use Rattle.tpcc_book.specs.declared.turns.knows.Stage.TheVariants.{Idle, Out, Holds}
+use Rattle.tpcc_book.specs.Knows.{Knows, Stage, Idle, Out, Holds}
 use mathlib.Core.List.{IsPrefix}
 use Rattle.tpcc_rows.specs.declared.requests.Request.{Request}
 use Rattle.std.specs.Result.{ForOk}

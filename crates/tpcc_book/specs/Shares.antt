@@ -1,8 +1,6 @@
 -- How a view is cut in two, and two are put together.
 use Rattle.std.specs.Prelude.{ℕ, ◌+◌, ◌-◌, List, [], ◌∷◌, ◌++◌}
-use Rattle.tpcc_book.specs.declared.turns.knows.Knows.{Knows}
-use Rattle.tpcc_book.specs.declared.turns.knows.Heard.{Heard}
-use Rattle.tpcc_book.specs.declared.turns.knows.Stage.TheVariants.{Idle}
+use Rattle.tpcc_book.specs.Knows.{Knows, Heard, Idle}
 use Rattle.tpcc_book.specs.TurnRule.{knows, no_opening}
 
 abbrev pub kept_of : Knows → Knows

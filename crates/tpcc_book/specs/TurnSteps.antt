@@ -6,9 +6,7 @@ use lib.ListN.{get_elem?}
 use Rattle.atomic_table.specs.Table.{Me}
 use Rattle.tpcc_rows.specs.declared.entry.Entry.{Entry}
 use Rattle.tpcc_book.specs.Past.{Past}
-use Rattle.tpcc_book.specs.declared.turns.knows.Knows.{Knows}
-use Rattle.tpcc_book.specs.declared.turns.knows.Heard.{Heard}
-use Rattle.tpcc_book.specs.declared.turns.knows.Stage.TheVariants.{Out, Holds}
+use Rattle.tpcc_book.specs.Knows.{Knows, Heard, Out, Holds}
 use Rattle.tpcc_book.specs.TurnRule.{knows, IsHeard}
 
 -- a ticket was drawn

@@ -1,7 +1,7 @@
 //! The end of the turns: all purses put together, and the book.
 ghost use Rattle.std.specs.Prelude.{◌≡◌, ◌+◌, ◌<◌, ◌↔◌, [], IsOk, IfOk, IfErr, IfSome, IfNone, None, Some};
 ghost use Rattle.std.specs.Slots.{slots_items, slots_len, IsFull};
-ghost use Rattle.tpcc_book.specs.declared.turns.knows.Stage.TheVariants.{Idle};
+ghost use Rattle.tpcc_book.specs.Knows.{Idle};
 ghost use Rattle.tpcc_book.specs.Closing.{TellsBook, IsLeft, IsGathered, IsAudited};
 ghost use Rattle.tpcc_book.specs.Gathering.{HasJoined};
 ghost use Rattle.tpcc_book.specs.Purses.{all_parts, pool_with};

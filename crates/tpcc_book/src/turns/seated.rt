@@ -1,6 +1,6 @@
 //! Purses with a seat at the turns.
 ghost use Rattle.std.specs.Prelude.{◌≡◌, ◌+◌, ◌<◌, [], ◌∷◌, pos};
-ghost use Rattle.tpcc_book.specs.declared.turns.knows.Stage.TheVariants.{Idle};
+ghost use Rattle.tpcc_book.specs.Knows.{Idle};
 ghost use Rattle.tpcc_book.specs.TurnRule.{knows};
 ghost use Rattle.tpcc_book.specs.Seats.{view_of};
 
@@ -52,7 +52,7 @@ impl<N: Naming, T: Seating> Drop for SeatedPurse<N, T> {
 
 impl<N: Naming, T: Seating> Model for SeatedPurse<N, T> {
     ghost use Rattle.std.specs.Prelude.{◌≡◌, ◌+◌, [], ◌∷◌};
-    ghost use Rattle.tpcc_book.specs.declared.turns.knows.Stage.TheVariants.{Idle};
+    ghost use Rattle.tpcc_book.specs.Knows.{Idle};
     ghost use Rattle.tpcc_book.specs.TurnRule.{knows};
     ghost use Rattle.tpcc_book.specs.Seats.{SeatedView, start_of, front_of};
 

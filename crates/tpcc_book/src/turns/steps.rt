@@ -1,7 +1,7 @@
 //! The steps of a turn: a ticket is drawn, looked for, and ended.
 ghost use Rattle.std.specs.Prelude.{◌≡◌, ◌<◌, ℕ, List, [], ◌∷◌, Option, Some};
 ghost use Rattle.atomic_table.specs.Table.{rest};
-ghost use Rattle.tpcc_book.specs.declared.turns.knows.Stage.TheVariants.{Idle, Out, Holds};
+ghost use Rattle.tpcc_book.specs.Knows.{Idle, Out, Holds};
 ghost use Rattle.tpcc_book.specs.TurnRule.{knows, HasBook, HasGrown};
 ghost use Rattle.tpcc_book.specs.TurnSteps.{HasDrawn, Awaits, HasTaken, CanGive, CanEnd, CanShow, CanGrow, HasShown};
 ghost use Rattle.tpcc_book.specs.Shares.{both_of, last_parts, freed_of, back_of};

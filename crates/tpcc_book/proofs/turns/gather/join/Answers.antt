@@ -1,5 +1,5 @@
 use Rattle.std.proofs.Common.{◌≡◌, ◌∙◌, ap, sym, arith}
-use Rattle.tpcc_book.specs.declared.turns.knows.Knows.{Knows}
+use Rattle.tpcc_book.specs.Knows.{Knows}
 use Rattle.tpcc_book.specs.Seats.{view_of}
 use Rattle.tpcc_book.proofs.Shares.{joins}
 use Rattle.tpcc_book.proofs.turns.gather.join.Goals as goal

@@ -1,6 +1,5 @@
 use Rattle.std.proofs.Common.{◌≡◌, ◌+◌, ◌<◌, [], ◌∙◌, ap, sym, arith}
-use Rattle.tpcc_book.specs.declared.turns.knows.Knows.{Knows}
-use Rattle.tpcc_book.specs.declared.turns.knows.Stage.TheVariants.{Idle}
+use Rattle.tpcc_book.specs.Knows.{Knows, Idle}
 use Rattle.tpcc_book.specs.TurnRule.{knows}
 use Rattle.tpcc_book.specs.Seats.{SeatedView, start_of, front_of}
 use Rattle.tpcc_book.proofs.Shares.{splits, alone}
