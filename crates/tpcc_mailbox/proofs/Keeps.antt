@@ -10,11 +10,7 @@ use Rattle.atomic_table.specs.Table.{Me, step, keeps, takes, gives, stepped, res
 use Rattle.atomic_table.proofs.Lists.{set_here, set_else}
 use Rattle.tpcc_mailbox.specs.declared.rule.Mail.{Mail}
 use Rattle.tpcc_mailbox.specs.declared.rule.Mail.TheVariants.{Letter, Reply}
-use Rattle.tpcc_mailbox.specs.declared.rule.Phase.{Phase}
-use Rattle.tpcc_mailbox.specs.declared.rule.Phase.TheVariants.{Fresh, Free, Sent}
-use Rattle.tpcc_mailbox.specs.declared.rule.Role.{Role}
-use Rattle.tpcc_mailbox.specs.declared.rule.Role.TheVariants.{Opening, Client, Server, Holder}
-use Rattle.tpcc_mailbox.specs.declared.rule.View.{View}
+use Rattle.tpcc_mailbox.specs.Views.{Phase, Fresh, Free, Sent, Role, Opening, Client, Server, Holder, View}
 use Rattle.atomic_table.specs.declared.shared.Seat.{Seat}
 use Rattle.tpcc_mailbox.specs.Rule.{word_of, Found, view_with, seat_with, server_seat, serving_role, serving_slots, splits_of, hand_of, splits_in, hand_in, half, halved, MailboxOk, Underway, Ruled}
 use Rattle.tpcc_mailbox.specs.Steps.{PostStep, TakeStep, AnswerStep, CollectStep, with_flag, FirstCollectStep}

@@ -6,9 +6,7 @@ use Rattle.atomic_table.specs.Seated.{TableId}
 use Rattle.tpcc_mailbox.specs.declared.tokens.Serving.{Serving}
 use Rattle.tpcc_mailbox.specs.declared.tokens.Client as clients
 use Rattle.tpcc_mailbox.specs.declared.tokens.Client.TheVariants.{Idle, Waiting}
-use Rattle.tpcc_mailbox.specs.declared.rule.Phase.TheVariants.{Free, Sent}
-use Rattle.tpcc_mailbox.specs.declared.rule.Role.{Role}
-use Rattle.tpcc_mailbox.specs.declared.rule.Role.TheVariants.{Client}
+use Rattle.tpcc_mailbox.specs.Views.{Free, Sent, Role, Client}
 use Rattle.tpcc_mailbox.specs.Rule.{serving_role}
 use Rattle.tpcc_mailbox.specs.Tokens.{client_origin, idle_mailbox, waiting_mailbox, waiting_letter, serving_origin, serving_hand, serving_splits}
 

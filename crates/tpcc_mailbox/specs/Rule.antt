@@ -9,11 +9,7 @@ use Rattle.tpcc_mailbox.specs.declared.table.TheConstants.{MOST_MAILBOXES}
 use Rattle.atomic_table.specs.declared.shared.Seat.{Seat}
 use Rattle.tpcc_mailbox.specs.declared.rule.Mail.{Mail}
 use Rattle.tpcc_mailbox.specs.declared.rule.Mail.TheVariants.{Letter, Reply}
-use Rattle.tpcc_mailbox.specs.declared.rule.Phase.{Phase}
-use Rattle.tpcc_mailbox.specs.declared.rule.Phase.TheVariants.{Fresh, Free, Sent}
-use Rattle.tpcc_mailbox.specs.declared.rule.Role.{Role}
-use Rattle.tpcc_mailbox.specs.declared.rule.Role.TheVariants.{Opening, Client, Server, Holder}
-use Rattle.tpcc_mailbox.specs.declared.rule.View.{View}
+use Rattle.tpcc_mailbox.specs.Views.{Phase, Fresh, Free, Sent, Role, Opening, Client, Server, Holder, View}
 
 -- what get_elem? finds of a slot: no slot, a slot that is out, or one that is at identity
 abbrev pub Found : Type 0 → Type 0 → Type 0

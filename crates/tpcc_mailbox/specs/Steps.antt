@@ -3,10 +3,7 @@ use Rattle.std.specs.Prelude.{◌≡◌, ◌≢◌, ℕ, Bool, true, nat_eq, Lis
 use Rattle.atomic_table.specs.Table.{Me, Step, rest}
 use Rattle.tpcc_mailbox.specs.declared.rule.Mail.{Mail}
 use Rattle.tpcc_mailbox.specs.declared.rule.Mail.TheVariants.{Letter, Reply}
-use Rattle.tpcc_mailbox.specs.declared.rule.Phase.TheVariants.{Fresh, Free, Sent}
-use Rattle.tpcc_mailbox.specs.declared.rule.Role.{Role}
-use Rattle.tpcc_mailbox.specs.declared.rule.Role.TheVariants.{Client, Server, Holder}
-use Rattle.tpcc_mailbox.specs.declared.rule.View.{View}
+use Rattle.tpcc_mailbox.specs.Views.{Fresh, Free, Sent, Role, Client, Server, Holder, View}
 use Rattle.tpcc_mailbox.specs.Rule.{view_with, spent, word_of}
 
 -- what a seat knows and which slots it has in hand

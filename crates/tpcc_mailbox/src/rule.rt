@@ -7,8 +7,7 @@
 use crate::answers::Answers;
 use crate::room::{Answered, Posted};
 use atomic_table::TableRule;
-use std::collections::LinkedList;
-use std::marker::PhantomData;
+use std::marker::{Model, PhantomData};
 
 /// The word of a mailbox that is free.
 pub(crate) const FREE: u64 = 0;
@@ -37,38 +36,21 @@ pub enum Mail<J, A> {
     Reply(Answered<A>),
 }
 
-/// What the client of a mailbox knows of it. No value of it is made.
-pub enum Phase<J> {
-    /// The client hasn't fetched its empty slot yet.
-    Fresh,
-    /// Nothing of the client's is under way.
-    Free,
-    /// This letter was posted and its answer not collected.
-    Sent(J),
-}
-
-/// One thing that a seat is at the table for. No value of it is made.
-pub enum Role<J> {
-    /// It opens the mailboxes from this number on.
-    Opening(u64),
-    /// The client of the mailbox of this number.
-    Client(u64, Phase<J>),
-    /// A server with an empty hand, and how often its right to serve was split.
-    Server(u64),
-    /// A server whose right was split so often, the mailbox that it took a letter from, and the letter.
-    Holder(u64, u64, J),
-}
-
-/// What a seat knows: its roles, behind one another where other seats were joined into it, whether it has
-/// closed the mailboxes or seen them closed, and the mailboxes whose letters it answered. No value of it
-/// is made.
+/// What a seat knows, as clauses see it: its roles, behind one another where other seats were joined into it, whether it
+/// has closed the mailboxes or seen them closed, and the mailboxes whose letters it answered. No value of it is made, so
+/// it has no fields that would have to be let go.
 pub struct View<J> {
-    /// What it is at the table for, one behind another.
-    pub roles: LinkedList<Role<J>>,
-    /// Whether it knows that the mailboxes are closed.
-    pub closed: bool,
-    /// The numbers of the mailboxes whose letters it answered, the first answered first.
-    pub answered: LinkedList<u64>,
+    letters: PhantomData<J>,
+}
+
+impl<J> Model for View<J> {
+    ghost use Rattle.tpcc_mailbox.specs.Views.{View};
+
+    ghost Value = { View J };
+
+    ghost use Rattle.tpcc_mailbox.specs.Rule.{opener};
+
+    ghost view = { λ _. opener };
 }
 
 /// The rule by which words, slots and views stand to one another.

@@ -1,6 +1,6 @@
 use Rattle.std.proofs.Common.{◌≡◌, ◌+◌, ◌≤◌, false, [], vec_len, vec_capacity}
 use Rattle.tpcc_mailbox.specs.Rule.{view_with}
-use Rattle.tpcc_mailbox.specs.declared.rule.Role.TheVariants.{Opening}
+use Rattle.tpcc_mailbox.specs.Views.{Opening}
 use Rattle.tpcc_mailbox.specs.Tokens.{AreNewIdles}
 use Rattle.tpcc_mailbox.proofs.table.Mailboxes.new.Given as goal
 
