@@ -8,12 +8,21 @@ use tpcc_rows::{Refusal, Reply, Request};
 
 /// What a served request gives back. Only this crate makes one, and it has no copy, so whoever
 /// holds an answer holds what a book answered.
-#[derive(Drop)]
 pub struct Answer<P> {
     /// The request, its outcome and the place of its entry.
     turned: Turned,
     /// The purse that was handed in, as the turn left it.
     purse: P,
+}
+
+// By hand, as of a book.
+impl<P: Drop> Drop for Answer<P> {
+    fn drop(self) {
+        let Answer {
+            turned: _,
+            purse: _,
+        } = self;
+    }
 }
 
 impl<P> Model for Answer<P> {
