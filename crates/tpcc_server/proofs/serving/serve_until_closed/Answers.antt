@@ -11,3 +11,6 @@ returns-clause-answered g c = elim c.match-next.branch [
   | in-None w ↦ same_answers _ _ _ _ _ c.loop.invariant.5 (search rules) (search rules)
   | in-Some+then-closed w ↦ same_answers _ _ _ _ _ (one_round _ _ _ _ _ _ _ c.loop.invariant.5 w.is_closed-closed.ensures.answered w.serve_some-answered.ensures.answered) (search rules) (search rules)
 ]
+
+pub returns-clause-fewer : goal.returns-clause-fewer
+returns-clause-fewer g c = search rules
