@@ -1,5 +1,6 @@
 pub mod Adding
 pub mod Cards
+pub mod Pieces
 pub mod Receipts
 pub mod Report
 pub mod RequestLines

@@ -8,7 +8,8 @@ use crate::delivery::{put_delivery, put_queued, put_results};
 use crate::new_order::put_entered;
 use crate::order_status::put_status;
 use crate::payment::put_paid;
-use crate::refusal::put_refusal;
+use crate::pieces::Piece;
+use crate::refusal::refusal_words;
 use crate::screens::Screen;
 use crate::stock_level::put_level;
 use std::alloc::Global;
@@ -42,9 +43,14 @@ pub fn reply_screen(alloc: Global, reply: &Reply) -> Result<Screen, NoMemory>
 pub fn refusal_screen(alloc: Global, refusal: Refusal) -> Result<Screen, NoMemory>
     ensures { IfOk result (λ screen. screen ≡ screens.refused_screen refusal) }
 {
-    let mut screen = Screen::new(alloc);
-    put_refusal(&mut screen, refusal)?;
-    Ok(screen)
+    Screen::of(
+        alloc,
+        &[
+            Piece::Word(b"refused "),
+            refusal_words(refusal),
+            Piece::Word(b"\n"),
+        ],
+    )
 }
 
 /// The screen of an answer: that of its reply, or of its refusal. Refused only for want of memory.
@@ -62,31 +68,7 @@ pub fn screen<P>(alloc: Global, answer: &Answer<P>) -> Result<Screen, NoMemory>
 pub fn consistent_screen(alloc: Global) -> Result<Screen, NoMemory>
     ensures { IfOk result (λ screen. screen ≡ screens.check_screen None) }
 {
-    let mut screen = Screen::new(alloc);
-    screen.put(b"consistent\n")?;
-    Ok(screen)
-}
-
-fn put_broken(
-    screen: &mut Screen,
-    condition: u32,
-    warehouse: u32,
-    district: u32,
-    number: u32,
-) -> Result<(), NoMemory>
-    ensures { OnOk result (Adds screen.old screen.new (screens.check_screen
-        (Some (record {
-          condition = condition;
-          warehouse = warehouse;
-          district = district;
-          number = number;
-        })))) }
-{
-    screen.put_number(b"broken ", condition)?;
-    screen.put_number(b" ", warehouse)?;
-    screen.put_number(b" ", district)?;
-    screen.put_number(b" ", number)?;
-    screen.put(b"\n")
+    Screen::of(alloc, &[Piece::Word(b"consistent\n")])
 }
 
 /// The screen of a broken consistency condition (3.3.2), with its warehouse, district and number
@@ -106,9 +88,16 @@ pub fn broken_screen(
           number = number;
         }))) }
 {
-    let mut screen = Screen::new(alloc);
-    put_broken(&mut screen, condition, warehouse, district, number)?;
-    Ok(screen)
+    Screen::of(
+        alloc,
+        &[
+            Piece::Number(b"broken ", condition),
+            Piece::Number(b" ", warehouse),
+            Piece::Number(b" ", district),
+            Piece::Number(b" ", number),
+            Piece::Word(b"\n"),
+        ],
+    )
 }
 
 /// The screens of the delivery result log's tickets, in order; refused only for want of memory.

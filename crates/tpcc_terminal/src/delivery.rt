@@ -1,8 +1,10 @@
 //! The screens of Delivery, of its runs and of its result log.
-ghost use Rattle.std.specs.Prelude.{OnOk};
+ghost use Rattle.std.specs.Prelude.{◌≡◌, ◌∷◌, OnOk};
 ghost use Rattle.tpcc_terminal.specs.Adding.{Adds};
+ghost use Rattle.tpcc_terminal.specs.Pieces.{piece_text};
 ghost use Rattle.tpcc_terminal.specs.Screens as screens;
 
+use crate::pieces::Piece;
 use crate::screens::Screen;
 use tpcc_money::{Moment, NoMemory};
 use tpcc_rows::{Delivered, Delivery, Ticket};
@@ -11,10 +13,11 @@ use tpcc_rows::{Delivered, Delivery, Ticket};
 pub fn put_queued(screen: &mut Screen, ticket: Ticket) -> Result<(), NoMemory>
     ensures { OnOk result (Adds screen.old screen.new (screens.queued_screen ticket)) }
 {
-    screen.put(b"delivery")?;
-    screen.put_number(b" W_ID=", ticket.warehouse)?;
-    screen.put_number(b" O_CARRIER_ID=", ticket.carrier)?;
-    screen.put(b" Delivery has been queued\n")
+    screen.put_all(&[
+        Piece::Number(b"delivery W_ID=", ticket.warehouse),
+        Piece::Number(b" O_CARRIER_ID=", ticket.carrier),
+        Piece::Word(b" Delivery has been queued\n"),
+    ])
 }
 
 /// The screen of one run of the first ticket (2.7.4), or of an empty queue.
@@ -34,24 +37,32 @@ pub fn put_delivery(screen: &mut Screen, delivery: Delivery) -> Result<(), NoMem
 fn put_delivered_line(screen: &mut Screen, ticket: Ticket, at: Moment) -> Result<(), NoMemory>
     ensures { OnOk result (Adds screen.old screen.new (screens.delivered_line ticket at)) }
 {
-    screen.put(b"delivered")?;
-    screen.put_number(b" W_ID=", ticket.warehouse)?;
-    screen.put_number(b" O_CARRIER_ID=", ticket.carrier)?;
-    screen.put_moment(b" queued=", ticket.queued)?;
-    screen.put_moment(b" at=", at)?;
-    screen.put(b"\n")
+    screen.put_all(&[
+        Piece::Number(b"delivered W_ID=", ticket.warehouse),
+        Piece::Number(b" O_CARRIER_ID=", ticket.carrier),
+        Piece::Moment(b" queued=", ticket.queued),
+        Piece::Moment(b" at=", at),
+        Piece::Word(b"\n"),
+    ])
 }
 
-#[tactic(auto, using(crate::proofs::Chains::behind), unfolding(crate::specs::Screens::district_line))]
+fn delivered_order(order: Option<u32>) -> Piece<'static>
+    ensures { piece_text result ≡ 32 ∷ screens.delivered_order order }
+{
+    match order {
+        Some(order) => Piece::Number(b" O_ID=", order),
+        None => Piece::Word(b" skipped"),
+    }
+}
+
 fn put_district_line(screen: &mut Screen, district: u64, order: Option<u32>) -> Result<(), NoMemory>
     ensures { OnOk result (Adds screen.old screen.new (screens.district_line district order)) }
 {
-    screen.put_count(b"district ", district)?;
-    match order {
-        Some(order) => screen.put_number(b" O_ID=", order)?,
-        None => screen.put(b" skipped")?,
-    }
-    screen.put(b"\n")
+    screen.put_all(&[
+        Piece::Count(b"district ", district),
+        delivered_order(order),
+        Piece::Word(b"\n"),
+    ])
 }
 
 fn put_district_lines(screen: &mut Screen, orders: &[Option<u32>]) -> Result<(), NoMemory>

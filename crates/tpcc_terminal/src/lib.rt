@@ -31,6 +31,7 @@ mod laws;
 mod new_order;
 mod order_status;
 mod payment;
+mod pieces;
 mod receipts;
 mod refusal;
 mod report;

@@ -3,6 +3,7 @@ ghost use Rattle.std.specs.Prelude.{◌≡◌, OnOk, flat_map};
 ghost use Rattle.tpcc_terminal.specs.Adding.{Adds};
 ghost use Rattle.tpcc_terminal.specs.Screens as screens;
 
+use crate::pieces::Piece;
 use crate::screens::Screen;
 use tpcc_money::NoMemory;
 use tpcc_rows::{AcceptedOrder, Brand, Entered, EnteredLine, RolledBackOrder};
@@ -24,20 +25,21 @@ pub fn put_entered(screen: &mut Screen, entered: &Entered) -> Result<(), NoMemor
 fn put_accepted_line(screen: &mut Screen, order: &AcceptedOrder) -> Result<(), NoMemory>
     ensures { OnOk result (Adds screen.old screen.new (screens.accepted_line order.now)) }
 {
-    screen.put(b"new-order")?;
-    screen.put_number(b" W_ID=", order.warehouse)?;
-    screen.put_number(b" D_ID=", order.district)?;
-    screen.put_number(b" C_ID=", order.customer)?;
-    screen.put_text(b" C_LAST=", &order.last)?;
-    screen.put_text(b" C_CREDIT=", &order.credit)?;
-    screen.put_rate(b" C_DISCOUNT=", order.discount)?;
-    screen.put_number(b" O_ID=", order.order)?;
-    screen.put_number(b" O_OL_CNT=", order.line_count)?;
-    screen.put_rate(b" W_TAX=", order.warehouse_tax)?;
-    screen.put_rate(b" D_TAX=", order.district_tax)?;
-    screen.put_moment(b" O_ENTRY_D=", order.entry_date)?;
-    screen.put_amount(b" total=", order.total)?;
-    screen.put(b"\n")
+    screen.put_all(&[
+        Piece::Number(b"new-order W_ID=", order.warehouse),
+        Piece::Number(b" D_ID=", order.district),
+        Piece::Number(b" C_ID=", order.customer),
+        Piece::Text(b" C_LAST=", order.last.bytes()),
+        Piece::Text(b" C_CREDIT=", order.credit.bytes()),
+        Piece::Rate(b" C_DISCOUNT=", order.discount),
+        Piece::Number(b" O_ID=", order.order),
+        Piece::Number(b" O_OL_CNT=", order.line_count),
+        Piece::Rate(b" W_TAX=", order.warehouse_tax),
+        Piece::Rate(b" D_TAX=", order.district_tax),
+        Piece::Moment(b" O_ENTRY_D=", order.entry_date),
+        Piece::Amount(b" total=", order.total),
+        Piece::Word(b"\n"),
+    ])
 }
 
 fn put_entered_lines(screen: &mut Screen, lines: &[EnteredLine]) -> Result<(), NoMemory>
@@ -52,37 +54,39 @@ fn put_entered_lines(screen: &mut Screen, lines: &[EnteredLine]) -> Result<(), N
 fn put_entered_line(screen: &mut Screen, line: &EnteredLine) -> Result<(), NoMemory>
     ensures { OnOk result (Adds screen.old screen.new (screens.entered_line line.now)) }
 {
-    screen.put_number(b"line ", line.number)?;
-    screen.put_number(b" OL_SUPPLY_W_ID=", line.supply)?;
-    screen.put_number(b" OL_I_ID=", line.item)?;
-    screen.put_text(b" I_NAME=", &line.name)?;
-    screen.put_number(b" OL_QUANTITY=", line.quantity)?;
-    screen.put_number(b" S_QUANTITY=", line.stock)?;
-    screen.put(b" brand=")?;
-    put_brand(screen, line.brand)?;
-    screen.put_amount(b" I_PRICE=", line.price)?;
-    screen.put_amount(b" OL_AMOUNT=", line.amount)?;
-    screen.put(b"\n")
+    screen.put_all(&[
+        Piece::Number(b"line ", line.number),
+        Piece::Number(b" OL_SUPPLY_W_ID=", line.supply),
+        Piece::Number(b" OL_I_ID=", line.item),
+        Piece::Text(b" I_NAME=", line.name.bytes()),
+        Piece::Number(b" OL_QUANTITY=", line.quantity),
+        Piece::Number(b" S_QUANTITY=", line.stock),
+        Piece::Text(b" brand=", brand_text(line.brand)),
+        Piece::Amount(b" I_PRICE=", line.price),
+        Piece::Amount(b" OL_AMOUNT=", line.amount),
+        Piece::Word(b"\n"),
+    ])
 }
 
-fn put_brand(screen: &mut Screen, brand: Brand) -> Result<(), NoMemory>
-    ensures { OnOk result (Adds screen.old screen.new (screens.brand_text brand)) }
+fn brand_text(brand: Brand) -> &'static [u8]
+    ensures { result.now ≡ screens.brand_text brand }
 {
     match brand {
-        Brand::Original => screen.put(b"B"),
-        Brand::Generic => screen.put(b"G"),
+        Brand::Original => b"B",
+        Brand::Generic => b"G",
     }
 }
 
 fn put_rolled_back_line(screen: &mut Screen, order: &RolledBackOrder) -> Result<(), NoMemory>
     ensures { OnOk result (Adds screen.old screen.new (screens.rolled_back_line order.now)) }
 {
-    screen.put(b"new-order")?;
-    screen.put_number(b" W_ID=", order.warehouse)?;
-    screen.put_number(b" D_ID=", order.district)?;
-    screen.put_number(b" C_ID=", order.customer)?;
-    screen.put_text(b" C_LAST=", &order.last)?;
-    screen.put_text(b" C_CREDIT=", &order.credit)?;
-    screen.put_number(b" O_ID=", order.order)?;
-    screen.put(b" Item number is not valid\n")
+    screen.put_all(&[
+        Piece::Number(b"new-order W_ID=", order.warehouse),
+        Piece::Number(b" D_ID=", order.district),
+        Piece::Number(b" C_ID=", order.customer),
+        Piece::Text(b" C_LAST=", order.last.bytes()),
+        Piece::Text(b" C_CREDIT=", order.credit.bytes()),
+        Piece::Number(b" O_ID=", order.order),
+        Piece::Word(b" Item number is not valid\n"),
+    ])
 }

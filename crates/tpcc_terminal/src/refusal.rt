@@ -1,60 +1,48 @@
 //! The screens of refused requests.
-ghost use Rattle.std.specs.Prelude.{OnOk};
-ghost use Rattle.tpcc_terminal.specs.Adding.{Adds};
+ghost use Rattle.std.specs.Prelude.{◌≡◌, ◌++◌, ◌∷◌, [], codes};
+ghost use Rattle.tpcc_terminal.specs.Pieces.{piece_text};
 ghost use Rattle.tpcc_terminal.specs.Screens as screens;
 
-use crate::screens::Screen;
-use tpcc_money::NoMemory;
+use crate::pieces::Piece;
 use tpcc_rows::{Field, Refusal};
 
-/// The screen of a refused request: its number, its name, and the number seen or the field.
-#[tactic(auto, using(crate::proofs::Chains::behind), unfolding(crate::specs::Screens::refused_screen))]
-pub fn put_refusal(screen: &mut Screen, refusal: Refusal) -> Result<(), NoMemory>
-    ensures { OnOk result (Adds screen.old screen.new (screens.refused_screen refusal)) }
+/// What stands behind `refused `: the refusal's number, its name, and the number seen or the field.
+#[tactic(auto, unfolding(crate::specs::Screens::refused_screen))]
+pub fn refusal_words(refusal: Refusal) -> Piece<'static>
+    ensures { codes "refused " ++ (piece_text result ++ 10 ∷ []) ≡ screens.refused_screen refusal }
 {
     match refusal {
-        Refusal::NoWarehouse => screen.put(b"refused 1 NoWarehouse\n"),
-        Refusal::NoDistrict => screen.put(b"refused 2 NoDistrict\n"),
-        Refusal::NoCustomer => screen.put(b"refused 3 NoCustomer\n"),
-        Refusal::LineCount => screen.put(b"refused 4 LineCount\n"),
-        Refusal::Quantity => screen.put(b"refused 5 Quantity\n"),
-        Refusal::NoSupply => screen.put(b"refused 6 NoSupply\n"),
-        Refusal::Amount => screen.put(b"refused 7 Amount\n"),
-        Refusal::Carrier => screen.put(b"refused 8 Carrier\n"),
-        Refusal::Threshold => screen.put(b"refused 9 Threshold\n"),
-        Refusal::JournalFull => screen.put(b"refused 11 JournalFull\n"),
-        Refusal::QueueFull => screen.put(b"refused 12 QueueFull\n"),
-        Refusal::OrderNumbers => screen.put(b"refused 13 OrderNumbers\n"),
-        Refusal::NoMemory => screen.put(b"refused 16 NoMemory\n"),
-        Refusal::Stranger(seen) => {
-            screen.put_count(b"refused 10 Stranger ", seen)?;
-            screen.put(b"\n")
-        }
-        Refusal::Count(field) => {
-            screen.put(b"refused 14 Count ")?;
-            put_field(screen, field)?;
-            screen.put(b"\n")
-        }
-        Refusal::Total(field) => {
-            screen.put(b"refused 15 Total ")?;
-            put_field(screen, field)?;
-            screen.put(b"\n")
-        }
+        Refusal::NoWarehouse => Piece::Word(b"1 NoWarehouse"),
+        Refusal::NoDistrict => Piece::Word(b"2 NoDistrict"),
+        Refusal::NoCustomer => Piece::Word(b"3 NoCustomer"),
+        Refusal::LineCount => Piece::Word(b"4 LineCount"),
+        Refusal::Quantity => Piece::Word(b"5 Quantity"),
+        Refusal::NoSupply => Piece::Word(b"6 NoSupply"),
+        Refusal::Amount => Piece::Word(b"7 Amount"),
+        Refusal::Carrier => Piece::Word(b"8 Carrier"),
+        Refusal::Threshold => Piece::Word(b"9 Threshold"),
+        Refusal::Stranger(seen) => Piece::Count(b"10 Stranger ", seen),
+        Refusal::JournalFull => Piece::Word(b"11 JournalFull"),
+        Refusal::QueueFull => Piece::Word(b"12 QueueFull"),
+        Refusal::OrderNumbers => Piece::Word(b"13 OrderNumbers"),
+        Refusal::Count(field) => Piece::Text(b"14 Count ", field_name(field)),
+        Refusal::Total(field) => Piece::Text(b"15 Total ", field_name(field)),
+        Refusal::NoMemory => Piece::Word(b"16 NoMemory"),
     }
 }
 
-fn put_field(screen: &mut Screen, field: Field) -> Result<(), NoMemory>
-    ensures { OnOk result (Adds screen.old screen.new (screens.field_name field)) }
+fn field_name(field: Field) -> &'static [u8]
+    ensures { result.now ≡ screens.field_name field }
 {
     match field {
-        Field::PaymentCount => screen.put(b"PaymentCount"),
-        Field::DeliveryCount => screen.put(b"DeliveryCount"),
-        Field::StockOrders => screen.put(b"StockOrders"),
-        Field::RemoteOrders => screen.put(b"RemoteOrders"),
-        Field::WarehouseYtd => screen.put(b"WarehouseYtd"),
-        Field::DistrictYtd => screen.put(b"DistrictYtd"),
-        Field::Balance => screen.put(b"Balance"),
-        Field::YtdPayment => screen.put(b"YtdPayment"),
-        Field::StockYtd => screen.put(b"StockYtd"),
+        Field::PaymentCount => b"PaymentCount",
+        Field::DeliveryCount => b"DeliveryCount",
+        Field::StockOrders => b"StockOrders",
+        Field::RemoteOrders => b"RemoteOrders",
+        Field::WarehouseYtd => b"WarehouseYtd",
+        Field::DistrictYtd => b"DistrictYtd",
+        Field::Balance => b"Balance",
+        Field::YtdPayment => b"YtdPayment",
+        Field::StockYtd => b"StockYtd",
     }
 }

@@ -1,8 +1,10 @@
 //! Requests as the lines of a script.
 ghost use Rattle.std.specs.Prelude.{◌≡◌, ◌∷◌, ◌++◌, IfOk, OnOk, flat_map, decimal};
 ghost use Rattle.tpcc_terminal.specs.Adding.{Adds};
+ghost use Rattle.tpcc_terminal.specs.Pieces.{piece_text};
 ghost use Rattle.tpcc_terminal.specs.RequestLines as lines;
 
+use crate::pieces::Piece;
 use crate::screens::Screen;
 use std::alloc::Global;
 use tpcc_money::{Moment, NoMemory};
@@ -33,27 +35,23 @@ fn put_request(screen: &mut Screen, request: &Request) -> Result<(), NoMemory>
     }
 }
 
-fn put_seconds(screen: &mut Screen, moment: Moment) -> Result<(), NoMemory>
-    ensures { OnOk result (Adds screen.old screen.new (32 ∷ decimal moment)) }
-{
-    screen.put_number(b" ", moment.seconds())
-}
-
-fn put_who(screen: &mut Screen, who: &Who) -> Result<(), NoMemory>
-    ensures { OnOk result (Adds screen.old screen.new (32 ∷ lines.customer_word who.now)) }
+fn customer_word(who: &Who) -> Piece<'_>
+    ensures { piece_text result ≡ 32 ∷ lines.customer_word who.now }
 {
     match who {
-        Who::Number(number) => screen.put_number(b" ", *number),
-        Who::Name(last) => screen.put_text(b" ", last),
+        Who::Number(number) => Piece::Number(b" ", *number),
+        Who::Name(last) => Piece::Text(b" ", last.bytes()),
     }
 }
 
 fn put_order_line(screen: &mut Screen, line: &Line) -> Result<(), NoMemory>
     ensures { OnOk result (Adds screen.old screen.new (32 ∷ lines.order_line_word line.now)) }
 {
-    screen.put_number(b" ", line.item)?;
-    screen.put_number(b":", line.supply)?;
-    screen.put_number(b":", line.quantity)
+    screen.put_all(&[
+        Piece::Number(b" ", line.item),
+        Piece::Number(b":", line.supply),
+        Piece::Number(b":", line.quantity),
+    ])
 }
 
 fn put_order_lines(screen: &mut Screen, order: &[Line]) -> Result<(), NoMemory>
@@ -69,10 +67,12 @@ fn put_order_lines(screen: &mut Screen, order: &[Line]) -> Result<(), NoMemory>
 fn put_order(screen: &mut Screen, order: &Order) -> Result<(), NoMemory>
     ensures { OnOk result (Adds screen.old screen.new (lines.order_line order.now)) }
 {
-    screen.put_number(b"new-order ", order.warehouse)?;
-    screen.put_number(b" ", order.district)?;
-    screen.put_number(b" ", order.customer)?;
-    put_seconds(screen, order.moment)?;
+    screen.put_all(&[
+        Piece::Number(b"new-order ", order.warehouse),
+        Piece::Number(b" ", order.district),
+        Piece::Number(b" ", order.customer),
+        Piece::Number(b" ", order.moment.seconds()),
+    ])?;
     put_order_lines(screen, order.lines.as_slice())?;
     screen.put(b"\n")
 }
@@ -80,47 +80,53 @@ fn put_order(screen: &mut Screen, order: &Order) -> Result<(), NoMemory>
 fn put_payment(screen: &mut Screen, payment: &Payment) -> Result<(), NoMemory>
     ensures { OnOk result (Adds screen.old screen.new (lines.payment_line payment.now)) }
 {
-    screen.put_number(b"payment ", payment.warehouse)?;
-    screen.put_number(b" ", payment.district)?;
-    screen.put_number(b" ", payment.customer_warehouse)?;
-    screen.put_number(b" ", payment.customer_district)?;
-    put_who(screen, &payment.who)?;
-    screen.put_amount(b" ", payment.amount)?;
-    put_seconds(screen, payment.moment)?;
-    screen.put(b"\n")
+    screen.put_all(&[
+        Piece::Number(b"payment ", payment.warehouse),
+        Piece::Number(b" ", payment.district),
+        Piece::Number(b" ", payment.customer_warehouse),
+        Piece::Number(b" ", payment.customer_district),
+        customer_word(&payment.who),
+        Piece::Amount(b" ", payment.amount),
+        Piece::Number(b" ", payment.moment.seconds()),
+        Piece::Word(b"\n"),
+    ])
 }
 
 fn put_status_query(screen: &mut Screen, query: &StatusQuery) -> Result<(), NoMemory>
     ensures { OnOk result (Adds screen.old screen.new (lines.status_line query.now)) }
 {
-    screen.put_number(b"status ", query.warehouse)?;
-    screen.put_number(b" ", query.district)?;
-    put_who(screen, &query.who)?;
-    screen.put(b"\n")
+    screen.put_all(&[
+        Piece::Number(b"status ", query.warehouse),
+        Piece::Number(b" ", query.district),
+        customer_word(&query.who),
+        Piece::Word(b"\n"),
+    ])
 }
 
 fn put_stock_query(screen: &mut Screen, query: &StockQuery) -> Result<(), NoMemory>
     ensures { OnOk result (Adds screen.old screen.new (lines.stock_line query.now)) }
 {
-    screen.put_number(b"stock ", query.warehouse)?;
-    screen.put_number(b" ", query.district)?;
-    screen.put_number(b" ", query.threshold)?;
-    screen.put(b"\n")
+    screen.put_all(&[
+        Piece::Number(b"stock ", query.warehouse),
+        Piece::Number(b" ", query.district),
+        Piece::Number(b" ", query.threshold),
+        Piece::Word(b"\n"),
+    ])
 }
 
 fn put_ticket(screen: &mut Screen, ticket: &Ticket) -> Result<(), NoMemory>
     ensures { OnOk result (Adds screen.old screen.new (lines.delivery_line ticket.now)) }
 {
-    screen.put_number(b"delivery ", ticket.warehouse)?;
-    screen.put_number(b" ", ticket.carrier)?;
-    put_seconds(screen, ticket.queued)?;
-    screen.put(b"\n")
+    screen.put_all(&[
+        Piece::Number(b"delivery ", ticket.warehouse),
+        Piece::Number(b" ", ticket.carrier),
+        Piece::Number(b" ", ticket.queued.seconds()),
+        Piece::Word(b"\n"),
+    ])
 }
 
 fn put_deliver(screen: &mut Screen, at: Moment) -> Result<(), NoMemory>
     ensures { OnOk result (Adds screen.old screen.new (lines.deliver_line at)) }
 {
-    screen.put(b"deliver")?;
-    put_seconds(screen, at)?;
-    screen.put(b"\n")
+    screen.put_all(&[Piece::Number(b"deliver ", at.seconds()), Piece::Word(b"\n")])
 }

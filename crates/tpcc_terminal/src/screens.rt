@@ -1,19 +1,20 @@
 //! Text that is shown at a terminal.
-ghost use Rattle.std.specs.Prelude.{◌≡◌, ◌++◌, [], OnOk, decimal};
-ghost use Rattle.tpcc_money.specs.Texts.{amount_text, rate_text, moment_text};
+ghost use Rattle.std.specs.Prelude.{◌≡◌, ◌++◌, [], ℕ, List, IfOk, OnOk, Some};
 ghost use Rattle.tpcc_terminal.specs.Adding.{Adds};
+ghost use Rattle.tpcc_terminal.specs.Pieces.{piece_text, pieces_text};
 ghost use Rattle.tpcc_terminal.specs.Screens.{address_text};
 
+use crate::pieces::Piece;
 use std::alloc::Global;
+use std::fmt::Display;
+use std::io::Write;
 use std::marker::Model;
-use tpcc_money::{Cents, Moment, NoMemory, Rate};
-use tpcc_rows::{Address, Text};
+use tpcc_money::NoMemory;
+use tpcc_rows::Address;
 
 /// Lines of ASCII text, each ended by a line feed.
 #[derive(Drop)]
 pub struct Screen {
-    /// Where its texts are made.
-    alloc: Global,
     /// The lines up to now.
     bytes: Vec<u8>,
 }
@@ -38,11 +39,45 @@ impl Screen {
         ensures { result ≡ [] }
     {
         Screen {
-            alloc,
             bytes: Vec::new(alloc),
         }
     }
 
+    /// A screen of these pieces; refused only for want of memory.
+    pub(crate) fn of(alloc: Global, pieces: &[Piece<'_>]) -> Result<Screen, NoMemory>
+        ensures { IfOk result (λ screen. screen ≡ pieces_text pieces.now) }
+    {
+        let mut screen = Screen::new(alloc);
+        screen.put_all(pieces)?;
+        Ok(screen)
+    }
+
+    /// Adds pieces, one behind another.
+    pub(crate) fn put_all(&mut self, pieces: &[Piece<'_>]) -> Result<(), NoMemory>
+        ensures { OnOk result (Adds self.old self.new (pieces_text pieces.now)) }
+    {
+        for piece in pieces {
+            self.put_piece(piece)?;
+        }
+        Ok(())
+    }
+
+    fn put_piece(&mut self, piece: &Piece<'_>) -> Result<(), NoMemory>
+        ensures { OnOk result (Adds self.old self.new (piece_text piece.now)) }
+    {
+        match piece {
+            Piece::Word(word) => self.put(word),
+            Piece::Text(name, text) => self.put_text(name, text),
+            Piece::Number(name, number) => self.put_shown(name, number),
+            Piece::Count(name, count) => self.put_shown(name, count),
+            Piece::Amount(name, amount) => self.put_shown(name, amount),
+            Piece::Rate(name, rate) => self.put_shown(name, rate),
+            Piece::Moment(name, moment) => self.put_shown(name, moment),
+            Piece::Address(name, address) => self.put_address(name, address),
+        }
+    }
+
+    /// Adds bytes as they are.
     pub(crate) fn put(&mut self, text: &[u8]) -> Result<(), NoMemory>
         ensures { OnOk result (Adds self.old self.new text.now) }
     {
@@ -50,62 +85,31 @@ impl Screen {
         Ok(())
     }
 
-    pub(crate) fn put_number(&mut self, name: &[u8], number: u32) -> Result<(), NoMemory>
-        ensures { OnOk result (Adds self.old self.new (name.now ++ decimal number)) }
-    {
-        self.put_count(name, u64::from(number))
-    }
-
-    pub(crate) fn put_count(&mut self, name: &[u8], count: u64) -> Result<(), NoMemory>
-        ensures { OnOk result (Adds self.old self.new (name.now ++ decimal count)) }
-    {
-        self.put(name)?;
-        let text = count.to_string(self.alloc)?;
-        self.put(text.as_bytes())
-    }
-
-    pub(crate) fn put_text<const N: usize>(
-        &mut self,
-        name: &[u8],
-        text: &Text<N>,
-    ) -> Result<(), NoMemory>
+    fn put_text(&mut self, name: &[u8], text: &[u8]) -> Result<(), NoMemory>
         ensures { OnOk result (Adds self.old self.new (name.now ++ text.now)) }
     {
         self.put(name)?;
-        self.put(text.bytes())
+        self.put(text)
     }
 
-    pub(crate) fn put_amount(&mut self, name: &[u8], amount: Cents) -> Result<(), NoMemory>
-        ensures { OnOk result (Adds self.old self.new (name.now ++ amount_text amount)) }
+    fn put_shown<T: Display>(&mut self, name: &[u8], value: &T) -> Result<(), NoMemory>
+        ensures { (text : List ℕ) → T.output value.now ≡ Some text
+            → OnOk result (Adds self.old self.new (name.now ++ text)) }
     {
         self.put(name)?;
-        let text = amount.to_string(self.alloc)?;
-        self.put(text.as_bytes())
+        match write!(self.bytes, "{value}") {
+            Ok(()) => Ok(()),
+            Err(_) => Err(NoMemory),
+        }
     }
 
-    pub(crate) fn put_rate(&mut self, name: &[u8], rate: Rate) -> Result<(), NoMemory>
-        ensures { OnOk result (Adds self.old self.new (name.now ++ rate_text rate)) }
-    {
-        self.put(name)?;
-        let text = rate.to_string(self.alloc)?;
-        self.put(text.as_bytes())
-    }
-
-    pub(crate) fn put_moment(&mut self, name: &[u8], moment: Moment) -> Result<(), NoMemory>
-        ensures { OnOk result (Adds self.old self.new (name.now ++ moment_text moment)) }
-    {
-        self.put(name)?;
-        let text = moment.text(self.alloc)?;
-        self.put(text.as_slice())
-    }
-
-    pub(crate) fn put_address(&mut self, name: &[u8], address: &Address) -> Result<(), NoMemory>
+    fn put_address(&mut self, name: &[u8], address: &Address) -> Result<(), NoMemory>
         ensures { OnOk result (Adds self.old self.new (name.now ++ address_text address.now)) }
     {
-        self.put_text(name, &address.street_1)?;
-        self.put_text(b",", &address.street_2)?;
-        self.put_text(b",", &address.city)?;
-        self.put_text(b",", &address.state)?;
-        self.put_text(b",", &address.zip)
+        self.put_text(name, address.street_1.bytes())?;
+        self.put_text(b",", address.street_2.bytes())?;
+        self.put_text(b",", address.city.bytes())?;
+        self.put_text(b",", address.state.bytes())?;
+        self.put_text(b",", address.zip.bytes())
     }
 }

@@ -1,7 +1,6 @@
-use Rattle.std.proofs.Common.{rules}
 use Rattle.tpcc_terminal.specs.Screens.{check_screen}
 use Rattle.tpcc_terminal.proofs.answers.consistent_screen.Goals as goal
 
 pub returns : goal.returns
 unfolding check_screen
-returns c = search rules
+returns c = c.of.ensures

@@ -1,15 +1,6 @@
-use Rattle.std.proofs.lemmas.Result.{on_ok_weaker}
 use Rattle.tpcc_terminal.specs.Screens.{rolled_back_line}
-use Rattle.tpcc_terminal.proofs.Chains.{behind}
 use Rattle.tpcc_terminal.proofs.new_order.put_rolled_back_line.Goals as goal
 
 pub returns : goal.returns
 unfolding rolled_back_line
-returns c = on_ok_weaker c.put-2.result (λ last.
-    (behind c.in_ok-put.ensures
-    (behind c.in_ok-put_number.ensures
-    (behind c.in_ok-put_number-2.ensures
-    (behind c.in_ok-put_number-3.ensures
-    (behind c.in_ok-put_text.ensures
-    (behind c.in_ok-put_text-2.ensures
-    (behind c.in_ok-put_number-4.ensures last)))))))) c.put-2.ensures
+returns c = rw (c.bytes.ensures.bytes, c.bytes-2.ensures.bytes) at c.put_all.ensures

@@ -1,15 +1,6 @@
-use Rattle.std.proofs.lemmas.Result.{on_ok_weaker}
 use Rattle.tpcc_terminal.specs.Screens.{ordered_line}
-use Rattle.tpcc_terminal.proofs.Chains.{behind}
 use Rattle.tpcc_terminal.proofs.order_status.put_ordered_line.Goals as goal
 
 pub returns : goal.returns
 unfolding ordered_line
-returns c = on_ok_weaker c.put-3.result (λ last.
-    (behind c.in_ok-put.ensures
-    (behind c.in_ok-put_number.ensures
-    (behind c.in_ok-put_number-2.ensures
-    (behind c.in_ok-put_number-3.ensures
-    (behind c.in_ok-put_amount.ensures
-    (behind c.in_ok-put-2.ensures
-    (behind c.in_ok-put_delivery_date.ensures last)))))))) c.put-3.ensures
+returns c = rw c.nullable_moment.ensures at c.put_all.ensures

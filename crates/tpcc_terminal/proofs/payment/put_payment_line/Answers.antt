@@ -1,16 +1,6 @@
-use Rattle.std.proofs.lemmas.Result.{on_ok_weaker}
 use Rattle.tpcc_terminal.specs.Screens.{payment_line}
-use Rattle.tpcc_terminal.proofs.Chains.{behind}
 use Rattle.tpcc_terminal.proofs.payment.put_payment_line.Goals as goal
 
 pub returns : goal.returns
 unfolding payment_line
-returns c = on_ok_weaker c.put-2.result (λ last.
-    (behind c.in_ok-put.ensures
-    (behind c.in_ok-put_number.ensures
-    (behind c.in_ok-put_number-2.ensures
-    (behind c.in_ok-put_number-3.ensures
-    (behind c.in_ok-put_number-4.ensures
-    (behind c.in_ok-put_number-5.ensures
-    (behind c.in_ok-put_amount.ensures
-    (behind c.in_ok-put_moment.ensures last))))))))) c.put-2.ensures
+returns c = c.put_all.ensures

@@ -1,15 +1,6 @@
-use Rattle.std.proofs.lemmas.Result.{on_ok_weaker}
 use Rattle.tpcc_terminal.specs.RequestLines.{payment_line}
-use Rattle.tpcc_terminal.proofs.Chains.{behind}
 use Rattle.tpcc_terminal.proofs.request_lines.put_payment.Goals as goal
 
 pub returns : goal.returns
 unfolding payment_line
-returns c = on_ok_weaker c.put.result (λ last.
-    (behind c.in_ok-put_number.ensures
-    (behind c.in_ok-put_number-2.ensures
-    (behind c.in_ok-put_number-3.ensures
-    (behind c.in_ok-put_number-4.ensures
-    (behind c.in_ok-put_who.ensures
-    (behind c.in_ok-put_amount.ensures
-    (behind c.in_ok-put_seconds.ensures last)))))))) c.put.ensures
+returns c = rw (c.customer_word.ensures, c.seconds.ensures.value) at c.put_all.ensures
