@@ -1,3 +1,4 @@
+pub mod Record
 mod Row
 mod ReadBack
 mod Seen

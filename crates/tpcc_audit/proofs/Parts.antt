@@ -1,9 +1,9 @@
 -- Bytes that a sink got in turn, and bytes that wait.
 use Rattle.std.proofs.Common.{◌≡◌, ◌∙◌, sym, subst, refl, ℕ, ◌+◌, ◌-◌, ◌≤◌, List, [], ◌++◌, append-nil, length, take, drop, Option, Some, None, append_assoc, ap, arith}
 use Rattle.std.specs.Prelude.{Result, Ok, Err, OnOk, OnErr}
-use Rattle.std.specs.Io.KnownBytes.{Appends, Keeps}
+use Rattle.std.specs.Io.KnownBytes.{Appends}
 use Rattle.std.proofs.Math.Seq.{take-add, take-append-add}
-use Rattle.std.proofs.lemmas.List.{length-append, take_rest, take_all, take-append-le}
+use Rattle.std.proofs.lemmas.List.{length-append, take_rest, take-append-le}
 use Rattle.tpcc_audit.specs.Part.{AppendsPart, PassesBytes}
 
 -- bytes added in two turns

@@ -1,14 +1,61 @@
 //! The fields of one record.
-ghost use Rattle.std.specs.Prelude.{◌≡◌, ◌++◌, ◌∷◌, [], OnOk, map, decimal};
+ghost use Rattle.std.specs.Prelude.{◌≡◌, ◌++◌, ◌∷◌, [], ℕ, List, OnOk, Some, map, flat_map};
 ghost use Rattle.csv.specs.Records.{fields_of};
-ghost use Rattle.tpcc_money.specs.Texts.{amount_text, rate_text, moment_text};
+ghost use Rattle.tpcc_audit.specs.Fields.{field_texts};
 ghost use Rattle.tpcc_audit.specs.Records as records;
 
 use csv::ByteRecord;
 use std::alloc::Global;
+use std::fmt::Display;
 use std::marker::Model;
 use tpcc_money::{Cents, Moment, NoMemory, Rate};
 use tpcc_rows::{Address, Text};
+
+/// What a field shows, or several in a row.
+#[derive(Clone, Copy)]
+pub enum Field<'a> {
+    /// A text.
+    Text(&'a [u8]),
+    /// A number in decimal.
+    Number(u32),
+    /// An amount with two decimals.
+    Amount(Cents),
+    /// A rate with four decimals.
+    Rate(Rate),
+    /// A moment as `1970-01-01T00:00:00`.
+    Moment(Moment),
+    /// The five fields of an address.
+    Address(&'a Address),
+    /// A field for each text.
+    Texts(&'a [Text<24>]),
+}
+
+/// A number, or an empty field where it is null.
+pub fn nullable_number(number: Option<u32>) -> Field<'static>
+    ensures { field_texts result ≡ records.nullable_number number ∷ [] }
+{
+    match number {
+        Some(number) => Field::Number(number),
+        None => Field::Text(b""),
+    }
+}
+
+/// A moment, or an empty field where it is null.
+pub fn nullable_moment(moment: Option<Moment>) -> Field<'static>
+    ensures { field_texts result ≡ records.nullable_moment moment ∷ [] }
+{
+    match moment {
+        Some(moment) => Field::Moment(moment),
+        None => Field::Text(b""),
+    }
+}
+
+/// 1 for true, 0 for false.
+pub fn flag(flag: bool) -> Field<'static>
+    ensures { field_texts result ≡ records.flag flag ∷ [] }
+{
+    Field::Text(if flag { b"1" } else { b"0" })
+}
 
 /// Whole fields, one behind another.
 #[derive(Drop)]
@@ -48,15 +95,15 @@ impl Fields {
         &self.row
     }
 
-    /// Takes all fields away; their memory is used again.
-    pub fn clear(&mut self)
+    // Takes all fields away; their memory is used again.
+    fn clear(&mut self)
         ensures { self.new ≡ [] }
     {
         self.row.clear();
     }
 
-    /// Adds a field of these bytes.
-    pub fn put(&mut self, text: &[u8]) -> Result<(), NoMemory>
+    // Adds a field of these bytes.
+    fn put(&mut self, text: &[u8]) -> Result<(), NoMemory>
         ensures { OnOk result (self.new ≡ self.old ++ text.now ∷ []) }
     {
         match self.row.push_field(text) {
@@ -78,97 +125,55 @@ impl Fields {
         Ok(())
     }
 
-    /// Adds a text of a column.
-    pub fn put_text<const N: usize>(&mut self, text: &Text<N>) -> Result<(), NoMemory>
-        ensures { OnOk result (self.new ≡ self.old ++ text.now ∷ []) }
+    /// Makes these the whole record.
+    pub fn set(&mut self, fields: &[Field<'_>]) -> Result<(), NoMemory>
+        ensures { OnOk result (self.new ≡ flat_map field_texts fields.now) }
     {
-        self.put(text.bytes())
-    }
-
-    /// Adds a field for each text.
-    pub fn put_texts(&mut self, texts: &[Text<24>]) -> Result<(), NoMemory>
-        ensures { OnOk result (self.new ≡ self.old ++ texts.now) }
-    {
-        for text in texts {
-            self.put_text(text)?;
+        self.clear();
+        for field in fields {
+            self.put_field(field)?;
         }
         Ok(())
     }
 
-    /// Adds the five fields of an address.
-    pub fn put_address(&mut self, address: &Address) -> Result<(), NoMemory>
+    fn put_field(&mut self, field: &Field<'_>) -> Result<(), NoMemory>
+        ensures { OnOk result (self.new ≡ self.old ++ field_texts field.now) }
+    {
+        match field {
+            Field::Text(text) => self.put(text),
+            Field::Number(number) => self.put_shown(number),
+            Field::Amount(amount) => self.put_shown(amount),
+            Field::Rate(rate) => self.put_shown(rate),
+            Field::Moment(moment) => self.put_shown(moment),
+            Field::Address(address) => self.put_address(address),
+            Field::Texts(texts) => self.put_texts(texts),
+        }
+    }
+
+    fn put_shown<T: Display>(&mut self, value: &T) -> Result<(), NoMemory>
+        ensures { (text : List ℕ) → T.output value.now ≡ Some text
+            → OnOk result (self.new ≡ self.old ++ text ∷ []) }
+    {
+        let text = value.to_string(self.alloc)?;
+        self.put(text.as_bytes())
+    }
+
+    fn put_address(&mut self, address: &Address) -> Result<(), NoMemory>
         ensures { OnOk result (self.new ≡ self.old ++ records.address_fields address.now) }
     {
-        self.put_text(&address.street_1)?;
-        self.put_text(&address.street_2)?;
-        self.put_text(&address.city)?;
-        self.put_text(&address.state)?;
-        self.put_text(&address.zip)
+        self.put(address.street_1.bytes())?;
+        self.put(address.street_2.bytes())?;
+        self.put(address.city.bytes())?;
+        self.put(address.state.bytes())?;
+        self.put(address.zip.bytes())
     }
 
-    /// Adds a number in decimal.
-    pub fn put_number(&mut self, number: u32) -> Result<(), NoMemory>
-        ensures { OnOk result (self.new ≡ self.old ++ decimal number ∷ []) }
+    fn put_texts(&mut self, texts: &[Text<24>]) -> Result<(), NoMemory>
+        ensures { OnOk result (self.new ≡ self.old ++ texts.now) }
     {
-        let text = number.to_string(self.alloc)?;
-        self.put(text.as_bytes())
-    }
-
-    /// Null is an empty field.
-    fn put_null(&mut self) -> Result<(), NoMemory>
-        ensures { OnOk result (self.new ≡ self.old ++ [] ∷ []) }
-    {
-        self.put(b"")
-    }
-
-    /// A number, or an empty field where it is null.
-    pub fn put_nullable_number(&mut self, number: Option<u32>) -> Result<(), NoMemory>
-        ensures { OnOk result (self.new ≡ self.old ++ records.nullable_number number ∷ []) }
-    {
-        match number {
-            Some(number) => self.put_number(number),
-            None => self.put_null(),
+        for text in texts {
+            self.put(text.bytes())?;
         }
-    }
-
-    /// An amount with two decimals.
-    pub fn put_amount(&mut self, amount: Cents) -> Result<(), NoMemory>
-        ensures { OnOk result (self.new ≡ self.old ++ amount_text amount ∷ []) }
-    {
-        let text = amount.to_string(self.alloc)?;
-        self.put(text.as_bytes())
-    }
-
-    /// A rate with four decimals.
-    pub fn put_rate(&mut self, rate: Rate) -> Result<(), NoMemory>
-        ensures { OnOk result (self.new ≡ self.old ++ rate_text rate ∷ []) }
-    {
-        let text = rate.to_string(self.alloc)?;
-        self.put(text.as_bytes())
-    }
-
-    /// A moment as `1970-01-01T00:00:00`.
-    pub fn put_moment(&mut self, moment: Moment) -> Result<(), NoMemory>
-        ensures { OnOk result (self.new ≡ self.old ++ moment_text moment ∷ []) }
-    {
-        let text = moment.text(self.alloc)?;
-        self.put(text.as_slice())
-    }
-
-    /// A moment, or an empty field where it is null.
-    pub fn put_nullable_moment(&mut self, moment: Option<Moment>) -> Result<(), NoMemory>
-        ensures { OnOk result (self.new ≡ self.old ++ records.nullable_moment moment ∷ []) }
-    {
-        match moment {
-            Some(moment) => self.put_moment(moment),
-            None => self.put_null(),
-        }
-    }
-
-    /// 1 for true, 0 for false.
-    pub fn put_flag(&mut self, flag: bool) -> Result<(), NoMemory>
-        ensures { OnOk result (self.new ≡ self.old ++ records.flag flag ∷ []) }
-    {
-        self.put(if flag { b"1" } else { b"0" })
+        Ok(())
     }
 }
