@@ -5,6 +5,7 @@ ghost use Rattle.tpcc_journal.specs.Kept.{entry_of};
 ghost use Rattle.tpcc_terminal.specs.RequestLines as lines;
 ghost use Rattle.tpcc_terminal.specs.Screens as screens;
 
+use crate::texts::put_screen;
 use std::alloc::Global;
 use std::io::Write;
 use tpcc_audit::{Blocks, DumpFault};
@@ -47,23 +48,6 @@ impl EntryText for ReplyScreens {
     }
 }
 
-#[tactic(auto, using(tpcc_audit::proofs::Parts::none_part))]
-fn put_entry<T: EntryText, W: Write>(
-    alloc: Global,
-    blocks: &mut Blocks,
-    out: &mut W,
-    entry: &EntryRef,
-) -> Result<(), DumpFault>
-    ensures written { OnOk result (PassesBytes (W.contents out.old) (W.contents out.new)
-        (blocks.old ++ T.text (entry_of entry.now)) blocks.new) }
-    ensures part { OnErr result (AppendsPart (W.contents out.old) (W.contents out.new)
-        (blocks.old ++ T.text (entry_of entry.now))) }
-{
-    let text = T::make(alloc, entry)?;
-    blocks.put(out, text.bytes())?;
-    Ok(())
-}
-
 /// Puts the text of each entry, in their order.
 pub fn put_each<T: EntryText, W: Write>(
     alloc: Global,
@@ -80,7 +64,7 @@ pub fn put_each<T: EntryText, W: Write>(
         let Some(entry) = journal.entry(place) else {
             unreachable!()
         };
-        put_entry::<T, W>(alloc, blocks, out, &entry)?;
+        put_screen(blocks, out, T::make(alloc, &entry))?;
     }
     Ok(())
 }

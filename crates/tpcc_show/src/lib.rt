@@ -19,6 +19,7 @@ mod parts;
 mod requests;
 mod screens;
 mod showing;
+mod texts;
 
 pub use parts::{Part, ShownParts, part_named};
 pub use requests::put_requests;

@@ -4,6 +4,7 @@ ghost use Rattle.std.specs.Io.KnownBytes.{Appends};
 ghost use Rattle.tpcc_audit.specs.Part.{AppendsPart, PassesBytes};
 ghost use Rattle.tpcc_show.specs.Requests.{IsTold, asked_by, asked_next, next_line, request_lines};
 
+use crate::texts::put_screen;
 use std::alloc::Global;
 use std::io::Write;
 use tpcc_audit::{Blocks, DumpFault};
@@ -76,7 +77,5 @@ fn put_next<W: Write>(
         (blocks.old ++ next_line terminal.old moment)) }
 {
     let request = terminal.next(moment)?;
-    let line = request_line(alloc, &request)?;
-    blocks.put(out, line.bytes())?;
-    Ok(())
+    put_screen(blocks, out, request_line(alloc, &request))
 }

@@ -1,21 +1,17 @@
 //! Parts of a book, written one after another.
 ghost use Rattle.std.specs.Prelude.{◌≡◌, ◌++◌, OnErr, OnOk, Some, flat_map, option_map};
 ghost use Rattle.std.specs.Io.KnownBytes.{Appends};
-ghost use Rattle.tpcc_rows.specs.Conditions.{first_broken};
-ghost use Rattle.tpcc_rows.specs.Replay.{results_of};
 ghost use Rattle.tpcc_audit.specs.Part.{AppendsPart, PassesBytes};
-ghost use Rattle.tpcc_terminal.specs.Screens as screens;
 ghost use Rattle.tpcc_show.specs.Shown.{book_report, headed_text, heading, named_line, part_text, parts_text, screens_shown, served_text, shown_text};
 
 use crate::entries::{ReplyScreens, RequestLines, put_each};
 use crate::parts::Part;
+use crate::texts::{put_bytes, put_screen};
 use crate::screens::{check_screen, results_screen};
 use std::alloc::Global;
 use std::io::Write;
 use tpcc_audit::{Blocks, DumpFault, Unwritten, put_dump};
 use tpcc_book::{Book, Naming};
-use tpcc_journal::Journal;
-use tpcc_tables::Tables;
 use tpcc_terminal::Report;
 
 /// Writes parts of a book, in their order: one part alone as it is, several each under a line `== PART`.
@@ -164,8 +160,8 @@ fn show_part<N: Naming, W: Write>(
     match part {
         Part::Screens => put_shown(alloc, blocks, out, book, screens),
         Part::Journal => put_each::<RequestLines, W>(alloc, blocks, out, book.journal()),
-        Part::Results => put_results(alloc, blocks, out, book.journal()),
-        Part::Check => put_check(alloc, blocks, out, book.tables()),
+        Part::Results => put_screen(blocks, out, results_screen(alloc, book.journal())),
+        Part::Check => put_screen(blocks, out, check_screen(alloc, book.tables())),
         Part::Report => put_report(alloc, blocks, out, book),
         Part::Rows(table) => put_dump(alloc, book.tables(), table, blocks, out),
     }
@@ -185,46 +181,9 @@ fn put_shown<N: Naming, W: Write>(
         (blocks.old ++ screens_shown (option_map (λ s. s.now) screens.entry) book.now)) }
 {
     match screens {
-        Some(screens) => {
-            blocks.put(out, screens)?;
-            Ok(())
-        }
+        Some(screens) => put_bytes(blocks, out, screens),
         None => put_each::<ReplyScreens, W>(alloc, blocks, out, book.journal()),
     }
-}
-
-#[tactic(auto, using(tpcc_audit::proofs::Parts::none_part))]
-fn put_check<W: Write>(
-    alloc: Global,
-    blocks: &mut Blocks,
-    out: &mut W,
-    tables: &Tables,
-) -> Result<(), DumpFault>
-    ensures written { OnOk result (PassesBytes (W.contents out.old) (W.contents out.new)
-        (blocks.old ++ screens.check_screen (first_broken tables.now.rows)) blocks.new) }
-    ensures part { OnErr result (AppendsPart (W.contents out.old) (W.contents out.new)
-        (blocks.old ++ screens.check_screen (first_broken tables.now.rows))) }
-{
-    let screen = check_screen(alloc, tables)?;
-    blocks.put(out, screen.bytes())?;
-    Ok(())
-}
-
-#[tactic(auto, using(tpcc_audit::proofs::Parts::none_part))]
-fn put_results<W: Write>(
-    alloc: Global,
-    blocks: &mut Blocks,
-    out: &mut W,
-    journal: &Journal,
-) -> Result<(), DumpFault>
-    ensures written { OnOk result (PassesBytes (W.contents out.old) (W.contents out.new)
-        (blocks.old ++ screens.results_screen (results_of journal.now.entries)) blocks.new) }
-    ensures part { OnErr result (AppendsPart (W.contents out.old) (W.contents out.new)
-        (blocks.old ++ screens.results_screen (results_of journal.now.entries))) }
-{
-    let screen = results_screen(alloc, journal)?;
-    blocks.put(out, screen.bytes())?;
-    Ok(())
 }
 
 #[tactic(auto, using(tpcc_audit::proofs::Parts::none_part))]
@@ -248,6 +207,5 @@ fn put_report<N: Naming, W: Write>(
     let Ok(text) = totals.to_string(alloc) else {
         return Err(DumpFault::NoMemory);
     };
-    blocks.put(out, text.as_bytes())?;
-    Ok(())
+    put_bytes(blocks, out, text.as_bytes())
 }
