@@ -1,6 +1,6 @@
 -- Texts that were put into blocks one after another.
 use Rattle.std.proofs.Common.{◌≡◌, ◌∙◌, sym, refl, ap, subst, codes, ℕ, ◌+◌, ◌<◌, suc, List, [], ◌∷◌, ◌++◌, append_assoc, append-nil, length, get_or, take, drop, arith}
-use Rattle.std.specs.Prelude.{Option, Some, flat_map, slice_get}
+use Rattle.std.specs.Prelude.{Option, Some, Result, Ok, Err, OnOk, OnErr, flat_map, slice_get}
 use Rattle.std.proofs.Math.Seq.{take-suc}
 use Rattle.std.proofs.lemmas.List.{take-append-drop}
 use Rattle.std.proofs.lemmas.List.Concat.{flat_map-append}
@@ -46,25 +46,36 @@ cut_next f xs k x a b c waited waits at before part =
     subst (λ z. AppendsPart a c (waited ++ z)) all
     (cut_first a c waited (flat_map f (take (k + 1) xs)) (flat_map f rest) first)
 
+-- two texts, where the second call tells how both end
+pub both : {E : Type 0} (a b c : Option (List ℕ)) (waited xs ys waits left : List ℕ) (r : Result (Unit {0}) E)
+    → PassesBytes a b (waited ++ xs) waits → OnOk r (PassesBytes b c (waits ++ ys) left) → OnOk r (PassesBytes a c (waited ++ (xs ++ ys)) left)
+both a b c waited xs ys waits left (Ok done) before more = in_turn a b c waited xs ys waits left before more
+both a b c waited xs ys waits left (Err fault) before more = tt
+
+pub both_cut : {E : Type 0} (a b c : Option (List ℕ)) (waited xs ys waits : List ℕ) (r : Result (Unit {0}) E)
+    → PassesBytes a b (waited ++ xs) waits → OnErr r (AppendsPart b c (waits ++ ys)) → OnErr r (AppendsPart a c (waited ++ (xs ++ ys)))
+both_cut a b c waited xs ys waits (Ok done) before part = tt
+both_cut a b c waited xs ys waits (Err fault) before part = cut_later a b c waited xs ys waits before part
+
 under : (name text : List ℕ) → (codes "== " ++ (name ++ (10 ∷ []))) ++ text ≡ codes "== " ++ (name ++ (10 ∷ text))
 under name text =
     append_assoc (codes "== ") (name ++ (10 ∷ [])) text ∙ ap (λ z. codes "== " ++ z) (append_assoc name (10 ∷ []) text)
 
 -- a part behind its heading
-pub part_with_heading : (a b c : Option (List ℕ)) (waited name text waits left : List ℕ)
-    → PassesBytes a b (waited ++ (codes "== " ++ (name ++ (10 ∷ [])))) waits → PassesBytes b c (waits ++ text) left
-    → PassesBytes a c (waited ++ (codes "== " ++ (name ++ (10 ∷ text)))) left
-part_with_heading a b c waited name text waits left before more =
-    subst (λ z. PassesBytes a c (waited ++ z) left) (under name text)
-    (in_turn a b c waited (codes "== " ++ (name ++ (10 ∷ []))) text waits left before more)
+pub part_with_heading : {E : Type 0} (a b c : Option (List ℕ)) (waited name text waits left : List ℕ) (r : Result (Unit {0}) E)
+    → PassesBytes a b (waited ++ (codes "== " ++ (name ++ (10 ∷ [])))) waits → OnOk r (PassesBytes b c (waits ++ text) left)
+    → OnOk r (PassesBytes a c (waited ++ (codes "== " ++ (name ++ (10 ∷ text)))) left)
+part_with_heading a b c waited name text waits left r before more =
+    subst (λ z. OnOk r (PassesBytes a c (waited ++ z) left)) (under name text)
+    (both a b c waited (codes "== " ++ (name ++ (10 ∷ []))) text waits left r before more)
 
 -- cut off in it
-pub headed_cut : (a b c : Option (List ℕ)) (waited name text waits : List ℕ)
-    → PassesBytes a b (waited ++ (codes "== " ++ (name ++ (10 ∷ [])))) waits → AppendsPart b c (waits ++ text)
-    → AppendsPart a c (waited ++ (codes "== " ++ (name ++ (10 ∷ text))))
-headed_cut a b c waited name text waits before part =
-    subst (λ z. AppendsPart a c (waited ++ z)) (under name text)
-    (cut_later a b c waited (codes "== " ++ (name ++ (10 ∷ []))) text waits before part)
+pub headed_cut : {E : Type 0} (a b c : Option (List ℕ)) (waited name text waits : List ℕ) (r : Result (Unit {0}) E)
+    → PassesBytes a b (waited ++ (codes "== " ++ (name ++ (10 ∷ [])))) waits → OnErr r (AppendsPart b c (waits ++ text))
+    → OnErr r (AppendsPart a c (waited ++ (codes "== " ++ (name ++ (10 ∷ text)))))
+headed_cut a b c waited name text waits r before part =
+    subst (λ z. OnErr r (AppendsPart a c (waited ++ z))) (under name text)
+    (both_cut a b c waited (codes "== " ++ (name ++ (10 ∷ []))) text waits r before part)
 
 -- or in its heading
 pub heading_cut : (a b : Option (List ℕ)) (waited name text : List ℕ)

@@ -6,11 +6,11 @@ ghost use Rattle.tpcc_show.specs.Shown.{book_report, headed_text, heading, named
 
 use crate::entries::{ReplyScreens, RequestLines, put_each};
 use crate::parts::Part;
-use crate::texts::{put_bytes, put_screen};
 use crate::screens::{check_screen, results_screen};
+use crate::texts::{put_bytes, put_screen};
 use std::alloc::Global;
 use std::io::Write;
-use tpcc_audit::{Blocks, DumpFault, Unwritten, put_dump};
+use tpcc_audit::{Blocks, DumpFault, put_dump};
 use tpcc_book::{Book, Naming};
 use tpcc_terminal::Report;
 
@@ -99,7 +99,6 @@ fn show_all<N: Naming, W: Write>(
     Ok(())
 }
 
-#[tactic(auto, using(crate::proofs::Putting::part_with_heading, crate::proofs::Putting::headed_cut, crate::proofs::Putting::heading_cut), unfolding(crate::specs::Shown::headed_text))]
 fn show_headed<N: Naming, W: Write>(
     alloc: Global,
     book: &Book<N>,
@@ -115,31 +114,27 @@ fn show_headed<N: Naming, W: Write>(
         (blocks.old ++ headed_text (option_map (λ s. s.now) screens.entry) book.now part)) }
 {
     put_heading(blocks, out, part)?;
-    show_part(alloc, book, screens, part, blocks, out)?;
-    Ok(())
+    show_part(alloc, book, screens, part, blocks, out)
 }
 
-fn put_heading<W: Write>(blocks: &mut Blocks, out: &mut W, part: Part) -> Result<(), Unwritten>
+fn put_heading<W: Write>(blocks: &mut Blocks, out: &mut W, part: Part) -> Result<(), DumpFault>
     ensures written { OnOk result (PassesBytes (W.contents out.old) (W.contents out.new)
         (blocks.old ++ heading part) blocks.new) }
     ensures part { OnErr result (AppendsPart (W.contents out.old) (W.contents out.new)
         (blocks.old ++ heading part)) }
 {
-    blocks.put(out, b"== ")?;
-    put_name(blocks, out, part)?;
-    Ok(())
+    put_bytes(blocks, out, b"== ")?;
+    put_name(blocks, out, part)
 }
 
-#[tactic(auto, using(tpcc_audit::proofs::Parts::in_turn, tpcc_audit::proofs::Parts::cut_first, tpcc_audit::proofs::Parts::cut_later))]
-fn put_name<W: Write>(blocks: &mut Blocks, out: &mut W, part: Part) -> Result<(), Unwritten>
+fn put_name<W: Write>(blocks: &mut Blocks, out: &mut W, part: Part) -> Result<(), DumpFault>
     ensures written { OnOk result (PassesBytes (W.contents out.old) (W.contents out.new)
         (blocks.old ++ named_line part) blocks.new) }
     ensures part { OnErr result (AppendsPart (W.contents out.old) (W.contents out.new)
         (blocks.old ++ named_line part)) }
 {
-    blocks.put(out, part.name())?;
-    blocks.put(out, b"\n")?;
-    Ok(())
+    put_bytes(blocks, out, part.name())?;
+    put_bytes(blocks, out, b"\n")
 }
 
 // One part, with no heading.

@@ -8,11 +8,7 @@ use tpcc_money::NoMemory;
 use tpcc_terminal::Screen;
 
 /// Puts bytes.
-pub fn put_bytes<W: Write>(
-    blocks: &mut Blocks,
-    out: &mut W,
-    bytes: &[u8],
-) -> Result<(), DumpFault>
+pub fn put_bytes<W: Write>(blocks: &mut Blocks, out: &mut W, bytes: &[u8]) -> Result<(), DumpFault>
     ensures written { OnOk result (PassesBytes (W.contents out.old) (W.contents out.new)
         (blocks.old ++ bytes.now) blocks.new) }
     ensures part { OnErr result (AppendsPart (W.contents out.old) (W.contents out.new)
