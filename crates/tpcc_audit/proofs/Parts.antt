@@ -130,3 +130,14 @@ ends_part a b c text waits h p = passes-some a b c text waits h p
 pub at_fault : {X E : Type 0} (P : Type 0) (r : Result X E) → P → OnErr r P
 at_fault P (Ok x) p = tt
 at_fault P (Err e) p = p
+
+-- two texts, where the second call tells how both end
+pub both : {E : Type 0} (a b c : Option (List ℕ)) (waited xs ys waits left : List ℕ) (r : Result (Unit {0}) E)
+    → PassesBytes a b (waited ++ xs) waits → OnOk r (PassesBytes b c (waits ++ ys) left) → OnOk r (PassesBytes a c (waited ++ (xs ++ ys)) left)
+both a b c waited xs ys waits left (Ok done) before more = in_turn a b c waited xs ys waits left before more
+both a b c waited xs ys waits left (Err fault) before more = tt
+
+pub both_cut : {E : Type 0} (a b c : Option (List ℕ)) (waited xs ys waits : List ℕ) (r : Result (Unit {0}) E)
+    → PassesBytes a b (waited ++ xs) waits → OnErr r (AppendsPart b c (waits ++ ys)) → OnErr r (AppendsPart a c (waited ++ (xs ++ ys)))
+both_cut a b c waited xs ys waits (Ok done) before part = tt
+both_cut a b c waited xs ys waits (Err fault) before part = cut_later a b c waited xs ys waits before part

@@ -65,7 +65,6 @@ pub fn dump_to<W: Write>(
 }
 
 /// Puts into blocks what [`dump_to`] writes.
-#[tactic(auto, using(crate::proofs::Parts::in_turn, crate::proofs::Parts::cut_first, crate::proofs::Parts::cut_later))]
 pub fn put_dump<W: Write>(
     alloc: Global,
     tables: &Tables,
@@ -80,8 +79,7 @@ pub fn put_dump<W: Write>(
 {
     let mut fields = Fields::new(alloc);
     put_columns(alloc, &mut fields, table, blocks, out)?;
-    put_rows(alloc, &mut fields, tables, table, blocks, out)?;
-    Ok(())
+    put_rows(alloc, &mut fields, tables, table, blocks, out)
 }
 
 #[tactic(auto, using(crate::proofs::Parts::none_part))]
