@@ -17,7 +17,7 @@ use tpcc_terminal::{Terminal, request_line};
 ///
 /// Write where the writer fails or takes nothing, NoMemory where a growth was refused. An interrupted write is made
 /// again, at most 1,000 times in a row.
-#[tactic(auto, using(crate::proofs::Asking::first_cards, crate::proofs::Asking::first_cut, crate::proofs::Asking::last_cut, tpcc_audit::proofs::Parts::none_part))]
+#[tactic(auto, using(tpcc_audit::proofs::Parts::none_part))]
 pub fn put_requests<W: Write>(
     alloc: Global,
     number: u32,
@@ -62,7 +62,6 @@ fn put_cards<W: Write>(
 }
 
 // The line of the next card.
-#[tactic(auto, using(tpcc_audit::proofs::Parts::none_part))]
 fn put_next<W: Write>(
     alloc: Global,
     terminal: &mut Terminal,
