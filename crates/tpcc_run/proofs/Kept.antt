@@ -1,16 +1,11 @@
 -- Receipts that were kept stand in the fronts of purses that were kept.
-use Rattle.std.proofs.Common.{◌≡◌, ℕ, zero, suc, List, [], ◌∷◌, ◌++◌, length, refl, sym, subst, Some, arith, ⊎_elim}
+use Rattle.std.proofs.Common.{◌≡◌, ℕ, zero, suc, List, [], ◌∷◌, ◌++◌, length, refl, sym, subst, Some}
 use Rattle.std.specs.Prelude.{slice_get, Bool, true, false, if◌then◌else◌}
-use Rattle.std.proofs.lemmas.List.{length-append, get_or_append_left}
 use Rattle.std.proofs.lemmas.List.Elements.{All-append}
-use Rattle.tpcc_rows.specs.declared.entry.Entry.{Entry}
-use Rattle.tpcc_rows.specs.declared.requests.Request.{Request}
-use Rattle.tpcc_book.specs.AnswerView.{AnswerView}
-use Rattle.tpcc_book.specs.Seats.{SeatedView, IsTurned}
+use Rattle.tpcc_book.specs.Seats.{SeatedView}
 use Rattle.tpcc_terminal.specs.declared.receipts.Receipt.{Receipt}
-use Rattle.tpcc_terminal.specs.Receipts.{Stands, AllStand, receipts_of}
+use Rattle.tpcc_terminal.specs.Receipts.{AllStand}
 use Rattle.tpcc_audit.specs.Settlement.{IsSeen, AllSeen}
-use Rattle.tpcc_run.specs.Outcome.{KeepsSome}
 
 read_before : (xs ys : List SeatedView) (k : ℕ) (p : SeatedView) → slice_get xs k ≡ Some p → slice_get (xs ++ ys) k ≡ Some p
 read_before [] ys k p h = absurd (cc h)
@@ -42,21 +37,3 @@ seen_appended purses held p before more now true seen stand same is =
     subst (λ (rs : List Receipt). AllSeen held rs) (sym is) (subst (λ (ps : List SeatedView). AllSeen ps (before ++ more)) (sym same) (seen_with purses p before more seen stand))
 seen_appended purses held p before more now false seen stand same is =
     subst (λ (rs : List Receipt). AllSeen held rs) (sym is) (subst (λ (ps : List SeatedView). AllSeen ps before) (sym same) (seen_before purses p before seen))
-
--- receipts that stand with more stand without
-pub stand_without : (entries : List Entry) (before more : List Receipt) → AllStand entries (before ++ more) → AllStand entries before
-stand_without entries before more all k d below =
-    subst (Stands entries) (get_or_append_left before more d k below) (all k d (omega (arith, length-append before more, below)))
-
--- the receipts that a terminal has after an answer stand in its purse's front
-pub stand_after : ((request : Request) (purse : SeatedView) (answer : AnswerView SeatedView) (receipts : List Receipt) → IsTurned request purse answer → AllStand purse.front receipts → AllStand answer.purse.front (receipts ++ receipts_of (λ p. p.purse) answer))
-    → (request : Request) (purse held after : SeatedView) (answer : AnswerView SeatedView) (before now : List Receipt)
-    → IsTurned request held answer → held ≡ purse → after ≡ answer.purse → AllStand purse.front before → KeepsSome before (receipts_of (λ p. p.purse) answer) now → AllStand after.front now
-stand_after law request purse held after answer before now turned same is stand kept =
-    let all = law request purse answer before (subst (λ (p : SeatedView). IsTurned request p answer) same turned) stand in
-    let more = receipts_of (λ (p : SeatedView). p.purse) answer in
-    let here : AllStand answer.purse.front now = ⊎_elim
-    (λ (e : now ≡ before ++ more). subst (AllStand answer.purse.front) (sym e) all)
-    (λ (e : now ≡ before). subst (AllStand answer.purse.front) (sym e) (stand_without answer.purse.front before more all))
-    kept in
-    subst (λ (p : SeatedView). AllStand p.front now) (sym is) here

@@ -1,3 +1,3 @@
-pub mod Asked
 mod Kept
 pub mod Reported
+mod Worked

@@ -1,3 +1,3 @@
-pub mod Asking
 pub mod Outcome
 pub mod Planned
+pub mod Working

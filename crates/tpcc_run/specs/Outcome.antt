@@ -1,5 +1,5 @@
 -- What a run is made of, and what it comes to.
-use Rattle.std.specs.Prelude.{ℕ, ⊤, ◌≡◌, ◌⊎◌, ◌≤◌, List, [], ◌∷◌, ◌++◌, Option, Some, None, length}
+use Rattle.std.specs.Prelude.{ℕ, ⊤, ◌≡◌, ◌⊎◌, ◌≤◌, List, [], ◌∷◌, ◌++◌, Option, length}
 use Rattle.std.specs.Io.KnownBytes.{Appends, Keeps}
 use Rattle.tpcc_population.specs.declared.opening.Opening.{Opening}
 use Rattle.tpcc_book.specs.Past.{Past, IsKept, rise_of}
@@ -12,7 +12,8 @@ use Rattle.tpcc_terminal.specs.Report.{report_text}
 use Rattle.tpcc_audit.specs.Part.{AppendsPart}
 use Rattle.tpcc_show.specs.declared.parts.Part.{Part}
 use Rattle.tpcc_show.specs.Shown.{shown_text}
-use Rattle.tpcc_run.specs.declared.operator.Operator.{Operator}
+use Rattle.tpcc_operator.specs.declared.asking.Back.{Back}
+use Rattle.tpcc_operator.specs.declared.asking.Back.TheVariants.{All, Short, Missing}
 use Rattle.tpcc_run.specs.declared.plan.Plan.{Plan}
 use Rattle.tpcc_run.specs.declared.plan.Service.{Service}
 use Rattle.tpcc_run.specs.declared.plan.Service.TheVariants.{Servers, Direct}
@@ -66,11 +67,8 @@ pub record HasCut (opening : Opening) (parts : List Part) (before after : Option
 abbrev pub HasShownPart : Opening → List Part → Option (List ℕ) → Option (List ℕ) → Type 0
 HasShownPart opening parts before after = HasCut opening parts before after ⊎ Keeps before after
 
--- more receipts were added, or none
-abbrev pub KeepsSome : List Receipt → List Receipt → List Receipt → Type 0
-KeepsSome before more now = (now ≡ before ++ more) ⊎ (now ≡ before)
-
--- a terminal that came back is kept whole: its purse is the last, and its receipts are behind the others; where none came back all is as it was
-abbrev pub HasKeptBack : {N T C : Type 0} → Option (Operator N T C) → List SeatedView → List Receipt → List SeatedView → List Receipt → Type 0
-HasKeptBack (Some s) purses receipts new_purses new_receipts = (new_purses ≡ purses ++ s.purse ∷ []) × (new_receipts ≡ receipts ++ s.terminal.receipts)
-HasKeptBack None purses receipts new_purses new_receipts = (new_purses ≡ purses) × (new_receipts ≡ receipts)
+-- a terminal that has asked all is kept whole: its purse is the last, and its receipts are behind the others
+abbrev pub HasKeptBack : {N T C : Type 0} → Back N T C → List SeatedView → List Receipt → List SeatedView → List Receipt → Type 0
+HasKeptBack (All s) purses receipts new_purses new_receipts = (new_purses ≡ purses ++ s.purse ∷ []) × (new_receipts ≡ receipts ++ s.station.receipts)
+HasKeptBack (Short s) purses receipts new_purses new_receipts = ⊥
+HasKeptBack Missing purses receipts new_purses new_receipts = ⊥

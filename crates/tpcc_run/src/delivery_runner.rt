@@ -1,18 +1,16 @@
 //! The delivery runner, a terminal that asks for deliveries alone (2.7.2).
-ghost use Rattle.std.specs.Prelude.{◌≡◌, ◌<◌, ◌+◌, IfSome};
-ghost use Rattle.tpcc_terminal.specs.Receipts.{AllStand};
+ghost use Rattle.std.specs.Prelude.{◌≡◌, ◌<◌, ◌+◌};
 ghost use Rattle.tpcc_audit.specs.Settlement.{AllSeen};
 
 use crate::context::RunContext;
-use crate::duty::Duty;
-use crate::promises::{Back, TerminalHandle};
+use crate::promises::TerminalHandle;
 use crate::results::ThreadResults;
-use crate::route::Route;
 use crate::terminal_threads::join_terminal;
 use std::alloc::{AllocError, Global};
 use std::sync::Wait;
 use std::thread::{Scope, Threads};
 use tpcc_book::{Naming, SeatedPurse, Seating};
+use tpcc_operator::{Back, Duty, Route};
 use tpcc_server::OneTurn;
 
 impl<
@@ -58,18 +56,11 @@ impl<
 
     // What a runner that nothing stopped still asks.
     fn drain_back(&self, back: Back<'s, N, T, C>) -> Back<'s, N, T, C>
-        requires receipts { IfSome back.operator (λ s. AllStand s.purse.front s.terminal.receipts) }
         requires make { F.IsAlwaysCallable self.now.make.now }
-        ensures receipts { IfSome result.operator
-            (λ s. AllStand s.purse.front s.terminal.receipts) }
     {
-        let Back { operator, fault } = back;
-        match operator {
-            Some(operator) if fault.is_none() => self.ask_all(operator, Duty::Rest, u32::MAX),
-            other => Back {
-                operator: other,
-                fault,
-            },
+        match back {
+            Back::All(operator) => self.ask_all(operator, Duty::Rest, u32::MAX),
+            other => other,
         }
     }
 }

@@ -10,19 +10,17 @@
 //! ```
 //!
 //! The files by the way of a run: `runs` makes the book, `threads` starts and joins all, `server_threads`,
-//! `terminal_threads` and `delivery_runner` one kind each; `duty` says what a terminal asks next, `operator` asks it,
-//! `route` brings it to the book; `results` gathers what came back, and `settled_book` ends.
+//! `terminal_threads` and `delivery_runner` one kind each; `routes` makes the routes by which terminals ask; `results`
+//! gathers what came back, and `settled_book` ends. What asks at a terminal is `tpcc_operator`.
 #![tactic(auto)]
 
 mod context;
 mod delivery_runner;
-mod duty;
 mod fault;
-mod operator;
 mod plan;
 mod promises;
 mod results;
-mod route;
+mod routes;
 mod runs;
 mod server_threads;
 mod settled_book;

@@ -1,25 +1,14 @@
 //! What a terminal's thread promises of what it gives back.
-ghost use Rattle.tpcc_run.specs.Asking.{HasComeBack};
+ghost use Rattle.tpcc_run.specs.Working.{HasComeBack};
 
-use crate::duty::Duty;
-use crate::fault::RunFault;
-use crate::operator::Operator;
 use std::thread::{Promise, PromisedHandle};
 use tpcc_book::{Naming, Seating};
 use tpcc_money::Moment;
+use tpcc_operator::{Back, Duty};
 use tpcc_population::Scale;
 
-/// What a terminal's thread gives back: the terminal, unless its job is still out, and what stopped it.
-#[derive(Drop)]
-pub(crate) struct Back<'s, N: Naming, T: Seating, C> {
-    /// None while its job is still posted or with a server.
-    pub operator: Option<Operator<'s, N, T, C>>,
-    /// Why it stopped before its last card.
-    pub fault: Option<RunFault>,
-}
-
-/// The receipts of the terminal that comes back stand in its purse's front. Where nothing stopped it, it was one of
-/// this scale and seed, and has asked all that its duty asks of so many cards, each by one turn of the book.
+/// Where nothing stopped it, the terminal that comes back was one of this scale and seed, and has asked all that its
+/// duty asks of so many cards, each by one turn of the book.
 #[derive(Clone, Copy)]
 pub(crate) struct ComesBack {
     /// Whether it asks its cards or deliveries.

@@ -1,14 +1,13 @@
 //! What the threads of a run give back.
-ghost use Rattle.std.specs.Prelude.{◌≡◌, ◌∷◌, ◌++◌, [], IfSome, IsSome, None, true};
+ghost use Rattle.std.specs.Prelude.{◌≡◌, ◌∷◌, ◌++◌, [], IsSome, None, true};
 ghost use Rattle.tpcc_terminal.specs.Receipts.{AllStand};
 ghost use Rattle.tpcc_audit.specs.Settlement.{AllSeen};
 ghost use Rattle.tpcc_run.specs.Outcome.{HasKeptBack};
 
 use crate::fault::RunFault;
-use crate::operator::Operator;
-use crate::promises::Back;
 use std::alloc::Global;
 use tpcc_book::{Naming, SeatedPurse, Seating};
+use tpcc_operator::{Back, Operator};
 use tpcc_terminal::Receipt;
 
 /// The purses that came back, with their receipts, and the fault that the run is to end with.
@@ -60,63 +59,34 @@ impl<N: Naming, T: Seating> ThreadResults<N, T> {
 
     /// Keeps what a terminal's thread gave back.
     pub(crate) fn take_in<C>(&mut self, back: Back<'_, N, T, C>)
-        requires receipts { IfSome back.operator (λ s. AllStand s.purse.front s.terminal.receipts) }
         requires seen { AllSeen self.old.purses.items self.old.receipts.items }
         ensures seen { AllSeen self.new.purses.items self.new.receipts.items }
-        ensures kept { self.new.fault ≡ None → HasKeptBack back.entry.operator
-            self.old.purses.items self.old.receipts.items
-            self.new.purses.items self.new.receipts.items }
-        ensures noted { self.new.fault ≡ None → back.entry.fault ≡ None }
-        ensures before { self.new.fault ≡ None → self.old.fault ≡ None }
-    {
-        let Back { operator, fault } = back;
-        self.note_any(fault);
-        self.keep_any(operator);
-    }
-
-    fn note_any(&mut self, fault: Option<RunFault>)
-        requires seen { AllSeen self.old.purses.items self.old.receipts.items }
-        ensures seen { AllSeen self.new.purses.items self.new.receipts.items }
-        ensures noted { self.new.fault ≡ None → fault ≡ None }
-        ensures before { self.new.fault ≡ None → self.old.fault ≡ None }
-        ensures purses { self.new.purses ≡ self.old.purses }
-        ensures receipts { self.new.receipts ≡ self.old.receipts }
-    {
-        if let Some(fault) = fault {
-            self.note(fault);
-        }
-    }
-
-    fn keep_any<C>(&mut self, operator: Option<Operator<'_, N, T, C>>)
-        requires receipts { IfSome operator (λ s. AllStand s.purse.front s.terminal.receipts) }
-        requires seen { AllSeen self.old.purses.items self.old.receipts.items }
-        ensures seen { AllSeen self.new.purses.items self.new.receipts.items }
-        ensures kept { self.new.fault ≡ None → HasKeptBack operator.entry
+        ensures kept { self.new.fault ≡ None → HasKeptBack back.entry
             self.old.purses.items self.old.receipts.items
             self.new.purses.items self.new.receipts.items }
         ensures before { self.new.fault ≡ None → self.old.fault ≡ None }
     {
-        if let Some(operator) = operator {
-            self.keep_operator(operator);
+        match back {
+            Back::All(operator) => self.keep_operator(operator),
+            Back::Short(operator) => {
+                self.note(RunFault::NoMemory);
+                self.keep_operator(operator);
+            }
+            Back::Missing => self.note(RunFault::Missing),
         }
     }
 
     fn keep_operator<C>(&mut self, operator: Operator<'_, N, T, C>)
-        requires receipts { AllStand operator.purse.front operator.terminal.receipts }
         requires seen { AllSeen self.old.purses.items self.old.receipts.items }
         ensures seen { AllSeen self.new.purses.items self.new.receipts.items }
         ensures receipts { self.new.fault ≡ None → self.new.receipts.items
-            ≡ self.old.receipts.items ++ operator.entry.terminal.receipts }
+            ≡ self.old.receipts.items ++ operator.entry.station.receipts }
         ensures purse { self.new.fault ≡ None → self.new.purses.items
             ≡ self.old.purses.items ++ operator.entry.purse ∷ [] }
         ensures before { self.new.fault ≡ None → self.old.fault ≡ None }
     {
-        let Operator {
-            route: _,
-            purse,
-            terminal,
-        } = operator;
-        self.keep(purse, terminal.receipts());
+        let (purse, receipts) = operator.into_parts();
+        self.keep(purse, receipts);
     }
 
     /// Keeps a purse with its receipts. Where there is no room it lets them go, and notes that.

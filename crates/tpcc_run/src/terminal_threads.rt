@@ -1,20 +1,19 @@
 //! The threads of terminals: how they are started and joined.
-ghost use Rattle.std.specs.Prelude.{◌≡◌, ◌≤◌, IfSome};
-ghost use Rattle.tpcc_terminal.specs.Receipts.{AllStand};
+ghost use Rattle.std.specs.Prelude.{◌≤◌};
 ghost use Rattle.tpcc_terminal.specs.Terminals.{IsStarted};
 ghost use Rattle.tpcc_audit.specs.Settlement.{AllSeen};
-ghost use Rattle.tpcc_run.specs.Asking.{HasComeBack};
+ghost use Rattle.tpcc_operator.specs.Answered.{IfAll};
+ghost use Rattle.tpcc_operator.specs.Asking.{HasAskedAll};
+ghost use Rattle.tpcc_run.specs.Working.{HasComeBack};
 
 use crate::context::RunContext;
-use crate::duty::Duty;
-use crate::operator::Operator;
-use crate::promises::{Back, ComesBack, TerminalHandle};
+use crate::promises::{ComesBack, TerminalHandle};
 use crate::results::ThreadResults;
-use crate::route::Route;
 use std::alloc::{AllocError, Global};
 use std::sync::Wait;
 use std::thread::{Scope, Threads};
 use tpcc_book::{Naming, SeatedPurse, Seating};
+use tpcc_operator::{AskContext, Back, Duty, Operator, Route};
 use tpcc_server::OneTurn;
 use tpcc_terminal::Terminal;
 
@@ -26,11 +25,29 @@ impl<
     F: Fn(Global) -> Result<C, AllocError> + Sync,
     R: Threads + Wait + Sync,
 > RunContext<'s, N, T, F, R> {
+    /// Asks so many requests of a duty, or up to its end.
+    pub(crate) fn ask_all<'o>(
+        &self,
+        operator: Operator<'o, N, T, C>,
+        duty: Duty,
+        most: u32,
+    ) -> Back<'o, N, T, C>
+        requires make { F.IsAlwaysCallable self.now.make.now }
+        ensures asked { IfAll result (HasAskedAll duty most self.now.plan.moment operator.entry) }
+    {
+        let context = AskContext {
+            rt: self.rt,
+            alloc: self.alloc,
+            make: self.make,
+            moment: self.plan.moment,
+        };
+        context.ask_all(operator, duty, most)
+    }
+
     // Asks all cards of the plan, as the thread promises.
     fn work<'o>(&self, operator: Operator<'o, N, T, C>, duty: Duty) -> Back<'o, N, T, C>
-        requires receipts { AllStand operator.purse.front operator.terminal.receipts }
         requires started { IsStarted operator.purse.purse.terminal
-            self.now.scale self.now.plan.seed operator.terminal }
+            self.now.scale self.now.plan.seed operator.station }
         requires make { F.IsAlwaysCallable self.now.make.now }
         ensures kept { HasComeBack (record {
           duty = duty;
@@ -50,9 +67,8 @@ impl<
         operator: Operator<'s, N, T, C>,
         duty: Duty,
     ) -> Option<TerminalHandle<'s, N, T, C>>
-        requires receipts { AllStand operator.purse.front operator.terminal.receipts }
         requires started { IsStarted operator.purse.purse.terminal
-            self.now.scale self.now.plan.seed operator.terminal }
+            self.now.scale self.now.plan.seed operator.station }
         requires make { F.IsAlwaysCallable self.now.make.now }
     {
         let promise = ComesBack {
@@ -66,9 +82,8 @@ impl<
             .spawn_with(
                 promise,
                 move || -> Back<'_, N, T, C>
-                    requires receipts { AllStand operator.purse.front operator.terminal.receipts }
                     requires started { IsStarted operator.purse.purse.terminal
-                        self.now.scale self.now.plan.seed operator.terminal }
+                        self.now.scale self.now.plan.seed operator.station }
                     requires make { F.IsAlwaysCallable self.now.make.now }
                 { self.work(operator, duty) },
             )
@@ -90,12 +105,7 @@ impl<
         let Ok(terminal) = Terminal::new(self.alloc, purse.terminal(), self.scale, seed) else {
             return None;
         };
-        let operator = Operator {
-            route,
-            purse,
-            terminal,
-        };
-        self.start_thread(scope, operator, duty)
+        self.start_thread(scope, Operator::new(route, purse, terminal), duty)
     }
 
     /// Starts the plan's terminals, as many as can be made.
@@ -145,8 +155,6 @@ pub(crate) fn join_terminals<N: Naming, T: Seating, C, R: Threads>(
 pub(crate) fn join_terminal<'s, N: Naming, T: Seating, C, R: Threads>(
     rt: &R,
     handle: TerminalHandle<'s, N, T, C>,
-) -> Back<'s, N, T, C>
-    ensures receipts { IfSome result.operator (λ s. AllStand s.purse.front s.terminal.receipts) }
-{
+) -> Back<'s, N, T, C> {
     handle.join(rt)
 }

@@ -10,7 +10,7 @@ use crate::context::RunContext;
 use crate::fault::RunFault;
 use crate::plan::Service;
 use crate::results::ThreadResults;
-use crate::route::{Route, by_mailboxes, by_turns};
+use crate::routes::{by_mailboxes, by_turns};
 use crate::server_threads::{Servers, join_servers};
 use crate::terminal_threads::join_terminals;
 use std::alloc::{AllocError, Global};
@@ -19,6 +19,7 @@ use std::thread;
 use std::thread::{Scope, Threads};
 use tpcc_book::{Naming, SeatedPurse, Seating};
 use tpcc_mailbox::Mailboxes;
+use tpcc_operator::Route;
 use tpcc_server::{Job, JobAnswer, JobIdle, JobMailboxes, JobServing, OneTurn};
 
 impl<

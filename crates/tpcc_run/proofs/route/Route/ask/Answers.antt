@@ -1,5 +1,0 @@
-use Rattle.std.proofs.Common.{rules}
-use Rattle.tpcc_run.proofs.route.Route.ask.Goals as goal
-
-pub returns-in-ByTurn : goal.returns-in-ByTurn
-returns-in-ByTurn g c = search rules
