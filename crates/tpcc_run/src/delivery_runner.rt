@@ -3,6 +3,7 @@ ghost use Rattle.std.specs.Prelude.{◌≡◌, ◌<◌, ◌+◌};
 ghost use Rattle.tpcc_audit.specs.Settlement.{AllSeen};
 
 use crate::context::RunContext;
+use crate::fault::RunFault;
 use crate::promises::TerminalHandle;
 use crate::results::ThreadResults;
 use crate::terminal_threads::join_terminal;
@@ -33,25 +34,23 @@ impl<
         ensures room { first.old.purse.room ≡ first.new.purse.room + 1 }
     {
         let number = self.plan.terminals + 1;
-        let purse = first.split(self.turns, number);
-        let Some(route) = route else {
-            return None;
-        };
-        self.start_terminal(scope, route, purse, Duty::Deliveries)
+        self.start_next(scope, route, first, number, Duty::Deliveries)
     }
 
-    /// Joins the delivery runner, which then asks for what is still queued.
+    /// Joins the delivery runner, which then asks for what is still queued; notes where there is none.
     pub(crate) fn join_runner(
         &self,
-        runner: TerminalHandle<'s, N, T, C>,
+        runner: Option<TerminalHandle<'s, N, T, C>>,
         all: &mut ThreadResults<N, T>,
     )
         requires make { F.IsAlwaysCallable self.now.make.now }
         requires seen { AllSeen all.old.purses.items all.old.receipts.items }
         ensures seen { AllSeen all.new.purses.items all.new.receipts.items }
     {
-        let back = join_terminal(self.rt, runner);
-        all.take_in(self.drain_back(back));
+        match runner {
+            Some(runner) => all.take_in(self.drain_back(join_terminal(self.rt, runner))),
+            None => all.note(RunFault::NoMemory),
+        }
     }
 
     // What a runner that nothing stopped still asks.

@@ -57,6 +57,16 @@ impl<N: Naming, T: Seating> ThreadResults<N, T> {
         }
     }
 
+    /// Notes want of memory where fewer threads were started than are wanted: one that can't be made counts as that.
+    pub(crate) fn note_started(&mut self, started: usize, wanted: u32)
+        requires seen { AllSeen self.old.purses.items self.old.receipts.items }
+        ensures seen { AllSeen self.new.purses.items self.new.receipts.items }
+    {
+        if started < wanted as usize {
+            self.note(RunFault::NoMemory);
+        }
+    }
+
     /// Keeps what a terminal's thread gave back.
     pub(crate) fn take_in<C>(&mut self, back: Back<'_, N, T, C>)
         requires seen { AllSeen self.old.purses.items self.old.receipts.items }

@@ -23,6 +23,28 @@ pub(crate) struct Servers {
     pub retire: u32,
 }
 
+impl Servers {
+    // How many jobs a server serves at most. The first has no limit, so jobs are served until the mailboxes are closed.
+    fn limit(self, is_first: bool) -> u64 {
+        if is_first || self.retire == 0 {
+            u64::MAX
+        } else {
+            u64::from(self.retire)
+        }
+    }
+}
+
+// Keeps the handle of a server that was started. One that finds no room is let go: the scope joins its thread, and the
+// caller sees that one is missing.
+fn keep_started<N: Naming, T: Seating>(
+    handles: &mut Vec<ServerHandle<N, T>>,
+    started: Option<ServerHandle<N, T>>,
+) {
+    if let Some(handle) = started {
+        let _ = handles.push(handle);
+    }
+}
+
 impl<
     's,
     N: Naming + Send + Sync,
@@ -31,8 +53,7 @@ impl<
     F: Fn(Global) -> Result<C, AllocError> + Sync,
     R: Threads + Wait + Sync,
 > RunContext<'s, N, T, F, R> {
-    /// Starts so many servers, each with an empty purse of its own, as many as can be made. The first has no limit, so
-    /// jobs are served until the mailboxes are closed.
+    /// Starts so many servers, each with an empty purse of its own, as many as can be made.
     pub(crate) fn start_servers<E>(
         &'s self,
         scope: &Scope<'s, E>,
@@ -46,21 +67,13 @@ impl<
         ensures origin { serving_origin serving.new ≡ identity mailboxes.now }
         ensures room { first.old.purse.room ≤ first.new.purse.room + servers.count }
     {
-        let Servers { count, retire } = servers;
-        let later = if retire == 0 {
-            u64::MAX
-        } else {
-            u64::from(retire)
-        };
         let mut handles = Vec::new(self.alloc);
-        for number in 0..count {
-            let limit = if handles.is_empty() { u64::MAX } else { later };
+        for number in 0..servers.count {
+            let limit = servers.limit(handles.is_empty());
             let purse = first.split(self.turns, number);
             let one = serving.split(mailboxes);
-            if let Some(handle) = self.start_server(scope, mailboxes, one, purse, limit) {
-                // A handle that finds no room is let go: the scope joins its thread, and the caller sees that one is missing.
-                let _ = handles.push(handle);
-            }
+            let started = self.start_server(scope, mailboxes, one, purse, limit);
+            keep_started(&mut handles, started);
         }
         handles
     }

@@ -1,5 +1,5 @@
 //! The threads of terminals: how they are started and joined.
-ghost use Rattle.std.specs.Prelude.{◌≤◌};
+ghost use Rattle.std.specs.Prelude.{◌≡◌, ◌≤◌, ◌<◌, ◌+◌};
 ghost use Rattle.tpcc_terminal.specs.Terminals.{IsStarted};
 ghost use Rattle.tpcc_audit.specs.Settlement.{AllSeen};
 ghost use Rattle.tpcc_operator.specs.Answered.{IfAll};
@@ -90,8 +90,8 @@ impl<
             .ok()
     }
 
-    /// Starts the thread of one terminal with its purse; None where the terminal or its thread can't be made.
-    pub(crate) fn start_terminal<E>(
+    // Starts the thread of one terminal with its purse; None where the terminal or its thread can't be made.
+    fn start_terminal<E>(
         &'s self,
         scope: &Scope<'s, E>,
         route: Route<'s, N, T, C>,
@@ -108,6 +108,24 @@ impl<
         self.start_thread(scope, Operator::new(route, purse, terminal), duty)
     }
 
+    /// Starts the thread of one terminal of this number, with an empty purse of its own; None where there is no route.
+    pub(crate) fn start_next<E>(
+        &'s self,
+        scope: &Scope<'s, E>,
+        route: Option<Route<'s, N, T, C>>,
+        first: &mut SeatedPurse<N, T>,
+        number: u32,
+        duty: Duty,
+    ) -> Option<TerminalHandle<'s, N, T, C>>
+        requires number { 1 ≤ number }
+        requires room { 0 < first.old.purse.room }
+        requires make { F.IsAlwaysCallable self.now.make.now }
+        ensures room { first.old.purse.room ≡ first.new.purse.room + 1 }
+    {
+        let purse = first.split(self.turns, number);
+        self.start_terminal(scope, route?, purse, duty)
+    }
+
     /// Starts the plan's terminals, as many as can be made.
     pub(crate) fn start_terminals<E>(
         &'s self,
@@ -118,15 +136,11 @@ impl<
         requires room { self.now.plan.terminals ≤ first.old.purse.room }
         requires make { F.IsAlwaysCallable self.now.make.now }
     {
-        let count = self.plan.terminals;
         let mut routes = routes;
         let mut handles = Vec::new(self.alloc);
-        for number in 0..count {
-            let Some(route) = routes.pop() else {
-                break;
-            };
-            let purse = first.split(self.turns, number + 1);
-            let Some(handle) = self.start_terminal(scope, route, purse, Duty::Cards) else {
+        for number in 0..self.plan.terminals {
+            let route = routes.pop();
+            let Some(handle) = self.start_next(scope, route, first, number + 1, Duty::Cards) else {
                 break;
             };
             // A handle that finds no room is let go: the scope joins its thread, and the caller sees that one is missing.

@@ -7,7 +7,6 @@ ghost use Rattle.tpcc_run.specs.Outcome.{IsService};
 ghost use Rattle.tpcc_run.specs.declared.plan.TheConstants.{MOST_SERVERS};
 
 use crate::context::RunContext;
-use crate::fault::RunFault;
 use crate::plan::Service;
 use crate::results::ThreadResults;
 use crate::routes::{by_mailboxes, by_turns};
@@ -95,16 +94,11 @@ impl<
     {
         let mut serving = serving;
         let mut first = first;
-        let wanted = servers.count as usize;
         let handles = self.start_servers(scope, mailboxes, &mut serving, &mut first, servers);
-        let missing = handles.len() < wanted;
-        if handles.is_empty() {
-            mailboxes.close(&mut serving);
-        }
+        let started = handles.len();
+        close_unserved(mailboxes, &mut serving, started);
         let mut all = self.ask_everything(scope, routes, first);
-        if missing {
-            all.note(RunFault::NoMemory);
-        }
+        all.note_started(started, servers.count);
         mailboxes.close(&mut serving);
         join_servers(self.rt, self.alloc, handles, &mut all);
         all
@@ -146,20 +140,27 @@ impl<
         let mut routes = routes;
         let mut first = first;
         let mut all = ThreadResults::new(self.alloc);
-        let wanted = self.plan.terminals as usize;
-        let route = routes.pop();
-        let runner = self.start_runner(scope, route, &mut first);
+        let runner = self.start_runner(scope, routes.pop(), &mut first);
         let terminals = self.start_terminals(scope, routes, &mut first);
-        if terminals.len() < wanted {
-            all.note(RunFault::NoMemory);
-        }
+        all.note_started(terminals.len(), self.plan.terminals);
         join_terminals(self.rt, terminals, &mut all);
-        match runner {
-            Some(runner) => self.join_runner(runner, &mut all),
-            None => all.note(RunFault::NoMemory),
-        }
+        self.join_runner(runner, &mut all);
         all.keep(first, Vec::new(self.alloc));
         all
+    }
+}
+
+// Closes mailboxes that no server looks at, so that nobody waits for an answer.
+fn close_unserved<N: Naming, T: Seating, C>(
+    mailboxes: &JobMailboxes<N, T, C>,
+    serving: &mut JobServing<N, T, C>,
+    servers: usize,
+)
+    requires origin { serving_origin serving.old ≡ identity mailboxes.now }
+    ensures origin { serving_origin serving.new ≡ identity mailboxes.now }
+{
+    if servers == 0 {
+        mailboxes.close(serving);
     }
 }
 
