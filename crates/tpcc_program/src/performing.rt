@@ -1,0 +1,94 @@
+//! What the program does: what its words ask, and what is told of a fault.
+ghost use Rattle.std.specs.Prelude.{IfOk};
+ghost use Rattle.tpcc_book.specs.Turn.{IsTurn};
+ghost use Rattle.tpcc_program.specs.Tasks.{HasPlan};
+
+use crate::asked_run::AskedRun;
+use crate::commands::{dump_table, put_asked, script};
+use crate::fault::ProgramFault;
+use crate::reading::{Asked, Task, read_words};
+use crate::usage::tell_usage;
+use std::alloc::{AllocError, Global};
+use std::env::Env;
+use std::io::Eprint;
+use std::sync::Wait;
+use std::thread::Threads;
+use std::time::Clock;
+use tpcc_book::{Register, Turned};
+use tpcc_rows::Request;
+use tpcc_server::{BoxedTurn, TurnCall};
+
+/// Does what the program's words ask, on standard input and output; `watched` is whether somebody sees standard error, who is
+/// then told how far a run has come. What goes in and out no clause says: cases of the built program show it.
+pub fn perform<R: Print + Eprint + Clock + Input + Env + AllocGlobal + Threads + Wait + Sync>(
+    rt: &R,
+    alloc: Global,
+    watched: bool,
+) -> Result<(), ProgramFault> {
+    let asked = read_asked(rt, alloc)?;
+    let opening = asked.opening()?;
+    let parts = asked.shows.as_slice();
+    match asked.task {
+        Task::Script => script(rt, alloc, &opening, parts, asked.timed),
+        Task::Dump(table) => dump_table(rt, alloc, &opening, table),
+        Task::Requests(asking) => put_asked(rt, alloc, &asked, asking),
+        Task::Run(plan) => {
+            let run = AskedRun {
+                rt,
+                alloc,
+                opening: &opening,
+                plan: &plan,
+                parts,
+            };
+            perform_run(&run, asked.timed, watched)
+        }
+    }
+}
+
+// Does a run that is asked for, each request of it by a boxed call.
+fn perform_run<R: Print + Eprint + Clock + Threads + Wait + Sync>(
+    run: &AskedRun<'_, R>,
+    timed: bool,
+    watched: bool,
+) -> Result<(), ProgramFault> {
+    run.write(
+        timed,
+        watched,
+        |alloc: Global| -> Result<BoxedTurn, AllocError> {
+            let call: TurnCall = Box::new(
+                alloc,
+                |register: &mut Register, request: Request, terminal: u32, number: u64| -> Turned
+                    ensures { IsTurn register.old terminal number request result register.new }
+                { register.turn(request, terminal, number) },
+            )?;
+            Ok(BoxedTurn::new(call))
+        },
+    )
+}
+
+/// Tells on standard error what a person at a terminal sees behind the line of a fault: the range that a scale left, or how the program is
+/// used. What can't be written is passed over.
+pub fn explain<R: Env + AllocGlobal + Eprint>(rt: &R, alloc: Global, fault: ProgramFault) {
+    if let Some(range) = fault.range() {
+        let _ = rt.eprintln(range);
+    }
+    if let (ProgramFault::Arguments, Ok(words)) = (fault, words(rt, alloc)) {
+        tell_usage(rt, alloc, words.as_slice());
+    }
+}
+
+fn read_asked<R: Env + AllocGlobal>(rt: &R, alloc: Global) -> Result<Asked, ProgramFault>
+    ensures plan { IfOk result (λ asked. HasPlan asked.task) }
+{
+    read_words(alloc, words(rt, alloc)?.as_slice())
+}
+
+fn words<R: Env + AllocGlobal>(rt: &R, alloc: Global) -> Result<Vec<String>, ProgramFault> {
+    let Ok(words) = std::env::args(rt) else {
+        return Err(ProgramFault::NoMemory);
+    };
+    match words.collect(alloc) {
+        Ok(words) => Ok(words),
+        Err(_) => Err(ProgramFault::NoMemory),
+    }
+}
