@@ -1,6 +1,6 @@
 //! Who asks at a terminal, and one request up to its receipt.
-ghost use Rattle.std.specs.Prelude.{◌≡◌, IfOk};
-ghost use Rattle.tpcc_terminal.specs.Receipts.{AllStand};
+ghost use Rattle.std.specs.Prelude.{◌≡◌, ◌++◌, IfOk, OnErr, OnOk};
+ghost use Rattle.tpcc_terminal.specs.Receipts.{AllStand, receipts_of};
 ghost use Rattle.tpcc_operator.specs.Asking.{HasAnswered, IsNext};
 ghost use Rattle.tpcc_operator.specs.Answered.{IfAnswered};
 
@@ -117,7 +117,7 @@ impl<'s, N: Naming, T: Seating, C: OneTurn> Operator<'s, N, T, C> {
             return Asked::Missing;
         };
         receipts_stand();
-        let noted = terminal.note(&answer);
+        let noted = note(&mut terminal, &answer);
         let delivered = is_delivered(&answer);
         let operator = Operator::new(route, purse_of(answer), terminal);
         match noted {
@@ -125,6 +125,19 @@ impl<'s, N: Naming, T: Seating, C: OneTurn> Operator<'s, N, T, C> {
             Err(_) => Asked::Short(operator),
         }
     }
+}
+
+// Keeps the receipt of an accepted answer. Refused only for want of memory.
+fn note<N: Naming, T: Seating>(
+    terminal: &mut Terminal,
+    answer: &JobAnswer<N, T>,
+) -> Result<(), NoMemory>
+    ensures noted { OnOk result (terminal.new ≡ record terminal.old {
+      receipts = terminal.old.receipts ++ receipts_of (λ p. p.purse) answer.now;
+    }) }
+    ensures refused { OnErr result (terminal.new ≡ terminal.old) }
+{
+    terminal.note(answer)
 }
 
 // Whether it is the reply of a district's delivery.

@@ -1,5 +1,5 @@
-use Rattle.std.proofs.Common.{rules}
+use Rattle.tpcc_operator.proofs.Turned.{turned_as}
 use Rattle.tpcc_operator.proofs.route.Route.ask.Goals as goal
 
 pub returns-in-ByTurn : goal.returns-in-ByTurn
-returns-in-ByTurn g c = search rules
+returns-in-ByTurn g c = record { turned = search turned_as }
