@@ -1,6 +1,5 @@
 //! What the program does: what its words ask, and what is told of a fault.
 ghost use Rattle.std.specs.Prelude.{IfOk};
-ghost use Rattle.tpcc_book.specs.Turn.{IsTurn};
 ghost use Rattle.tpcc_program.specs.Tasks.{HasPlan};
 
 use crate::asked_run::AskedRun;
@@ -14,17 +13,18 @@ use std::io::Eprint;
 use std::sync::Wait;
 use std::thread::Threads;
 use std::time::Clock;
-use tpcc_book::{Register, Turned};
-use tpcc_rows::Request;
-use tpcc_server::{BoxedTurn, TurnCall};
+use tpcc_server::OneTurn;
 
 /// Does what the program's words ask, on standard input and output; `watched` is whether somebody sees standard error, who is
-/// then told how far a run has come. What goes in and out no clause says: cases of the built program show it.
-pub fn perform<R: Print + Eprint + Clock + Input + Env + AllocGlobal + Threads + Wait + Sync>(
-    rt: &R,
-    alloc: Global,
-    watched: bool,
-) -> Result<(), ProgramFault> {
+/// then told how far a run has come, and `make` gives the call of each request of a run. What goes in and out no clause says:
+/// cases of the built program show it.
+pub fn perform<
+    C: OneTurn + Send,
+    F: Fn(Global) -> Result<C, AllocError> + Sync,
+    R: Print + Eprint + Clock + Input + Env + AllocGlobal + Threads + Wait + Sync,
+>(rt: &R, alloc: Global, watched: bool, make: F) -> Result<(), ProgramFault>
+    requires make { F.IsAlwaysCallable make }
+{
     let asked = read_asked(rt, alloc)?;
     let opening = asked.opening()?;
     let parts = asked.shows.as_slice();
@@ -40,30 +40,9 @@ pub fn perform<R: Print + Eprint + Clock + Input + Env + AllocGlobal + Threads +
                 plan: &plan,
                 parts,
             };
-            perform_run(&run, asked.timed, watched)
+            run.write(asked.timed, watched, make)
         }
     }
-}
-
-// Does a run that is asked for, each request of it by a boxed call.
-fn perform_run<R: Print + Eprint + Clock + Threads + Wait + Sync>(
-    run: &AskedRun<'_, R>,
-    timed: bool,
-    watched: bool,
-) -> Result<(), ProgramFault> {
-    run.write(
-        timed,
-        watched,
-        |alloc: Global| -> Result<BoxedTurn, AllocError> {
-            let call: TurnCall = Box::new(
-                alloc,
-                |register: &mut Register, request: Request, terminal: u32, number: u64| -> Turned
-                    ensures { IsTurn register.old terminal number request result register.new }
-                { register.turn(request, terminal, number) },
-            )?;
-            Ok(BoxedTurn::new(call))
-        },
-    )
 }
 
 /// Tells on standard error what a person at a terminal sees behind the line of a fault: the range that a scale left, or how the program is
