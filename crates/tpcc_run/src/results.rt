@@ -1,5 +1,5 @@
 //! What the threads of a run give back.
-ghost use Rattle.std.specs.Prelude.{◌≡◌, ◌∷◌, ◌++◌, [], IsSome, None, true};
+ghost use Rattle.std.specs.Prelude.{◌≡◌, ◌<◌, ◌≤◌, ◌∷◌, ◌++◌, [], IsSome, None, true};
 ghost use Rattle.tpcc_terminal.specs.Receipts.{AllStand};
 ghost use Rattle.tpcc_audit.specs.Settlement.{AllSeen};
 ghost use Rattle.tpcc_run.specs.Outcome.{HasKeptBack};
@@ -61,6 +61,8 @@ impl<N: Naming, T: Seating> ThreadResults<N, T> {
     pub(crate) fn note_started(&mut self, started: usize, wanted: u32)
         requires seen { AllSeen self.old.purses.items self.old.receipts.items }
         ensures seen { AllSeen self.new.purses.items self.new.receipts.items }
+        ensures noted { started < wanted → IsSome self.new.fault }
+        ensures same { wanted ≤ started → self.new ≡ self.old }
     {
         if started < wanted as usize {
             self.note(RunFault::NoMemory);

@@ -1,12 +1,12 @@
 -- Texts that were put into blocks one after another.
 use Rattle.std.proofs.Common.{◌≡◌, ◌∙◌, sym, refl, ap, subst, codes, ℕ, ◌+◌, ◌<◌, suc, List, [], ◌∷◌, ◌++◌, append_assoc, append-nil, length, get_or, take, drop, arith}
-use Rattle.std.specs.Prelude.{Option, Some, Result, Ok, Err, OnOk, OnErr, flat_map, slice_get}
+use Rattle.std.specs.Prelude.{Option, Some, Result, OnOk, OnErr, flat_map, slice_get}
 use Rattle.std.proofs.Math.Seq.{take-suc}
 use Rattle.std.proofs.lemmas.List.{take-append-drop}
 use Rattle.std.proofs.lemmas.List.Concat.{flat_map-append}
 use Rattle.std.proofs.lemmas.Option.{slice_get_within, slice_get_read, get_or_from_slice_get}
 use Rattle.tpcc_audit.specs.Part.{AppendsPart, PassesBytes}
-use Rattle.tpcc_audit.proofs.Parts.{in_turn, cut_first, cut_later}
+use Rattle.tpcc_audit.proofs.Parts.{in_turn, cut_first, cut_later, both, both_cut}
 
 one_more : {X : Type 0} (xs : List X) (k : ℕ) (x : X) → slice_get xs k ≡ Some x → take (k + 1) xs ≡ take k xs ++ x ∷ []
 one_more xs k x e =
@@ -45,17 +45,6 @@ cut_next f xs k x a b c waited waits at before part =
     let all = sym (flat_map-append f (take (k + 1) xs) rest) ∙ ap (flat_map f) (take-append-drop (k + 1) xs) in
     subst (λ z. AppendsPart a c (waited ++ z)) all
     (cut_first a c waited (flat_map f (take (k + 1) xs)) (flat_map f rest) first)
-
--- two texts, where the second call tells how both end
-pub both : {E : Type 0} (a b c : Option (List ℕ)) (waited xs ys waits left : List ℕ) (r : Result (Unit {0}) E)
-    → PassesBytes a b (waited ++ xs) waits → OnOk r (PassesBytes b c (waits ++ ys) left) → OnOk r (PassesBytes a c (waited ++ (xs ++ ys)) left)
-both a b c waited xs ys waits left (Ok done) before more = in_turn a b c waited xs ys waits left before more
-both a b c waited xs ys waits left (Err fault) before more = tt
-
-pub both_cut : {E : Type 0} (a b c : Option (List ℕ)) (waited xs ys waits : List ℕ) (r : Result (Unit {0}) E)
-    → PassesBytes a b (waited ++ xs) waits → OnErr r (AppendsPart b c (waits ++ ys)) → OnErr r (AppendsPart a c (waited ++ (xs ++ ys)))
-both_cut a b c waited xs ys waits (Ok done) before part = tt
-both_cut a b c waited xs ys waits (Err fault) before part = cut_later a b c waited xs ys waits before part
 
 under : (name text : List ℕ) → (codes "== " ++ (name ++ (10 ∷ []))) ++ text ≡ codes "== " ++ (name ++ (10 ∷ text))
 under name text =
