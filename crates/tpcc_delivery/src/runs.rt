@@ -11,7 +11,7 @@ use tpcc_rows::{Delivery, DistrictDelivery, Refusal};
 use tpcc_tables::Tables;
 
 /// A run that nothing refuses, with what it answers.
-#[derive(Clone, Copy, PartialEq, Eq)]
+#[derive(Clone, Copy)]
 pub struct PreparedRun {
     /// What the run will answer.
     pub reply: Delivery,

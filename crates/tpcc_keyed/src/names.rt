@@ -12,7 +12,7 @@ use tpcc_money::NoMemory;
 use tpcc_rows::{CustomerRow, Text};
 
 /// What the order of names looks at in a customer.
-#[derive(Clone, Copy, PartialEq, Eq)]
+#[derive(Clone, Copy)]
 pub struct CustomerName {
     /// C_W_ID.
     pub warehouse: u32,

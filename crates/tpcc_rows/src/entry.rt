@@ -3,7 +3,7 @@ use crate::replies::Reply;
 use crate::requests::Request;
 
 /// One accepted request with its reply.
-#[derive(Drop, PartialEq, Eq)]
+#[derive(Drop)]
 pub struct Entry {
     /// The terminal whose request it was.
     pub terminal: u32,

@@ -1,6 +1,5 @@
 //! Short lists, which lie in the value itself.
 ghost use Rattle.std.specs.Prelude.{◌≡◌, ◌<◌, ◌≤◌, ◌++◌, ◌∷◌, [], length};
-ghost use Rattle.std.specs.Cmp.Lexicographic.{pointwise, lists_equiv, lists_per};
 ghost use Rattle.tpcc_rows.specs.declared.limits.TheConstants.{MOST_PLACES};
 
 use std::alloc::AllocError;
@@ -81,18 +80,4 @@ impl<T: Blank, const N: usize> Few<T, N> {
         self.items[usize::from(self.len)] = item;
         self.len += 1;
     }
-}
-
-impl<T: Blank + PartialEq, const N: usize> PartialEq for Few<T, N> {
-    ghost eq = { pointwise T.eq };
-
-    ghost laws = { lists_per T.laws };
-
-    fn eq(&self, other: &Self) -> bool {
-        self.as_slice() == other.as_slice()
-    }
-}
-
-impl<T: Blank + Eq, const N: usize> Eq for Few<T, N> {
-    ghost laws = { lists_equiv T.Eq.laws };
 }

@@ -7,7 +7,7 @@ use crate::text::Text;
 use tpcc_money::{Cents, Moment, Rate};
 
 /// The brand of a line (2.4.2.2): B where I_DATA and S_DATA both contain ORIGINAL, else G.
-#[derive(Clone, Copy, PartialEq, Eq)]
+#[derive(Clone, Copy)]
 pub enum Brand {
     /// B.
     Original,
@@ -16,7 +16,7 @@ pub enum Brand {
 }
 
 /// A line of an accepted order (2.4.3.3).
-#[derive(Clone, Copy, PartialEq, Eq)]
+#[derive(Clone, Copy)]
 pub struct EnteredLine {
     /// OL_NUMBER: the line's place in the request, from 1.
     pub number: u32,
@@ -73,7 +73,7 @@ impl Blank for EnteredLine {
 pub type EnteredLines = Few<EnteredLine, 15>;
 
 /// An order that was entered (2.4.3.3).
-#[derive(Clone, Copy, PartialEq, Eq)]
+#[derive(Clone, Copy)]
 pub struct AcceptedOrder {
     /// W_ID.
     pub warehouse: u32,
@@ -104,7 +104,7 @@ pub struct AcceptedOrder {
 }
 
 /// An order with an unused item, which was rolled back (2.4.3.4).
-#[derive(Clone, Copy, PartialEq, Eq)]
+#[derive(Clone, Copy)]
 pub struct RolledBackOrder {
     /// W_ID.
     pub warehouse: u32,
@@ -121,7 +121,7 @@ pub struct RolledBackOrder {
 }
 
 /// What became of a New-Order request.
-#[derive(Clone, Copy, PartialEq, Eq)]
+#[derive(Clone, Copy)]
 pub enum Entered {
     /// All its items are there, and the order was entered.
     Accepted(AcceptedOrder),
@@ -130,7 +130,7 @@ pub enum Entered {
 }
 
 /// A payment that was made (2.5.3.3); all values are those after it.
-#[derive(Clone, Copy, PartialEq, Eq)]
+#[derive(Clone, Copy)]
 pub struct Paid {
     /// W_ID: the warehouse that was paid.
     pub warehouse: u32,
@@ -175,7 +175,7 @@ pub struct Paid {
 }
 
 /// A line of a customer's last order (2.6.3.3).
-#[derive(Clone, Copy, PartialEq, Eq)]
+#[derive(Clone, Copy)]
 pub struct StatusLine {
     /// OL_SUPPLY_W_ID.
     pub supply: u32,
@@ -209,7 +209,7 @@ impl Blank for StatusLine {
 pub type StatusLines = Few<StatusLine, 15>;
 
 /// A customer's last order (2.6.3.3).
-#[derive(Clone, Copy, PartialEq, Eq)]
+#[derive(Clone, Copy)]
 pub struct LastOrder {
     /// O_ID.
     pub order: u32,
@@ -222,7 +222,7 @@ pub struct LastOrder {
 }
 
 /// What Order-Status answers (2.6.3.3).
-#[derive(Clone, Copy, PartialEq, Eq)]
+#[derive(Clone, Copy)]
 pub struct Status {
     /// W_ID.
     pub warehouse: u32,
@@ -243,7 +243,7 @@ pub struct Status {
 }
 
 /// What Stock-Level answers (2.8.3.3).
-#[derive(Clone, Copy, PartialEq, Eq)]
+#[derive(Clone, Copy)]
 pub struct Level {
     /// W_ID.
     pub warehouse: u32,
@@ -256,7 +256,7 @@ pub struct Level {
 }
 
 /// One district of a ticket, run (2.7.4.2).
-#[derive(Clone, Copy, PartialEq, Eq)]
+#[derive(Clone, Copy)]
 pub struct DistrictDelivery {
     /// The ticket whose district was run.
     pub ticket: Ticket,
@@ -269,7 +269,7 @@ pub struct DistrictDelivery {
 }
 
 /// What a Deliver request answers.
-#[derive(Clone, Copy, PartialEq, Eq)]
+#[derive(Clone, Copy)]
 pub enum Delivery {
     /// A district of the first ticket was run.
     District(DistrictDelivery),
@@ -278,7 +278,7 @@ pub enum Delivery {
 }
 
 /// The ten runs of one ticket, as the delivery result log has them (2.7.2.2).
-#[derive(Clone, Copy, PartialEq, Eq)]
+#[derive(Clone, Copy)]
 pub struct Delivered {
     /// The ticket of the tenth run.
     pub ticket: Ticket,
@@ -289,7 +289,7 @@ pub struct Delivered {
 }
 
 /// What an accepted request is answered.
-#[derive(Clone, Copy, PartialEq, Eq)]
+#[derive(Clone, Copy)]
 pub enum Reply {
     /// Of a New-Order.
     Entered(Entered),
