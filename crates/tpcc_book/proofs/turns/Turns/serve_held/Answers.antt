@@ -1,4 +1,4 @@
-use Rattle.std.proofs.Common.{◌+◌, ◌∙◌, ap, refl, sym, subst, arith}
+use Rattle.std.proofs.Common.{rules, ◌+◌, ◌∙◌, ap, refl, sym, subst, arith}
 use Rattle.tpcc_book.specs.Past.{IsKept}
 use Rattle.tpcc_book.specs.Seats.{SeatedView, IsTurned}
 use Rattle.tpcc_book.specs.AnswerView.{AnswerView, answer_of}
@@ -20,3 +20,12 @@ returns-clause-turned g c =
     let kept = subst IsKept c.show-book.ensures.book c.journal-journal.ensures.kept in
     let told = turned_within c.into_seat-purse.result.0 served.new.purse c.args.purse h.seat.me c.adopt.new.seat.me c.show-book.new.seat.me c.free-back.result.me c.into_seat-purse.result.1.me.0 (h.purse.room + 1) h.book served.new.self (answer_of turned served.new.purse) c.args.request turned.request turned.outcome turned.place c.into_seat-purse.ensures.purse (ap (λ m. m.0) c.into_seat-purse.ensures.seat) c.held.invariant.holds c.held.invariant.opened c.adopt.ensures.adopted served.ensures.served c.show-book.ensures.shown c.free-back.ensures.back.1 refl refl refl refl kept in
     subst (λ (t : AnswerView SeatedView). IsTurned c.args.request c.args.purse t) (ap (answer_of turned) (sym c.seated-purse.ensures.seated) ∙ sym c.new.ensures) told
+
+pub seated-purse-requires-clause-idle : goal.seated-purse-requires-clause-idle
+seated-purse-requires-clause-idle g c = search rules
+
+pub invariant_of-held : goal.invariant_of-held
+invariant_of-held g c = search rules
+
+pub returns-clause-keeper : goal.returns-clause-keeper
+returns-clause-keeper g c = search rules
