@@ -60,8 +60,10 @@ pub fn dump_to<W: Write>(
 {
     let mut blocks = Blocks::new(alloc);
     put_dump(alloc, tables, table, &mut blocks, out)?;
-    blocks.end(out)?;
-    Ok(())
+    match blocks.end(out) {
+        Ok(()) => Ok(()),
+        Err(_) => Err(DumpFault::Write),
+    }
 }
 
 /// Puts into blocks what [`dump_to`] writes.
