@@ -3,8 +3,10 @@ pub mod Turns
 pub mod Runs
 pub mod Lines
 pub mod Parting
+pub mod PaymentWords
 pub mod Ordering
 pub mod Sessions
+pub mod ShownScripts
 pub mod Names
 pub mod Letters
 mod NumeralLaws

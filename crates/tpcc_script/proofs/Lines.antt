@@ -8,11 +8,13 @@ use Rattle.std.proofs.lemmas.Bool.{lt-ltb, le-ltb}
 use Rattle.std.specs.Prelude.{Ok}
 use Rattle.tpcc_script.specs.declared.reader.TheConstants.{LONGEST_LINE, MOST_LINES}
 use Rattle.tpcc_script.specs.declared.call.Call.{Call}
-use Rattle.tpcc_script.specs.declared.fault.ScriptFault.TheVariants.{Bad, Cut, LongLine, TooManyLines, Write, NoMemory}
+use Rattle.tpcc_script.specs.declared.fault.ScriptFault.{ScriptFault}
+use Rattle.tpcc_script.specs.declared.fault.ScriptFault.TheVariants.{Bad, Cut, LongLine, TooManyLines, Read, Write, NoMemory}
 use Rattle.tpcc_script.specs.ScriptBook.{ScriptBook}
 use Rattle.tpcc_script.specs.Run.{Shows, HasServed}
 use Rattle.tpcc_script.specs.Script.{parts_of, with_byte, lines_say, rest_says, then_says, call_of, ends, fails}
 use Rattle.tpcc_script.specs.Steps.{says, IsLine, IsRead, IsLineServed, IsAnswered, IsStopped, IsFault}
+use Rattle.std.specs.Io.KnownBytes.{Appends}
 use Rattle.tpcc_audit.specs.Part.{AppendsPart}
 
 -- bytes put before the first part
@@ -180,3 +182,14 @@ unshown_line number bytes line seen left call old new h same e served =
 pub broken_line : (number : ℕ) (bytes screen : List ℕ) (o : Option (List ℕ)) (old new : ScriptBook) (left held now : Option (List ℕ)) (waits : List ℕ) → o ≡ Some screen
     → IsAnswered number bytes old new left (Ok o) → AppendsPart held now (waits ++ screen) → IsFault number bytes old new left held now waits Write
 broken_line number bytes screen o old new left held now waits e h part = inr (record { screen = screen; served = rw e at h; part = part })
+
+-- no screen is given, and all that waited is written
+pub stopped_line : (number : ℕ) (bytes : List ℕ) (old new : ScriptBook) (left held now : Option (List ℕ)) (waits : List ℕ) (fault : ScriptFault)
+    → IsStopped number bytes old new left fault → Appends held now waits → IsFault number bytes old new left held now waits fault
+stopped_line number bytes old new left held now waits (Bad n) stopped added = record { stopped = stopped; added = added }
+stopped_line number bytes old new left held now waits (Cut n) stopped added = record { stopped = stopped; added = added }
+stopped_line number bytes old new left held now waits (LongLine n) stopped added = record { stopped = stopped; added = added }
+stopped_line number bytes old new left held now waits TooManyLines stopped added = record { stopped = stopped; added = added }
+stopped_line number bytes old new left held now waits Read stopped added = record { stopped = stopped; added = added }
+stopped_line number bytes old new left held now waits NoMemory stopped added = record { stopped = stopped; added = added }
+stopped_line number bytes old new left held now waits Write stopped added = absurd stopped

@@ -1,5 +1,8 @@
 //! A script whose book is shown.
-ghost use Rattle.std.specs.Prelude.{◌≡◌, ℕ, List, Some, IfOk, OnErr};
+ghost use Rattle.std.specs.Prelude.{◌≡◌, ℕ, List, Some, IfOk, OnErr, OnOk};
+ghost use Rattle.std.specs.Io.KnownBytes.{Appends};
+ghost use Rattle.tpcc_audit.specs.Part.{AppendsPart};
+ghost use Rattle.tpcc_show.specs.Shown.{served_text};
 ghost use Rattle.tpcc_script.specs.Script.{script_of};
 ghost use Rattle.tpcc_script.specs.Session.{opened_book, book_of};
 ghost use Rattle.tpcc_script.specs.Shown.{HasShownScript, HasShownScriptPart};
@@ -12,7 +15,7 @@ use std::alloc::Global;
 use std::io::{Read, Write};
 use std::marker::Brand;
 use tpcc_audit::DumpFault;
-use tpcc_book::{Blanks, Naming};
+use tpcc_book::{Blanks, Book, Naming};
 use tpcc_population::Opening;
 use tpcc_show::{Part, show_served};
 
@@ -80,12 +83,36 @@ fn show_session<N: Naming, R: Read, W: Write>(
 {
     let mut screens = Vec::new(alloc);
     let ended = serve_session(alloc, session, input, &mut screens, &mut Watch::new());
+    let shown = show_left(alloc, session.book(), screens.as_slice(), ended, parts, out);
+    shown.and(Ok(ended))
+}
+
+// Writes parts of the book that a script left which ended so; Write is want of memory for a screen that is kept.
+fn show_left<N: Naming, W: Write>(
+    alloc: Global,
+    book: &Book<N>,
+    screens: &[u8],
+    ended: Result<usize, ScriptFault>,
+    parts: &[Part],
+    out: &mut W,
+) -> Result<(), ScriptFault>
+    ensures written { OnOk result (Appends (W.contents out.old) (W.contents out.new)
+        (served_text screens.now book.now parts.now)) }
+    ensures part { OnErr result (AppendsPart (W.contents out.old) (W.contents out.new)
+        (served_text screens.now book.now parts.now)) }
+{
     if let Err(ScriptFault::Write) = ended {
         return Err(ScriptFault::NoMemory);
     }
-    match show_served(alloc, session.book(), screens.as_slice(), parts, out) {
-        Ok(()) => Ok(ended),
-        Err(DumpFault::Write) => Err(ScriptFault::Write),
-        Err(DumpFault::NoMemory) => Err(ScriptFault::NoMemory),
+    match show_served(alloc, book, screens, parts, out) {
+        Ok(()) => Ok(()),
+        Err(fault) => Err(script_fault(fault)),
+    }
+}
+
+fn script_fault(fault: DumpFault) -> ScriptFault {
+    match fault {
+        DumpFault::Write => ScriptFault::Write,
+        DumpFault::NoMemory => ScriptFault::NoMemory,
     }
 }

@@ -1,8 +1,18 @@
-use Rattle.std.proofs.Common.{rules}
+use Rattle.tpcc_script.specs.Script.{script_of}
+use Rattle.tpcc_script.specs.Session.{book_of}
+use Rattle.tpcc_script.proofs.ShownScripts.{has_shown, has_shown_part}
 use Rattle.tpcc_script.proofs.showing.show_session.Goals as goal
 
-pub returns-in-Ok-clause-shown : goal.returns-in-Ok-clause-shown
-returns-in-Ok-clause-shown g c = search rules
+pub returns-clause-shown : goal.returns-clause-shown
+returns-clause-shown g c = λ bytes known.
+    let ran = rw c.new-screens.ensures.items at (c.serve_session-ended.ensures.counted bytes known) in
+    rw c.and.ensures
+    (has_shown (book_of c.args.session.now) (script_of bytes) c.args.parts.now (g.W.Write.contents c.args.out.now) (g.W.Write.contents c.show_left-shown.new.out) c.serve_session-ended.new.session c.serve_session-ended.new.out.items c.serve_session-ended.result c.show_left-shown.result
+    ran (rw (c.book.ensures.book, c.as_slice.ensures.value) at c.show_left-shown.ensures.written))
 
 pub returns-clause-part : goal.returns-clause-part
-returns-clause-part g c = search rules
+returns-clause-part g c = λ bytes known.
+    let ran = rw c.new-screens.ensures.items at (c.serve_session-ended.ensures.counted bytes known) in
+    rw c.and.ensures
+    (has_shown_part (book_of c.args.session.now) (script_of bytes) c.args.parts.now (g.W.Write.contents c.args.out.now) (g.W.Write.contents c.show_left-shown.new.out) c.serve_session-ended.new.session c.serve_session-ended.new.out.items c.serve_session-ended.result c.show_left-shown.result
+    ran (rw (c.book.ensures.book, c.as_slice.ensures.value) at c.show_left-shown.ensures.part))
