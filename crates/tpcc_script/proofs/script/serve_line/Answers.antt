@@ -6,6 +6,9 @@ pub returns-in-Ok-None-clause-answered : goal.returns-in-Ok-None-clause-answered
 returns-in-Ok-None-clause-answered g c = λ bytes known.
     record { says_is = read_none _ c.args.number bytes _ _ c.in-Ok-None.field-0-is (c.in-Ok-None.ensures.read bytes known); book = refl }
 
+pub returns-in-Ok-None-parse_line-clause-gave_up : goal.returns-in-Ok-None-parse_line-clause-gave_up
+returns-in-Ok-None-parse_line-clause-gave_up g c = tt
+
 pub returns-in-Ok-None-parse_line-clause-answered : goal.returns-in-Ok-None-parse_line-clause-answered
 returns-in-Ok-None-parse_line-clause-answered g c = λ bytes known.
     let l = read_some _ c.args.number bytes _ _ _ c.in-Ok-Some.field-0-is (c.in-Ok-Some.ensures.read bytes known) in
