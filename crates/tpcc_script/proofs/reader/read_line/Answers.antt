@@ -38,6 +38,9 @@ returns-then-len-eq-LONGEST_LINE-clause-read g c = λ bytes known.
     let k = c.in-Ok-Some.ensures.ok r.rest r.left_is in
     too_long bytes _ _ c.in-Ok-Some.byte c.args.number r (sym c.in-Ok-Some.field-0-is ∙ k.0) (grind (arith, nat_tests, c.if-byte-eq10.false)) (omega (arith, c.if-number-gt-MOST_LINES.false)) (omega (arith, c.len.ensures, c.if-len-eq-LONGEST_LINE.true))
 
+pub returns-then-is_err-clause-gave_up : goal.returns-then-is_err-clause-gave_up
+returns-then-is_err-clause-gave_up g c = tt
+
 pub bytes-preserved : goal.bytes-preserved
 bytes-preserved g c =
     let pushed : c.push.new.self.items ≡ c.bytes.line.items ++ c.in-Ok-Some.byte ∷ [] =
