@@ -1,5 +1,4 @@
-use Rattle.std.proofs.Common.{rules}
 use Rattle.tpcc_run.proofs.settled_book.show_settled.Goals as goal
 
 pub returns-in-Ok-clause-shown : goal.returns-in-Ok-clause-shown
-returns-in-Ok-clause-shown g c = search rules
+returns-in-Ok-clause-shown g c = record { book = c.args.settled.now.book; told = c.requires.totals; written = c.in-Ok.ensures.written }
