@@ -60,10 +60,8 @@ pub fn dump_to<W: Write>(
 {
     let mut blocks = Blocks::new(alloc);
     put_dump(alloc, tables, table, &mut blocks, out)?;
-    match blocks.end(out) {
-        Ok(()) => Ok(()),
-        Err(_) => Err(DumpFault::Write),
-    }
+    blocks.end(out)?;
+    Ok(())
 }
 
 /// Puts into blocks what [`dump_to`] writes.

@@ -156,7 +156,7 @@ impl<N: Naming> Book<N> {
         let paid = request.paid();
         let (terminal, entries) = (purse.terminal(), purse.entries());
         let turned = self.register.turn_by(request, terminal, entries, turn);
-        if turned.is_accepted() {
+        if turned.outcome.is_ok() {
             purse.credit(&mut self.entries, &mut self.cents, paid);
         }
         turned
