@@ -1,5 +1,6 @@
 -- What a settlement tells.
-use Rattle.std.specs.Prelude.{ℕ, ◌≡◌, List, All, Some, slice_get}
+use Rattle.std.specs.Prelude.{ℕ, ◌≡◌, List, All, Some, Vec, flat_map, slice_get}
+use Rattle.std.specs.declared.alloc.Global.{Global}
 use Rattle.tpcc_population.specs.declared.opening.Opening.{Opening}
 use Rattle.tpcc_book.specs.Past.{Past, rise_of}
 use Rattle.tpcc_book.specs.Seats.{SeatedView}
@@ -17,6 +18,10 @@ pub record IsSeen (purses : List SeatedView) (receipt : Receipt) : Type 0 where
 
 abbrev pub AllSeen : List SeatedView → List Receipt → Type 0
 AllSeen purses receipts = All (IsSeen purses) receipts
+
+-- those of all terminals, one's behind another's
+pub all_receipts : List (Vec Receipt Global) → List Receipt
+all_receipts = flat_map (λ held. held.items)
 
 -- all purses are there: their entries are the journal's, what they paid is the rise of W_YTD, and each
 -- receipt is the journal's entry at its place

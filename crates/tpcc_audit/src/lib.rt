@@ -37,5 +37,5 @@ pub use fault::{DumpFault, Unwritten};
 pub use laws::dump_is_read_back;
 pub use names::{table_name, table_named};
 pub use reporting::{ReportFault, report};
-pub use settlement::{Unsettled, settle};
+pub use settlement::{Unsettled, settle, settle_terminals};
 pub use writing::MOST_RETRIES;

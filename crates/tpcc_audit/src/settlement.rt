@@ -3,7 +3,7 @@ ghost use Rattle.std.specs.Prelude.{◌≡◌, ◌↔◌, IsOk, IfOk, IfErr, IfS
 ghost use Rattle.tpcc_book.specs.Purses.{all_parts};
 ghost use Rattle.tpcc_book.specs.Seats.{purses_of};
 ghost use Rattle.tpcc_book.specs.Serve.{rooms_of};
-ghost use Rattle.tpcc_audit.specs.Settlement.{AllSeen, IsSettled, IsUnsettled};
+ghost use Rattle.tpcc_audit.specs.Settlement.{AllSeen, IsSettled, IsUnsettled, all_receipts};
 
 use thiserror::Error;
 use tpcc_book::{Book, Naming, SeatedPurse, Seating, Turns};
@@ -50,4 +50,23 @@ pub fn settle<N: Naming, T: Seating>(
         }
         Err(book) => Err((book, Unsettled::Missing)),
     }
+}
+
+/// Settles a book as [`settle`] does, with each terminal's receipts in a vector of its own, as its thread gave them back:
+/// none has to be moved for it.
+pub fn settle_terminals<N: Naming, T: Seating>(
+    turns: Turns<N, T>,
+    purses: Vec<SeatedPurse<N, T>>,
+    receipts: &[Vec<Receipt>],
+) -> Result<(Book<N>, Report), (Option<Book<N>>, Unsettled)>
+    requires receipts { AllSeen purses.items (all_receipts receipts.now) }
+    ensures exactly { IsOk result ↔ (rooms_of (purses_of purses.items) ≡ all_parts) }
+    ensures settled { IfOk result
+        (λ r. IsSettled turns purses.items (all_receipts receipts.now) r.0 r.1) }
+    ensures missing { IfErr result
+        (λ e. IfSome e.0 (IsUnsettled turns purses.items (all_receipts receipts.now))) }
+{
+    let _ = receipts;
+    receipts_stay();
+    settle(turns, purses, &[])
 }

@@ -1,11 +1,13 @@
 -- Receipts that were kept stand in the fronts of purses that were kept.
-use Rattle.std.proofs.Common.{◌≡◌, ℕ, zero, suc, List, [], ◌∷◌, ◌++◌, length, refl, sym, subst, Some}
-use Rattle.std.specs.Prelude.{slice_get, Bool, true, false, if◌then◌else◌}
+use Rattle.std.proofs.Common.{◌≡◌, ◌∙◌, ap, ℕ, zero, suc, List, [], ◌∷◌, ◌++◌, append-nil, length, refl, sym, subst, Some}
+use Rattle.std.specs.Prelude.{slice_get, Bool, true, false, Vec, if◌then◌else◌}
+use Rattle.std.specs.declared.alloc.Global.{Global}
 use Rattle.std.proofs.lemmas.List.Elements.{All-append}
+use Rattle.std.proofs.lemmas.List.Concat.{flat_map-append}
 use Rattle.tpcc_book.specs.Seats.{SeatedView}
 use Rattle.tpcc_terminal.specs.declared.receipts.Receipt.{Receipt}
 use Rattle.tpcc_terminal.specs.Receipts.{AllStand}
-use Rattle.tpcc_audit.specs.Settlement.{IsSeen, AllSeen}
+use Rattle.tpcc_audit.specs.Settlement.{IsSeen, AllSeen, all_receipts}
 
 read_before : (xs ys : List SeatedView) (k : ℕ) (p : SeatedView) → slice_get xs k ≡ Some p → slice_get (xs ++ ys) k ≡ Some p
 read_before [] ys k p h = absurd (cc h)
@@ -37,3 +39,12 @@ seen_appended purses held p before more now true seen stand same is =
     subst (λ (rs : List Receipt). AllSeen held rs) (sym is) (subst (λ (ps : List SeatedView). AllSeen ps (before ++ more)) (sym same) (seen_with purses p before more seen stand))
 seen_appended purses held p before more now false seen stand same is =
     subst (λ (rs : List Receipt). AllSeen held rs) (sym is) (subst (λ (ps : List SeatedView). AllSeen ps before) (sym same) (seen_before purses p before seen))
+
+-- the receipts of one more vector are behind the others'
+receipts_behind : (held : List (Vec Receipt Global)) (more : Vec Receipt Global) → all_receipts (held ++ more ∷ []) ≡ all_receipts held ++ more.items
+receipts_behind held more =
+    flat_map-append (λ (v : Vec Receipt Global). v.items) held (more ∷ []) ∙ ap (λ (t : List Receipt). all_receipts held ++ t) (append-nil more.items)
+
+pub receipts_pushed : (held now : List (Vec Receipt Global)) (more : Vec Receipt Global) (ok : Bool) → now ≡ (if ok then held ++ more ∷ [] else held) → all_receipts now ≡ (if ok then all_receipts held ++ more.items else all_receipts held)
+receipts_pushed held now more true is = ap all_receipts is ∙ receipts_behind held more
+receipts_pushed held now more false is = ap all_receipts is

@@ -1,6 +1,6 @@
 //! The delivery runner, a terminal that asks for deliveries alone (2.7.2).
 ghost use Rattle.std.specs.Prelude.{◌≡◌, ◌<◌, ◌+◌};
-ghost use Rattle.tpcc_audit.specs.Settlement.{AllSeen};
+ghost use Rattle.tpcc_audit.specs.Settlement.{AllSeen, all_receipts};
 
 use crate::context::RunContext;
 use crate::fault::RunFault;
@@ -44,8 +44,8 @@ impl<
         all: &mut ThreadResults<N, T>,
     )
         requires make { F.IsAlwaysCallable self.now.make.now }
-        requires seen { AllSeen all.old.purses.items all.old.receipts.items }
-        ensures seen { AllSeen all.new.purses.items all.new.receipts.items }
+        requires seen { AllSeen all.old.purses.items (all_receipts all.old.receipts.items) }
+        ensures seen { AllSeen all.new.purses.items (all_receipts all.new.receipts.items) }
     {
         match runner {
             Some(runner) => all.take_in(self.drain_back(join_terminal(self.rt, runner))),

@@ -1,7 +1,7 @@
 //! What the threads of a run give back.
 ghost use Rattle.std.specs.Prelude.{◌≡◌, ◌<◌, ◌≤◌, ◌∷◌, ◌++◌, [], IsSome, None, true};
 ghost use Rattle.tpcc_terminal.specs.Receipts.{AllStand};
-ghost use Rattle.tpcc_audit.specs.Settlement.{AllSeen};
+ghost use Rattle.tpcc_audit.specs.Settlement.{AllSeen, all_receipts};
 ghost use Rattle.tpcc_run.specs.Outcome.{HasKeptBack};
 
 use crate::fault::RunFault;
@@ -15,8 +15,8 @@ use tpcc_terminal::Receipt;
 pub(crate) struct ThreadResults<N: Naming, T: Seating> {
     /// The terminals' and servers' purses.
     pub purses: Vec<SeatedPurse<N, T>>,
-    /// The terminals' receipts, those of one behind those of another.
-    pub receipts: Vec<Receipt>,
+    /// The receipts of each purse's terminal; a server's has none.
+    pub receipts: Vec<Vec<Receipt>>,
     /// Want of memory where there was some, else the last fault that was noted.
     pub fault: Option<RunFault>,
 }
@@ -46,8 +46,8 @@ impl<N: Naming, T: Seating> ThreadResults<N, T> {
 
     /// Notes a fault; want of memory comes before a purse that is missing.
     pub(crate) fn note(&mut self, fault: RunFault)
-        requires seen { AllSeen self.old.purses.items self.old.receipts.items }
-        ensures seen { AllSeen self.new.purses.items self.new.receipts.items }
+        requires seen { AllSeen self.old.purses.items (all_receipts self.old.receipts.items) }
+        ensures seen { AllSeen self.new.purses.items (all_receipts self.new.receipts.items) }
         ensures noted { IsSome self.new.fault }
         ensures purses { self.new.purses ≡ self.old.purses }
         ensures receipts { self.new.receipts ≡ self.old.receipts }
@@ -59,8 +59,8 @@ impl<N: Naming, T: Seating> ThreadResults<N, T> {
 
     /// Notes want of memory where fewer threads were started than are wanted: one that can't be made counts as that.
     pub(crate) fn note_started(&mut self, started: usize, wanted: u32)
-        requires seen { AllSeen self.old.purses.items self.old.receipts.items }
-        ensures seen { AllSeen self.new.purses.items self.new.receipts.items }
+        requires seen { AllSeen self.old.purses.items (all_receipts self.old.receipts.items) }
+        ensures seen { AllSeen self.new.purses.items (all_receipts self.new.receipts.items) }
         ensures noted { started < wanted → IsSome self.new.fault }
         ensures same { wanted ≤ started → self.new ≡ self.old }
     {
@@ -71,11 +71,11 @@ impl<N: Naming, T: Seating> ThreadResults<N, T> {
 
     /// Keeps what a terminal's thread gave back.
     pub(crate) fn take_in<C>(&mut self, back: Back<'_, N, T, C>)
-        requires seen { AllSeen self.old.purses.items self.old.receipts.items }
-        ensures seen { AllSeen self.new.purses.items self.new.receipts.items }
+        requires seen { AllSeen self.old.purses.items (all_receipts self.old.receipts.items) }
+        ensures seen { AllSeen self.new.purses.items (all_receipts self.new.receipts.items) }
         ensures kept { self.new.fault ≡ None → HasKeptBack back.entry
-            self.old.purses.items self.old.receipts.items
-            self.new.purses.items self.new.receipts.items }
+            self.old.purses.items (all_receipts self.old.receipts.items)
+            self.new.purses.items (all_receipts self.new.receipts.items) }
         ensures before { self.new.fault ≡ None → self.old.fault ≡ None }
     {
         match back {
@@ -89,10 +89,10 @@ impl<N: Naming, T: Seating> ThreadResults<N, T> {
     }
 
     fn keep_operator<C>(&mut self, operator: Operator<'_, N, T, C>)
-        requires seen { AllSeen self.old.purses.items self.old.receipts.items }
-        ensures seen { AllSeen self.new.purses.items self.new.receipts.items }
-        ensures receipts { self.new.fault ≡ None → self.new.receipts.items
-            ≡ self.old.receipts.items ++ operator.entry.station.receipts }
+        requires seen { AllSeen self.old.purses.items (all_receipts self.old.receipts.items) }
+        ensures seen { AllSeen self.new.purses.items (all_receipts self.new.receipts.items) }
+        ensures receipts { self.new.fault ≡ None → all_receipts self.new.receipts.items
+            ≡ all_receipts self.old.receipts.items ++ operator.entry.station.receipts }
         ensures purse { self.new.fault ≡ None → self.new.purses.items
             ≡ self.old.purses.items ++ operator.entry.purse ∷ [] }
         ensures before { self.new.fault ≡ None → self.old.fault ≡ None }
@@ -104,10 +104,10 @@ impl<N: Naming, T: Seating> ThreadResults<N, T> {
     /// Keeps a purse with its receipts. Where there is no room it lets them go, and notes that.
     pub(crate) fn keep(&mut self, purse: SeatedPurse<N, T>, receipts: Vec<Receipt>)
         requires receipts { AllStand purse.front receipts.items }
-        requires seen { AllSeen self.old.purses.items self.old.receipts.items }
-        ensures seen { AllSeen self.new.purses.items self.new.receipts.items }
-        ensures receipts { self.new.fault ≡ None → self.new.receipts.items
-            ≡ self.old.receipts.items ++ receipts.items }
+        requires seen { AllSeen self.old.purses.items (all_receipts self.old.receipts.items) }
+        ensures seen { AllSeen self.new.purses.items (all_receipts self.new.receipts.items) }
+        ensures receipts { self.new.fault ≡ None → all_receipts self.new.receipts.items
+            ≡ all_receipts self.old.receipts.items ++ receipts.items }
         ensures purse { self.new.fault ≡ None → self.new.purses.items
             ≡ self.old.purses.items ++ purse ∷ [] }
         ensures before { self.new.fault ≡ None → self.old.fault ≡ None }
@@ -118,23 +118,23 @@ impl<N: Naming, T: Seating> ThreadResults<N, T> {
     }
 }
 
-// Adds a purse and its receipts; whether there was room for all of them.
+// Adds a purse and its receipts; whether there was room for both.
 fn hold<N: Naming, T: Seating>(
     purses: &mut Vec<SeatedPurse<N, T>>,
-    kept: &mut Vec<Receipt>,
+    kept: &mut Vec<Vec<Receipt>>,
     purse: SeatedPurse<N, T>,
     receipts: Vec<Receipt>,
 ) -> bool
     requires receipts { AllStand purse.front receipts.items }
-    requires seen { AllSeen purses.old.items kept.old.items }
-    ensures seen { AllSeen purses.new.items kept.new.items }
-    ensures receipts { result ≡ true → kept.new.items ≡ kept.old.items ++ receipts.items }
+    requires seen { AllSeen purses.old.items (all_receipts kept.old.items) }
+    ensures seen { AllSeen purses.new.items (all_receipts kept.new.items) }
+    ensures receipts { result ≡ true → all_receipts kept.new.items
+        ≡ all_receipts kept.old.items ++ receipts.items }
     ensures purse { result ≡ true → purses.new.items ≡ purses.old.items ++ purse ∷ [] }
 {
     if purses.reserve(1).is_err() {
         return false;
     }
     purses.push_reserved(purse);
-    let mut receipts = receipts;
-    kept.append(&mut receipts).is_ok()
+    kept.push(receipts).is_ok()
 }

@@ -1,7 +1,7 @@
 //! The threads of servers: how they are started and joined.
 ghost use Rattle.std.specs.Prelude.{◌≡◌, ◌+◌, ◌≤◌, None};
 ghost use Rattle.tpcc_mailbox.specs.Tokens.{identity, serving_origin, serving_hand};
-ghost use Rattle.tpcc_audit.specs.Settlement.{AllSeen};
+ghost use Rattle.tpcc_audit.specs.Settlement.{AllSeen, all_receipts};
 
 use crate::context::RunContext;
 use crate::results::ThreadResults;
@@ -108,8 +108,8 @@ pub(crate) fn join_servers<N: Naming, T: Seating, R: Threads>(
     handles: Vec<ServerHandle<N, T>>,
     all: &mut ThreadResults<N, T>,
 )
-    requires seen { AllSeen all.old.purses.items all.old.receipts.items }
-    ensures seen { AllSeen all.new.purses.items all.new.receipts.items }
+    requires seen { AllSeen all.old.purses.items (all_receipts all.old.receipts.items) }
+    ensures seen { AllSeen all.new.purses.items (all_receipts all.new.receipts.items) }
 {
     let mut handles = handles;
     while let Some(handle) = handles.pop() {

@@ -1,13 +1,13 @@
 //! The book of a run at its end.
 ghost use Rattle.std.specs.Prelude.{◌≡◌, IfOk, OnErr};
-ghost use Rattle.tpcc_audit.specs.Settlement.{AllSeen};
+ghost use Rattle.tpcc_audit.specs.Settlement.{AllSeen, all_receipts};
 ghost use Rattle.tpcc_run.specs.Outcome.{HasCut, HasShown, HasTotals};
 
 use crate::fault::RunFault;
 use crate::results::ThreadResults;
 use std::alloc::Global;
 use std::io::Write;
-use tpcc_audit::{DumpFault, settle};
+use tpcc_audit::{DumpFault, settle_terminals};
 use tpcc_book::{Book, Naming, SeatedPurse, Seating, Turns};
 use tpcc_population::Opening;
 use tpcc_show::{Part, show};
@@ -27,7 +27,7 @@ pub(crate) fn end_run<N: Naming, T: Seating>(
     turns: Turns<N, T>,
     all: ThreadResults<N, T>,
 ) -> Result<SettledBook<N>, RunFault>
-    requires seen { AllSeen all.purses.items all.receipts.items }
+    requires seen { AllSeen all.purses.items (all_receipts all.receipts.items) }
     ensures settled { IfOk result (λ s. HasTotals turns s.book s.report) }
 {
     let ThreadResults {
@@ -44,12 +44,12 @@ pub(crate) fn end_run<N: Naming, T: Seating>(
 fn totals_of<N: Naming, T: Seating>(
     turns: Turns<N, T>,
     purses: Vec<SeatedPurse<N, T>>,
-    receipts: &[Receipt],
+    receipts: &[Vec<Receipt>],
 ) -> Result<SettledBook<N>, RunFault>
-    requires seen { AllSeen purses.items receipts.now }
+    requires seen { AllSeen purses.items (all_receipts receipts.now) }
     ensures settled { IfOk result (λ s. HasTotals turns s.book s.report) }
 {
-    match settle(turns, purses, receipts) {
+    match settle_terminals(turns, purses, receipts) {
         Ok((book, report)) => Ok(SettledBook { book, report }),
         Err(_left) => Err(RunFault::Missing),
     }

@@ -1,7 +1,7 @@
 //! The threads of terminals: how they are started and joined.
 ghost use Rattle.std.specs.Prelude.{◌≡◌, ◌≤◌, ◌<◌, ◌+◌};
 ghost use Rattle.tpcc_terminal.specs.Terminals.{IsStarted};
-ghost use Rattle.tpcc_audit.specs.Settlement.{AllSeen};
+ghost use Rattle.tpcc_audit.specs.Settlement.{AllSeen, all_receipts};
 ghost use Rattle.tpcc_operator.specs.Answered.{IfAll};
 ghost use Rattle.tpcc_operator.specs.Asking.{HasAskedAll};
 ghost use Rattle.tpcc_run.specs.Working.{HasComeBack};
@@ -156,8 +156,8 @@ pub(crate) fn join_terminals<N: Naming, T: Seating, C, R: Threads>(
     handles: Vec<TerminalHandle<'_, N, T, C>>,
     all: &mut ThreadResults<N, T>,
 )
-    requires seen { AllSeen all.old.purses.items all.old.receipts.items }
-    ensures seen { AllSeen all.new.purses.items all.new.receipts.items }
+    requires seen { AllSeen all.old.purses.items (all_receipts all.old.receipts.items) }
+    ensures seen { AllSeen all.new.purses.items (all_receipts all.new.receipts.items) }
 {
     let mut handles = handles;
     while let Some(handle) = handles.pop() {

@@ -2,7 +2,7 @@
 ghost use Rattle.std.specs.Prelude.{◌≡◌, ◌+◌, ◌≤◌, ◌<◌, All, IfSome};
 ghost use Rattle.tpcc_book.specs.Purses.{most_purses};
 ghost use Rattle.tpcc_mailbox.specs.Tokens.{identity, idle_origin, serving_origin};
-ghost use Rattle.tpcc_audit.specs.Settlement.{AllSeen};
+ghost use Rattle.tpcc_audit.specs.Settlement.{AllSeen, all_receipts};
 ghost use Rattle.tpcc_run.specs.Outcome.{IsService};
 ghost use Rattle.tpcc_run.specs.declared.plan.TheConstants.{MOST_SERVERS};
 
@@ -33,7 +33,7 @@ impl<
     pub(crate) fn run_threads(&self, first: SeatedPurse<N, T>) -> ThreadResults<N, T>
         requires make { F.IsAlwaysCallable self.now.make.now }
         requires room { first.purse.room ≡ most_purses }
-        ensures seen { AllSeen result.purses.items result.receipts.items }
+        ensures seen { AllSeen result.purses.items (all_receipts result.receipts.items) }
     {
         let Some(servers) = servers_of(self.plan.service) else {
             return self.serve_directly(first);
@@ -60,7 +60,7 @@ impl<
         requires serving { serving_origin serving ≡ identity mailboxes.now }
         requires room { self.now.plan.terminals + servers.count < first.purse.room }
         requires make { F.IsAlwaysCallable self.now.make.now }
-        ensures seen { AllSeen result.purses.items result.receipts.items }
+        ensures seen { AllSeen result.purses.items (all_receipts result.receipts.items) }
     {
         let Ok(routes) = by_mailboxes(self.alloc, mailboxes, idles) else {
             return ThreadResults::without_memory(self.alloc);
@@ -72,7 +72,7 @@ impl<
                 requires serving { serving_origin serving ≡ identity mailboxes.now }
                 requires room { self.now.plan.terminals + servers.count < first.purse.room }
                 requires make { F.IsAlwaysCallable self.now.make.now }
-                ensures seen { AllSeen result.purses.items result.receipts.items }
+                ensures seen { AllSeen result.purses.items (all_receipts result.receipts.items) }
             { self.drive(scope, mailboxes, routes, serving, first, servers) },
         )
     }
@@ -90,7 +90,7 @@ impl<
         requires serving { serving_origin serving ≡ identity mailboxes.now }
         requires room { self.now.plan.terminals + servers.count < first.purse.room }
         requires make { F.IsAlwaysCallable self.now.make.now }
-        ensures seen { AllSeen result.purses.items result.receipts.items }
+        ensures seen { AllSeen result.purses.items (all_receipts result.receipts.items) }
     {
         let mut serving = serving;
         let mut first = first;
@@ -108,7 +108,7 @@ impl<
     fn serve_directly(&self, first: SeatedPurse<N, T>) -> ThreadResults<N, T>
         requires room { self.now.plan.terminals < first.purse.room }
         requires make { F.IsAlwaysCallable self.now.make.now }
-        ensures seen { AllSeen result.purses.items result.receipts.items }
+        ensures seen { AllSeen result.purses.items (all_receipts result.receipts.items) }
     {
         let count = self.plan.terminals as usize + 1;
         let Ok(routes) = by_turns::<N, T, C>(self.alloc, self.turns, count) else {
@@ -120,7 +120,7 @@ impl<
             |scope| -> ThreadResults<N, T>
                 requires room { self.now.plan.terminals < first.purse.room }
                 requires make { F.IsAlwaysCallable self.now.make.now }
-                ensures seen { AllSeen result.purses.items result.receipts.items }
+                ensures seen { AllSeen result.purses.items (all_receipts result.receipts.items) }
             { self.ask_everything(scope, routes, first) },
         )
     }
@@ -135,7 +135,7 @@ impl<
     ) -> ThreadResults<N, T>
         requires room { self.now.plan.terminals < first.purse.room }
         requires make { F.IsAlwaysCallable self.now.make.now }
-        ensures seen { AllSeen result.purses.items result.receipts.items }
+        ensures seen { AllSeen result.purses.items (all_receipts result.receipts.items) }
     {
         let mut routes = routes;
         let mut first = first;

@@ -1,7 +1,7 @@
 -- A script that ran, and then parts of the book that it left.
 use Rattle.std.proofs.Common.{ℕ, List, [], Option, Some}
 use Rattle.std.specs.Result.{result_and}
-use Rattle.std.specs.Prelude.{Result, Ok, Err, IfOk, OnErr, OnOk}
+use Rattle.std.specs.Prelude.{Result, Ok, Err, IfErr, IfOk, OnErr, OnOk}
 use Rattle.std.specs.Io.KnownBytes.{Appends}
 use Rattle.tpcc_book.specs.Past.{Past}
 use Rattle.tpcc_audit.specs.Part.{AppendsPart}
@@ -25,3 +25,8 @@ pub has_shown_part : (start : ScriptBook) (script : Script) (asked : List Part) 
     → OnErr (result_and shown (Ok ended)) (HasShownScriptPart start script asked old new)
 has_shown_part start script asked old new left screens ended (Ok done) ran part = tt
 has_shown_part start script asked old new left screens ended (Err fault) ran part = record { book = left; screens = screens; ended = ended; ran = ran; part = part }
+
+pub has_kept : (P : ScriptFault → Type 0) (ended : Result ℕ ScriptFault) (shown : Result (Unit {0}) ScriptFault)
+    → OnOk shown (IfErr ended P) → IfOk (result_and shown (Ok ended)) (λ e. IfErr e P)
+has_kept P ended (Ok done) kept = kept
+has_kept P ended (Err fault) kept = tt

@@ -1,5 +1,5 @@
 //! A script whose book is shown.
-ghost use Rattle.std.specs.Prelude.{◌≡◌, ℕ, List, Some, IfOk, OnErr, OnOk};
+ghost use Rattle.std.specs.Prelude.{◌≡◌, ◌≢◌, ℕ, List, Some, IfErr, IfOk, OnErr, OnOk};
 ghost use Rattle.std.specs.Io.KnownBytes.{Appends};
 ghost use Rattle.tpcc_audit.specs.Part.{AppendsPart};
 ghost use Rattle.tpcc_show.specs.Shown.{served_text};
@@ -38,6 +38,8 @@ pub fn show_script<R: Read, W: Write>(
     ensures part { (bytes : List ℕ) → R.remaining input.old ≡ Some bytes
         → OnErr result (HasShownScriptPart (opened_book opening.now) (script_of bytes) parts.now
         (W.contents out.old) (W.contents out.new)) }
+    // A screen that there is no memory for is NoMemory: how the script ended is never the kept screens' writer.
+    ensures kept { IfOk result (λ ended. IfErr ended (λ fault. fault ≢ ScriptFault.Write)) }
 {
     show_named::<Brand, R, W>(alloc, input, opening, parts, out, Blanks::new())
 }
@@ -59,6 +61,7 @@ fn show_named<N: Naming, R: Read, W: Write>(
     ensures part { (bytes : List ℕ) → R.remaining input.old ≡ Some bytes
         → OnErr result (HasShownScriptPart (opened_book opening.now) (script_of bytes) parts.now
         (W.contents out.old) (W.contents out.new)) }
+    ensures kept { IfOk result (λ ended. IfErr ended (λ fault. fault ≢ ScriptFault.Write)) }
 {
     match Session::<N>::start(alloc, opening, blanks) {
         Ok(mut session) => show_session(alloc, &mut session, input, parts, out),
@@ -80,6 +83,7 @@ fn show_session<N: Naming, R: Read, W: Write>(
     ensures part { (bytes : List ℕ) → R.remaining input.old ≡ Some bytes
         → OnErr result (HasShownScriptPart (book_of session.old) (script_of bytes) parts.now
         (W.contents out.old) (W.contents out.new)) }
+    ensures kept { IfOk result (λ ended. IfErr ended (λ fault. fault ≢ ScriptFault.Write)) }
 {
     let mut screens = Vec::new(alloc);
     let ended = serve_session(alloc, session, input, &mut screens, &mut Watch::new());
@@ -100,6 +104,7 @@ fn show_left<N: Naming, W: Write>(
         (served_text screens.now book.now parts.now)) }
     ensures part { OnErr result (AppendsPart (W.contents out.old) (W.contents out.new)
         (served_text screens.now book.now parts.now)) }
+    ensures kept { OnOk result (IfErr ended (λ fault. fault ≢ ScriptFault.Write)) }
 {
     if let Err(ScriptFault::Write) = ended {
         return Err(ScriptFault::NoMemory);

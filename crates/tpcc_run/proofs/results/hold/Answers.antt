@@ -1,10 +1,18 @@
-use Rattle.std.proofs.Common.{◌∙◌, ◌∷◌, [], ◌++◌, ap, List}
-use Rattle.std.specs.Prelude.{is_ok}
+use Rattle.std.proofs.Common.{◌≡◌, ◌∙◌, ◌∷◌, [], ◌++◌, ap, List, subst}
+use Rattle.std.specs.Prelude.{is_ok, Bool, if◌then◌else◌}
 use Rattle.tpcc_book.specs.Seats.{SeatedView}
-use Rattle.tpcc_run.proofs.Kept.{seen_appended}
+use Rattle.tpcc_terminal.specs.declared.receipts.Receipt.{Receipt}
+use Rattle.tpcc_audit.specs.Settlement.{all_receipts}
+use Rattle.tpcc_run.proofs.Kept.{seen_appended, receipts_pushed}
 use Rattle.tpcc_run.proofs.results.hold.Goals as goal
 
 pub returns-clause-seen : goal.returns-clause-seen
 returns-clause-seen g c =
     let now = c.push_reserved.ensures.items ∙ ap (λ (ps : List SeatedView). ps ++ c.args.purse ∷ []) c.reserve.ensures.items in
-    seen_appended c.args.purses.now.items c.push_reserved.new.self.items c.args.purse c.args.kept.now.items c.args.receipts.items c.append.new.self.items (is_ok c.append.result) c.requires.seen c.requires.receipts now c.append.ensures.items
+    let pushed = receipts_pushed c.args.kept.now.items c.push.new.self.items c.args.receipts (is_ok c.push.result) c.push.ensures.items in
+    seen_appended c.args.purses.now.items c.push_reserved.new.self.items c.args.purse (all_receipts c.args.kept.now.items) c.args.receipts.items (all_receipts c.push.new.self.items) (is_ok c.push.result) c.requires.seen c.requires.receipts now pushed
+
+pub returns-clause-receipts : goal.returns-clause-receipts
+returns-clause-receipts g c ok =
+    receipts_pushed c.args.kept.now.items c.push.new.self.items c.args.receipts (is_ok c.push.result) c.push.ensures.items
+    ∙ ap (λ (b : Bool). if b then all_receipts c.args.kept.now.items ++ c.args.receipts.items else all_receipts c.args.kept.now.items) ok

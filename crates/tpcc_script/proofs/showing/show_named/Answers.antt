@@ -17,6 +17,7 @@ returns-in-Ok g c = record {
   part = λ bytes known.
       subst (λ (p : Past). OnErr c.show_session.result (HasShownScriptPart (book_of p) (script_of bytes) c.args.parts.now (g.W.Write.contents c.args.out.now) (g.W.Write.contents c.show_session.new.out)))
       c.in-Ok.ensures.started (c.show_session.ensures.part bytes known);
+  kept = c.show_session.ensures.kept;
 }
 
 pub returns-in-Err-clause-part : goal.returns-in-Err-clause-part

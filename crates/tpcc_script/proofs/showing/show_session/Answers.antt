@@ -1,6 +1,9 @@
+use Rattle.std.specs.Prelude.{◌≢◌}
+use Rattle.tpcc_script.specs.declared.fault.ScriptFault.{ScriptFault}
+use Rattle.tpcc_script.specs.declared.fault.ScriptFault.TheVariants.{Write}
 use Rattle.tpcc_script.specs.Script.{script_of}
 use Rattle.tpcc_script.specs.Session.{book_of}
-use Rattle.tpcc_script.proofs.ShownScripts.{has_shown, has_shown_part}
+use Rattle.tpcc_script.proofs.ShownScripts.{has_shown, has_shown_part, has_kept}
 use Rattle.tpcc_script.proofs.showing.show_session.Goals as goal
 
 pub returns-clause-shown : goal.returns-clause-shown
@@ -16,3 +19,7 @@ returns-clause-part g c = λ bytes known.
     rw c.and.ensures
     (has_shown_part (book_of c.args.session.now) (script_of bytes) c.args.parts.now (g.W.Write.contents c.args.out.now) (g.W.Write.contents c.show_left-shown.new.out) c.serve_session-ended.new.session c.serve_session-ended.new.out.items c.serve_session-ended.result c.show_left-shown.result
     ran (rw (c.book.ensures.book, c.as_slice.ensures.value) at c.show_left-shown.ensures.part))
+
+pub returns-clause-kept : goal.returns-clause-kept
+returns-clause-kept g c =
+    rw c.and.ensures (has_kept (λ (fault : ScriptFault). fault ≢ Write) c.serve_session-ended.result c.show_left-shown.result c.show_left-shown.ensures.kept)
