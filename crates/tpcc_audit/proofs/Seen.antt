@@ -1,6 +1,6 @@
 -- Receipts that stand in the fronts of purses.
 use Rattle.std.proofs.Common.{◌≡◌, ℕ, zero, suc, List, [], ◌∷◌, slice_index_or, subst, Some, arith, All}
-use Rattle.std.specs.Prelude.{slice_get, Option, None, IfSome, Result, Ok, Err, IfOk, IfErr, ◌×◌}
+use Rattle.std.specs.Prelude.{slice_get, Option, None, IfSome, Result, Ok, Err, IfOk, IfErr}
 use Rattle.std.proofs.lemmas.List.Elements.{All-head, All-tail}
 use mathlib.Core.List.{IsPrefix}
 use Rattle.tpcc_rows.specs.declared.entry.Entry.{Entry}

@@ -20,8 +20,8 @@ abbrev pub AllSeen : List SeatedView → List Receipt → Type 0
 AllSeen purses receipts = All (IsSeen purses) receipts
 
 -- those of all terminals, one's behind another's
-pub all_receipts : List (Vec Receipt Global) → List Receipt
-all_receipts = flat_map (λ held. held.items)
+abbrev pub all_receipts : List (Vec Receipt Global) → List Receipt
+all_receipts receipts = flat_map (λ held. held.items) receipts
 
 -- all purses are there: their entries are the journal's, what they paid is the rise of W_YTD, and each
 -- receipt is the journal's entry at its place

@@ -1,7 +1,6 @@
-use Rattle.std.proofs.Common.{◌≡◌, ◌∙◌, ◌∷◌, [], ◌++◌, ap, List, subst}
+use Rattle.std.proofs.Common.{◌∙◌, ◌∷◌, [], ◌++◌, ap, sym, List}
 use Rattle.std.specs.Prelude.{is_ok, Bool, if◌then◌else◌}
 use Rattle.tpcc_book.specs.Seats.{SeatedView}
-use Rattle.tpcc_terminal.specs.declared.receipts.Receipt.{Receipt}
 use Rattle.tpcc_audit.specs.Settlement.{all_receipts}
 use Rattle.tpcc_run.proofs.Kept.{seen_appended, receipts_pushed}
 use Rattle.tpcc_run.proofs.results.hold.Goals as goal
@@ -15,4 +14,4 @@ returns-clause-seen g c =
 pub returns-clause-receipts : goal.returns-clause-receipts
 returns-clause-receipts g c ok =
     receipts_pushed c.args.kept.now.items c.push.new.self.items c.args.receipts (is_ok c.push.result) c.push.ensures.items
-    ∙ ap (λ (b : Bool). if b then all_receipts c.args.kept.now.items ++ c.args.receipts.items else all_receipts c.args.kept.now.items) ok
+    ∙ ap (λ (b : Bool). if b then all_receipts c.args.kept.now.items ++ c.args.receipts.items else all_receipts c.args.kept.now.items) (sym c.is_ok.ensures.value ∙ ok)
