@@ -1,7 +1,9 @@
 //! Mailboxes that are made.
-ghost use Rattle.std.specs.Prelude.{◌≡◌, ◌+◌, ◌<◌, ◌≤◌, false, [], vec_len, All, IfOk, None};
+ghost use Rattle.std.specs.Prelude.{◌≡◌, ◌+◌, ◌<◌, ◌≤◌, false, [], replicate, set, vec_len, All, IfOk, None};
+ghost use Rattle.tpcc_mailbox.specs.Rule.{IsSized, opener, view_with, word_of, words_of};
+ghost use Rattle.tpcc_mailbox.specs.Views.{Opening};
 ghost use Rattle.tpcc_mailbox.specs.declared.table.TheConstants.{MOST_MAILBOXES};
-ghost use Rattle.tpcc_mailbox.specs.Tokens.{identity, mailbox_count, AreNewIdles, idle_origin, serving_origin, serving_hand, serving_splits, serving_answered, serving_saw_closed};
+ghost use Rattle.tpcc_mailbox.specs.Tokens.{identity, mailbox_count, AreNewIdles, idle_mailbox, idle_origin, idle_saw_closed, serving_origin, serving_hand, serving_splits, serving_answered, serving_saw_closed};
 
 use crate::answers::Answers;
 use crate::plays::{FirstCollecting, MakingClient, MakingServer};
@@ -24,6 +26,60 @@ fn make_rooms<A: Drop>(alloc: Global, count: usize) -> Result<Vec<Room<A>>, Allo
     Ok(rooms)
 }
 
+// The words of so many mailboxes: each starts as answered with an empty slot, which its client then collects.
+fn first_words(alloc: Global, count: usize) -> Result<Vec<u64>, AllocError>
+    requires { count ≤ MOST_MAILBOXES }
+    ensures { IfOk result (λ words. words.items
+        ≡ set (replicate (words_of count) 3) (word_of count) 0) }
+{
+    let mut words = Vec::from_elem(alloc, ANSWERED, word_count(count))?;
+    words[word_index(count)] = OPEN;
+    Ok(words)
+}
+
+// A table of so many mailboxes, and the seat that opens them all.
+fn open_table<J, A: Answers<J> + Drop>(
+    alloc: Global,
+    count: usize,
+) -> Result<(MailboxTable<J, A>, MailboxSeat<J, A>), AllocError>
+    requires { count ≤ MOST_MAILBOXES }
+    ensures sized { IfOk result (λ r. IsSized r.0.shared.table_id) }
+    ensures slots { IfOk result (λ r. r.0.shared.table_id.slots ≡ count) }
+    ensures fits { IfOk result (λ r. r.1.table_id ≡ r.0.shared.table_id) }
+    ensures opens { IfOk result (λ r. r.1.me.0 ≡ opener) }
+{
+    let words = first_words(alloc, count)?;
+    Table::vacant(alloc, words.as_slice(), count, &())
+}
+
+// The token of the next mailbox, from the seat that opens them all.
+fn first_idle<J, A: Answers<J>>(
+    table: &MailboxTable<J, A>,
+    first: &mut MailboxSeat<J, A>,
+    mailbox: usize,
+    room: Room<A>,
+) -> Idle<J, A>
+    requires fits { first.old.table_id ≡ table.now.shared.table_id }
+    requires sized { IsSized table.now.shared.table_id }
+    requires within { mailbox < table.now.shared.table_id.slots }
+    requires opens { first.old.me.0 ≡ view_with (Opening mailbox) false [] }
+    ensures fits { first.new.table_id ≡ table.now.shared.table_id }
+    ensures opens { first.new.me.0 ≡ view_with (Opening (mailbox + 1)) false [] }
+    ensures origin { idle_origin result ≡ table.now.shared.table_id }
+    ensures number { idle_mailbox result ≡ mailbox }
+    ensures open { idle_saw_closed result ≡ false }
+{
+    let mut seat = table.shared.split_seat::<MakingClient>(first);
+    table
+        .shared
+        .compare_exchange::<FirstCollecting>(&mut seat, word_index(mailbox), ANSWERED, FREE);
+    Idle {
+        seat,
+        mailbox,
+        room,
+    }
+}
+
 impl<J, A: Answers<J> + Drop> Mailboxes<J, A> {
     /// Makes `n` free mailboxes, 1 to [`MOST_MAILBOXES`](crate::MOST_MAILBOXES), with the token of each in order and the first server.
     /// Nothing of it is left where memory is refused, which is the only error.
@@ -43,31 +99,14 @@ impl<J, A: Answers<J> + Drop> Mailboxes<J, A> {
         ensures answered { IfOk result (λ r. serving_answered r.2 ≡ []) }
         ensures open { IfOk result (λ r. serving_saw_closed r.2 ≡ false) }
     {
-        // Each mailbox starts as answered with an empty slot, which its client then collects.
-        let mut words = Vec::from_elem(alloc, ANSWERED, word_count(n))?;
-        words[word_index(n)] = OPEN;
         let mut idles = Vec::with_capacity(alloc, n)?;
         let mut rooms = make_rooms(alloc, n)?;
-        let opened: Result<(MailboxTable<J, A>, MailboxSeat<J, A>), AllocError> = Table::vacant(
-            alloc,
-            words.as_slice(),
-            n,
-            &(),
-        );
-        let (table, mut first) = opened?;
+        let (table, mut first) = open_table(alloc, n)?;
         for k in 0..n {
-            let mut seat = table.shared.split_seat::<MakingClient>(&mut first);
-            table
-                .shared
-                .compare_exchange::<FirstCollecting>(&mut seat, word_index(k), ANSWERED, FREE);
             let Some(room) = rooms.pop() else {
                 unreachable!()
             };
-            idles.push_reserved(Idle {
-                seat,
-                mailbox: k,
-                room,
-            });
+            idles.push_reserved(first_idle(&table, &mut first, k, room));
         }
         let seat = table.shared.split_seat::<MakingServer>(&mut first);
         let mailboxes = Mailboxes {
