@@ -507,7 +507,7 @@ left_at_terminal() {
     : > stderr.wanted
     awk '{ while (sub(/^\033\[1A\033\[2K/, "")) count--; if ($0 != "") line[++count] = $0 }
         END { for (i = 1; i <= count; i++) print line[i] }' seen > stderr
-    grep -q ' of 300000 requests$' seen || echo 'no progress was told' >> stderr
+    grep -q ' of 600000 requests$' seen || echo 'no progress was told' >> stderr
     compare "$1" 0
 }
 
@@ -528,7 +528,7 @@ if script -qec true /dev/null < /dev/null > /dev/null 2>&1 || python3 -c 'import
     seen_at_terminal 'customers at a terminal'       'run --customers 15' '' 1 'fault 2 Customers\ncustomers of a district are 10 to 3000, a multiple of 10\n'
     seen_at_terminal 'items at a terminal'           'dump ITEM --items 99' '' 1 'fault 3 Items\nitems are 100 to 100000\n'
     seen_at_terminal 'a bad line at a terminal'      script 'x\n' 2 'fault 1 Bad 1\n'
-    left_at_terminal 'progress at a terminal'        'run --seeded --terminals 4 --cards 60000 --servers 2'
+    left_at_terminal 'progress at a terminal'        'run --seeded --terminals 5 --cards 100000 --servers 2'
 else
     echo 'programs: skipped: what a person sees at a terminal, since there is no script of util-linux and no python3'
 fi
