@@ -53,7 +53,7 @@ pub fn settle<N: Naming, T: Seating>(
 }
 
 /// Settles a book as [`settle`] does, with each terminal's receipts in a vector of its own, as its thread gave them back:
-/// none has to be moved for it.
+/// none has to be moved for it. It refuses what [`settle`] refuses, takes no memory and does not wait.
 pub fn settle_terminals<N: Naming, T: Seating>(
     turns: Turns<N, T>,
     purses: Vec<SeatedPurse<N, T>>,
