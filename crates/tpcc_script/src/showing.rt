@@ -38,7 +38,7 @@ pub fn show_script<R: Read, W: Write>(
     ensures part { (bytes : List ℕ) → R.remaining input.old ≡ Some bytes
         → OnErr result (HasShownScriptPart (opened_book opening.now) (script_of bytes) parts.now
         (W.contents out.old) (W.contents out.new)) }
-    // A screen that there is no memory for is NoMemory: how the script ended is never the kept screens' writer.
+    // How the script ended is never a fault of the writer that keeps its screens.
     ensures kept { IfOk result (λ ended. IfErr ended (λ fault. fault ≢ ScriptFault.Write)) }
 {
     show_named::<Brand, R, W>(alloc, input, opening, parts, out, Blanks::new())
