@@ -1,5 +1,1 @@
-pub mod Record
-mod Row
-mod ReadBack
 mod Seen
-pub mod Parts

@@ -10,7 +10,7 @@ use Rattle.tpcc_book.specs.Closing.{IsLeft}
 use Rattle.tpcc_book.specs.Seats.{SeatedView}
 use Rattle.tpcc_terminal.specs.declared.receipts.Receipt.{Receipt}
 use Rattle.tpcc_terminal.specs.Receipts.{Stands, AllStand}
-use Rattle.tpcc_terminal.specs.declared.report.Report.{Report}
+use Rattle.tpcc_screens.specs.declared.report.Report.{Report}
 use Rattle.tpcc_audit.specs.Settlement.{AllSeen, IsSettled, IsUnsettled}
 
 -- what holds of all holds of the one at a place

@@ -1,7 +1,1 @@
-pub mod Columns
-pub mod Records
-pub mod Fields
-pub mod Dump
-pub mod Output
-pub mod Part
 pub mod Settlement

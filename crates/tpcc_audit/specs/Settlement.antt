@@ -6,7 +6,7 @@ use Rattle.tpcc_book.specs.Past.{Past, rise_of}
 use Rattle.tpcc_book.specs.Seats.{SeatedView}
 use Rattle.tpcc_book.specs.Closing.{IsLeft, IsGathered}
 use Rattle.tpcc_terminal.specs.declared.receipts.Receipt.{Receipt}
-use Rattle.tpcc_terminal.specs.declared.report.Report.{Report}
+use Rattle.tpcc_screens.specs.declared.report.Report.{Report}
 use Rattle.tpcc_terminal.specs.Receipts.{Stands, AllStand}
 
 -- a receipt stands in the front of one of these purses

@@ -1,11 +1,11 @@
 //! The report of a run.
 ghost use Rattle.std.specs.Prelude.{IfOk};
 ghost use Rattle.std.specs.Io.KnownBytes.{Appends};
-ghost use Rattle.tpcc_terminal.specs.Report.{report_text};
+ghost use Rattle.tpcc_screens.specs.Report.{report_text};
 
 use std::io::Write;
 use thiserror::Error;
-use tpcc_terminal::Report;
+use tpcc_screens::Report;
 
 /// Why a report was not written whole. The text is the program's line on standard error.
 #[derive(Clone, Copy, Debug, Error)]

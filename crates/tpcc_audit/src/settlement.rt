@@ -7,7 +7,8 @@ ghost use Rattle.tpcc_audit.specs.Settlement.{AllSeen, IsSettled, IsUnsettled, a
 
 use thiserror::Error;
 use tpcc_book::{Book, Naming, SeatedPurse, Seating, Turns};
-use tpcc_terminal::{Receipt, Report, receipts_stay};
+use tpcc_screens::Report;
+use tpcc_terminal::{Receipt, receipts_stay};
 
 /// Why a book was not settled.
 #[derive(Clone, Copy, Debug, Error)]

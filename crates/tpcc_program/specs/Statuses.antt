@@ -1,9 +1,11 @@
 -- The exit statuses of the program's faults.
 use Rattle.std.specs.Prelude.{ℕ}
-use Rattle.tpcc_script.specs.declared.fault.ScriptFault.{ScriptFault}
-use Rattle.tpcc_script.specs.declared.fault.ScriptFault.TheVariants as script
-use Rattle.tpcc_audit.specs.declared.fault.DumpFault.{DumpFault}
-use Rattle.tpcc_audit.specs.declared.fault.DumpFault.TheVariants as dump
+use Rattle.tpcc_options.specs.declared.fault.WordsFault.{WordsFault}
+use Rattle.tpcc_options.specs.declared.fault.WordsFault.TheVariants as words
+use Rattle.tpcc_parse.specs.declared.fault.ScriptFault.{ScriptFault}
+use Rattle.tpcc_parse.specs.declared.fault.ScriptFault.TheVariants as script
+use Rattle.tpcc_dump.specs.declared.fault.DumpFault.{DumpFault}
+use Rattle.tpcc_dump.specs.declared.fault.DumpFault.TheVariants as dump
 use Rattle.tpcc_run.specs.declared.fault.RunFault.{RunFault}
 use Rattle.tpcc_run.specs.declared.fault.RunFault.TheVariants as run
 use Rattle.tpcc_program.specs.declared.fault.ProgramFault.{ProgramFault}
@@ -30,10 +32,13 @@ status_of_run run.NoMemory = 4
 status_of_run run.Write = 3
 
 -- 1 for arguments and scale
+abbrev pub status_of_words : WordsFault → ℕ
+status_of_words words.Arguments = 1
+status_of_words words.NoMemory = 4
+status_of_words (words.Scale fault) = 1
+
 abbrev pub status_of : ProgramFault → ℕ
-status_of program.Arguments = 1
-status_of program.NoMemory = 4
-status_of (program.Scale fault) = 1
+status_of (program.Words fault) = status_of_words fault
 status_of (program.Script fault) = status_of_script fault
 status_of (program.Dump fault) = status_of_dump fault
 status_of (program.Run fault) = status_of_run fault

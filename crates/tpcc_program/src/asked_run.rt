@@ -1,20 +1,19 @@
 //! A run that the words ask for.
-ghost use Rattle.tpcc_run.specs.Outcome.{IsPlan};
-ghost use Rattle.tpcc_run.specs.Planned.{plan_once};
+ghost use Rattle.tpcc_asked.specs.Plans.{IsPlan};
+ghost use Rattle.tpcc_asked.specs.Plans.{plan_once};
 
 use crate::fault::ProgramFault;
-use crate::progress::{Counting, Progress};
-use crate::timing::Timing;
 use std::alloc::{AllocError, Global};
 use std::io::{self, Eprint};
 use std::sync::Wait;
 use std::thread::Threads;
 use std::time::Clock;
+use tpcc_asked::{Part, Plan};
 use tpcc_population::Opening;
-use tpcc_run::{Plan, run, run_shown};
+use tpcc_progress::{Counting, Progress, Timing};
+use tpcc_run::{run, run_shown};
+use tpcc_screens::Report;
 use tpcc_server::OneTurn;
-use tpcc_show::Part;
-use tpcc_terminal::Report;
 
 /// A run that is asked for: what it runs on, its opening and plan, and the parts of its book that go to standard output,
 /// or none, which is the report alone.

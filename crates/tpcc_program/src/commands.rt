@@ -2,16 +2,18 @@
 ghost use Rattle.std.specs.Prelude.{◌≤◌};
 
 use crate::fault::ProgramFault;
-use crate::reading::{Asked, Asking};
-use crate::timing::Timing;
 use std::alloc::Global;
 use std::io::{self, Eprint};
 use std::time::Clock;
-use tpcc_audit::{DumpFault, dump_to};
+use tpcc_asked::Part;
+use tpcc_dump::{DumpFault, dump_to};
+use tpcc_options::{Asked, Asking};
+use tpcc_parse::ScriptFault;
 use tpcc_population::{Opening, fill};
+use tpcc_progress::Timing;
 use tpcc_rows::Table;
-use tpcc_script::{ScriptFault, run_script, show_script};
-use tpcc_show::{Part, put_requests};
+use tpcc_script::{run_script, show_script};
+use tpcc_show::put_requests;
 
 /// Serves a script's requests, from standard input to standard output; writes their screens, or the
 /// parts that are asked for.

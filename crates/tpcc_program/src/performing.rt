@@ -1,18 +1,17 @@
 //! What the program does: what its words ask, and what is told of a fault.
 ghost use Rattle.std.specs.Prelude.{IfOk};
-ghost use Rattle.tpcc_program.specs.Tasks.{HasPlan};
+ghost use Rattle.tpcc_options.specs.Tasks.{HasPlan};
 
 use crate::asked_run::AskedRun;
 use crate::commands::{dump_table, put_asked, script};
 use crate::fault::ProgramFault;
-use crate::reading::{Asked, Task, read_words};
-use crate::usage::tell_usage;
 use std::alloc::{AllocError, Global};
 use std::env::Env;
 use std::io::Eprint;
 use std::sync::Wait;
 use std::thread::Threads;
 use std::time::Clock;
+use tpcc_options::{Asked, Task, WordsFault, read_words, tell_usage};
 use tpcc_server::OneTurn;
 
 /// Does what the program's words ask, on standard input and output; `watched` is whether somebody sees standard error, who is
@@ -48,26 +47,29 @@ pub fn perform<
 /// Tells on standard error what a person at a terminal sees behind the line of a fault: the range that a scale left, or how the program is
 /// used. What can't be written is passed over.
 pub fn explain<R: Env + AllocGlobal + Eprint>(rt: &R, alloc: Global, fault: ProgramFault) {
+    let ProgramFault::Words(fault) = fault else {
+        return;
+    };
     if let Some(range) = fault.range() {
         let _ = rt.eprintln(range);
     }
-    if let (ProgramFault::Arguments, Ok(words)) = (fault, words(rt, alloc)) {
+    if let (WordsFault::Arguments, Ok(words)) = (fault, words(rt, alloc)) {
         tell_usage(rt, alloc, words.as_slice());
     }
 }
 
-fn read_asked<R: Env + AllocGlobal>(rt: &R, alloc: Global) -> Result<Asked, ProgramFault>
+fn read_asked<R: Env + AllocGlobal>(rt: &R, alloc: Global) -> Result<Asked, WordsFault>
     ensures plan { IfOk result (λ asked. HasPlan asked.task) }
 {
     read_words(alloc, words(rt, alloc)?.as_slice())
 }
 
-fn words<R: Env + AllocGlobal>(rt: &R, alloc: Global) -> Result<Vec<String>, ProgramFault> {
+fn words<R: Env + AllocGlobal>(rt: &R, alloc: Global) -> Result<Vec<String>, WordsFault> {
     let Ok(words) = std::env::args(rt) else {
-        return Err(ProgramFault::NoMemory);
+        return Err(WordsFault::NoMemory);
     };
     match words.collect(alloc) {
         Ok(words) => Ok(words),
-        Err(_) => Err(ProgramFault::NoMemory),
+        Err(_) => Err(WordsFault::NoMemory),
     }
 }

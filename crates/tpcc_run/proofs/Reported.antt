@@ -8,9 +8,9 @@ use Rattle.tpcc_book.specs.Purses.{all_parts}
 use Rattle.tpcc_book.specs.Serve.{rooms_of}
 use Rattle.tpcc_book.specs.Seats.{SeatedView, purses_of}
 use Rattle.tpcc_terminal.specs.declared.receipts.Receipt.{Receipt}
-use Rattle.tpcc_terminal.specs.declared.report.Report.{Report}
+use Rattle.tpcc_screens.specs.declared.report.Report.{Report}
 use Rattle.tpcc_audit.specs.Settlement.{IsSettled}
-use Rattle.tpcc_show.specs.declared.parts.Part.{Part}
+use Rattle.tpcc_asked.specs.declared.parts.Part.{Part}
 use Rattle.tpcc_show.specs.Shown.{book_report}
 use Rattle.tpcc_run.specs.Outcome.{HasCut, HasReported, HasShownPart, HasTotals}
 

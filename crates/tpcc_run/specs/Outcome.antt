@@ -1,4 +1,4 @@
--- What a run is made of, and what it comes to.
+-- What a run comes to.
 use Rattle.std.specs.Prelude.{ℕ, ⊤, ◌≡◌, ◌⊎◌, ◌≤◌, List, [], ◌∷◌, ◌++◌, Option, length}
 use Rattle.std.specs.Io.KnownBytes.{Appends, Keeps}
 use Rattle.tpcc_population.specs.declared.opening.Opening.{Opening}
@@ -7,29 +7,13 @@ use Rattle.tpcc_book.specs.Purses.{PurseView, all_parts}
 use Rattle.tpcc_book.specs.Seats.{SeatedView}
 use Rattle.tpcc_book.specs.Serve.{rooms_of, entries_of, paid_of}
 use Rattle.tpcc_terminal.specs.declared.receipts.Receipt.{Receipt}
-use Rattle.tpcc_terminal.specs.declared.report.Report.{Report}
-use Rattle.tpcc_terminal.specs.Report.{report_text}
-use Rattle.tpcc_audit.specs.Part.{AppendsPart}
-use Rattle.tpcc_show.specs.declared.parts.Part.{Part}
+use Rattle.tpcc_screens.specs.declared.report.Report.{Report}
+use Rattle.tpcc_screens.specs.Report.{report_text}
+use Rattle.tpcc_dump.specs.Part.{AppendsPart}
+use Rattle.tpcc_asked.specs.declared.parts.Part.{Part}
 use Rattle.tpcc_show.specs.Shown.{shown_text}
 use Rattle.tpcc_operator.specs.declared.asking.Back.{Back}
 use Rattle.tpcc_operator.specs.declared.asking.Back.TheVariants.{All, Short, Missing}
-use Rattle.tpcc_run.specs.declared.plan.Plan.{Plan}
-use Rattle.tpcc_run.specs.declared.plan.Service.{Service}
-use Rattle.tpcc_run.specs.declared.plan.Service.TheVariants.{Servers, Direct}
-use Rattle.tpcc_run.specs.declared.plan.TheConstants.{GREATEST_RETIRE, MOST_CARDS, MOST_SERVERS, MOST_TERMINALS}
-
--- the ranges of what serves
-abbrev pub IsService : Service → Type 0
-IsService (Servers count retire) = (1 ≤ count) × (count ≤ MOST_SERVERS) × (retire ≤ GREATEST_RETIRE)
-IsService Direct = ⊤
-
--- the ranges of a plan
-pub record IsPlan (plan : Plan) : Type 0 where
-  pub terminals_least : 1 ≤ plan.terminals
-  pub terminals_most : plan.terminals ≤ MOST_TERMINALS
-  pub service : IsService plan.service
-  pub cards_most : plan.cards ≤ MOST_CARDS
 
 -- a kept book of the opening with its totals, and its purses, which are all there: the entries that they made are the book's, and what
 -- they paid is the rise of W_YTD

@@ -1,9 +1,9 @@
 //! What a run is lent, and what each of its threads is lent of it.
-ghost use Rattle.tpcc_run.specs.Outcome.{IsPlan};
-ghost use Rattle.tpcc_run.specs.Planned.{plan_once};
+ghost use Rattle.tpcc_asked.specs.Plans.{IsPlan};
+ghost use Rattle.tpcc_asked.specs.Plans.{plan_once};
 
-use crate::plan::Plan;
 use std::alloc::Global;
+use tpcc_asked::Plan;
 use tpcc_book::{Naming, Seating, Turns};
 use tpcc_population::Scale;
 

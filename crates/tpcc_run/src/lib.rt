@@ -17,7 +17,6 @@
 mod context;
 mod delivery_runner;
 mod fault;
-mod plan;
 mod promises;
 mod results;
 mod routes;
@@ -28,7 +27,7 @@ mod terminal_threads;
 mod threads;
 
 pub use fault::RunFault;
-pub use plan::{
+pub use runs::{run, run_shown};
+pub use tpcc_asked::{
     GREATEST_RETIRE, GREATEST_TERMINAL, MOST_CARDS, MOST_SERVERS, MOST_TERMINALS, Plan, Service,
 };
-pub use runs::{run, run_shown};

@@ -1,22 +1,22 @@
 //! Runs, from an opening to what is written of the settled book.
 ghost use Rattle.std.specs.Prelude.{◌≡◌, IfOk, OnErr};
 ghost use Rattle.tpcc_population.specs.declared.opening.Opening.{Opening};
-ghost use Rattle.tpcc_run.specs.Outcome.{HasReported, HasShown, HasShownPart, HasTotals, IsPlan};
+ghost use Rattle.tpcc_run.specs.Outcome.{HasReported, HasShown, HasShownPart, HasTotals};
+ghost use Rattle.tpcc_asked.specs.Plans.{IsPlan};
 
 use crate::context::{Lent, RunContext};
 use crate::fault::RunFault;
-use crate::plan::Plan;
 use crate::settled_book::{SettledBook, end_run, show_settled};
 use std::alloc::{AllocError, Global};
 use std::io::Write;
 use std::marker::Brand;
 use std::sync::Wait;
 use std::thread::Threads;
+use tpcc_asked::{Part, Plan};
 use tpcc_book::{Blanks, Naming, Seating, UnnamedTurns};
 use tpcc_population::{Opening, Scale};
+use tpcc_screens::Report;
 use tpcc_server::OneTurn;
-use tpcc_show::Part;
-use tpcc_terminal::Report;
 
 /// Runs terminals, a delivery runner and the plan's servers on the book of an opening, each in a thread of its own;
 /// `make` gives the call of each request. Where the plan has no servers each thread makes its own turns. Once all

@@ -7,11 +7,13 @@ use crate::fault::RunFault;
 use crate::results::ThreadResults;
 use std::alloc::Global;
 use std::io::Write;
-use tpcc_audit::{DumpFault, settle_terminals};
+use tpcc_audit::settle_terminals;
 use tpcc_book::{Book, Naming, SeatedPurse, Seating, Turns};
+use tpcc_dump::DumpFault;
 use tpcc_population::Opening;
+use tpcc_screens::Report;
 use tpcc_show::{Part, show};
-use tpcc_terminal::{Receipt, Report};
+use tpcc_terminal::Receipt;
 
 /// The book of a run at its end, and what it comes to.
 #[derive(Drop)]

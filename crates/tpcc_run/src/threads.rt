@@ -3,11 +3,10 @@ ghost use Rattle.std.specs.Prelude.{◌≡◌, ◌+◌, ◌≤◌, ◌<◌, All,
 ghost use Rattle.tpcc_book.specs.Purses.{most_purses};
 ghost use Rattle.tpcc_mailbox.specs.Tokens.{identity, idle_origin, serving_origin};
 ghost use Rattle.tpcc_audit.specs.Settlement.{AllSeen, all_receipts};
-ghost use Rattle.tpcc_run.specs.Outcome.{IsService};
-ghost use Rattle.tpcc_run.specs.declared.plan.TheConstants.{MOST_SERVERS};
+ghost use Rattle.tpcc_asked.specs.Plans.{IsService};
+ghost use Rattle.tpcc_asked.specs.declared.plan.TheConstants.{MOST_SERVERS};
 
 use crate::context::RunContext;
-use crate::plan::Service;
 use crate::results::ThreadResults;
 use crate::routes::{by_mailboxes, by_turns};
 use crate::server_threads::{Servers, join_servers};
@@ -16,6 +15,7 @@ use std::alloc::{AllocError, Global};
 use std::sync::Wait;
 use std::thread;
 use std::thread::{Scope, Threads};
+use tpcc_asked::Service;
 use tpcc_book::{Naming, SeatedPurse, Seating};
 use tpcc_mailbox::Mailboxes;
 use tpcc_operator::Route;

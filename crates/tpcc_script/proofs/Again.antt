@@ -21,20 +21,20 @@ use Rattle.tpcc_rows.specs.Lists.{first_finding}
 use Rattle.tpcc_population.specs.Opening.{opening_state}
 use Rattle.tpcc_book.specs.Past.{Past}
 use Rattle.tpcc_book.specs.Turn.{turn_refusal}
-use Rattle.tpcc_terminal.specs.Screens.{reply_screen, refused_screen}
+use Rattle.tpcc_screens.specs.Screens.{reply_screen, refused_screen}
 use Rattle.tpcc_show.specs.Shown.{journal_screens}
-use Rattle.tpcc_script.specs.declared.reader.TheConstants.{MOST_LINES}
-use Rattle.tpcc_script.specs.declared.call.Call.{Call}
-use Rattle.tpcc_script.specs.declared.call.Call.TheVariants.{Ask, Check, Results}
-use Rattle.tpcc_script.specs.declared.fault.ScriptFault.{ScriptFault}
-use Rattle.tpcc_script.specs.declared.fault.ScriptFault.TheVariants.{Bad, Cut, LongLine, TooManyLines, Read, Write, NoMemory}
-use Rattle.tpcc_script.specs.Script.{Script}
+use Rattle.tpcc_parse.specs.declared.limits.TheConstants.{MOST_LINES}
+use Rattle.tpcc_parse.specs.declared.call.Call.{Call}
+use Rattle.tpcc_parse.specs.declared.call.Call.TheVariants.{Ask, Check, Results}
+use Rattle.tpcc_parse.specs.declared.fault.ScriptFault.{ScriptFault}
+use Rattle.tpcc_parse.specs.declared.fault.ScriptFault.TheVariants.{Bad, Cut, LongLine, TooManyLines, Read, Write, NoMemory}
+use Rattle.tpcc_parse.specs.Script.{Script}
 use Rattle.tpcc_script.specs.ScriptBook.{ScriptBook, book_with_entry, request_refusal, screen_of, screen_by, screens_of, book_after, book_by, books_after}
 use Rattle.tpcc_script.specs.Run.{Shows, Prints, IsOutOfMemory, IsRun, Wrote}
-use Rattle.tpcc_script.specs.Sayable.{has_words, fits_line, is_sayable, is_amount}
+use Rattle.tpcc_parse.specs.Sayable.{has_words, fits_line, is_sayable, is_amount}
 use Rattle.tpcc_script.specs.Session.{opened_book}
 use Rattle.tpcc_script.specs.Again.{IsWritable, script_again, IsSameAgain, IsShort, IsDone, IsDoneAgain}
-use Rattle.tpcc_script.proofs.RequestLaws.{journal_is_read}
+use Rattle.tpcc_parse.proofs.RequestLaws.{journal_is_read}
 
 -- ---- requests that were accepted can be written
 

@@ -22,8 +22,8 @@ use Rattle.tpcc_terminal.specs.declared.home.Home.{Home}
 use Rattle.tpcc_terminal.specs.declared.drafts.DrawnCustomer.{DrawnCustomer}
 use Rattle.tpcc_terminal.specs.declared.drafts.DrawnCustomer.TheVariants as customers
 use Rattle.tpcc_terminal.specs.Cards.{drawn_draft, drawn_customer, drawn_payment, drawn_status, payer, request_of, who_of}
-use Rattle.tpcc_script.specs.Script.{is_capital, is_last_name}
-use Rattle.tpcc_script.specs.Sayable.{has_letters, is_customer_by_letters}
+use Rattle.tpcc_parse.specs.Script.{is_capital, is_last_name}
+use Rattle.tpcc_parse.specs.Sayable.{has_letters, is_customer_by_letters}
 
 -- ---- last names
 -- one to five letters

@@ -2,15 +2,15 @@
 use Rattle.std.proofs.Common.{◌≡◌, ◌∙◌, sym, refl, ap, ℕ, ◌+◌, List, [], ◌∷◌, ◌++◌, append_assoc, append-nil, Bool, true, false, Option, Some, None, inl, inr}
 use Rattle.std.specs.Prelude.{◌⊎◌, Ok, Err}
 use Rattle.std.specs.Io.KnownBytes.{Appends}
-use Rattle.tpcc_script.specs.declared.call.Call.{Call}
-use Rattle.tpcc_script.specs.declared.fault.ScriptFault.{ScriptFault}
-use Rattle.tpcc_script.specs.declared.fault.ScriptFault.TheVariants.{Bad, Cut, LongLine, TooManyLines, Read, Write, NoMemory}
-use Rattle.tpcc_script.specs.Script.{Script, script_of, with_call, ends, fails}
+use Rattle.tpcc_parse.specs.declared.call.Call.{Call}
+use Rattle.tpcc_parse.specs.declared.fault.ScriptFault.{ScriptFault}
+use Rattle.tpcc_parse.specs.declared.fault.ScriptFault.TheVariants.{Bad, Cut, LongLine, TooManyLines, Read, Write, NoMemory}
+use Rattle.tpcc_parse.specs.Script.{Script, script_of, with_call, ends, fails}
 use Rattle.tpcc_script.specs.ScriptBook.{ScriptBook}
 use Rattle.tpcc_script.specs.Run.{Shows, Prints, Wrote, WroteFirst, WroteButLast, IsRun, HasRun}
 use Rattle.tpcc_script.specs.Steps.{says, IsLineServed, IsLineUnshown, IsEnd, IsStep, IsStillBroken, IsLineBroken}
-use Rattle.tpcc_audit.specs.Part.{PassesBytes}
-use Rattle.tpcc_audit.proofs.Parts.{all_wait, passes-on, passes-all, passes-part, passes-some}
+use Rattle.tpcc_dump.specs.Part.{PassesBytes}
+use Rattle.tpcc_dump.proofs.Parts.{all_wait, passes-on, passes-all, passes-part, passes-some}
 
 abbrev pub with_calls : List Call → Script → Script
 with_calls [] script = script

@@ -4,11 +4,11 @@ use Rattle.std.specs.Result.{result_and}
 use Rattle.std.specs.Prelude.{Result, Ok, Err, IfErr, IfOk, OnErr, OnOk}
 use Rattle.std.specs.Io.KnownBytes.{Appends}
 use Rattle.tpcc_book.specs.Past.{Past}
-use Rattle.tpcc_audit.specs.Part.{AppendsPart}
-use Rattle.tpcc_show.specs.declared.parts.Part.{Part}
+use Rattle.tpcc_dump.specs.Part.{AppendsPart}
+use Rattle.tpcc_asked.specs.declared.parts.Part.{Part}
 use Rattle.tpcc_show.specs.Shown.{served_text}
-use Rattle.tpcc_script.specs.declared.fault.ScriptFault.{ScriptFault}
-use Rattle.tpcc_script.specs.Script.{Script}
+use Rattle.tpcc_parse.specs.declared.fault.ScriptFault.{ScriptFault}
+use Rattle.tpcc_parse.specs.Script.{Script}
 use Rattle.tpcc_script.specs.Run.{IsCounted}
 use Rattle.tpcc_script.specs.ScriptBook.{ScriptBook}
 use Rattle.tpcc_script.specs.Session.{book_of}

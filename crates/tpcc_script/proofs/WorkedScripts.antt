@@ -5,9 +5,9 @@ use Rattle.tpcc_money.specs.Numerals.{number_up_to, amount_of}
 use Rattle.tpcc_population.specs.declared.opening.Opening.TheVariants.{Plain}
 use Rattle.tpcc_laws.proofs.Small.{all_definitions, opening, times}
 use Rattle.tpcc_terminal.proofs.WorkedScreens.{screen_definitions, lines}
-use Rattle.tpcc_script.specs.declared.fault.ScriptFault.{ScriptFault}
-use Rattle.tpcc_script.specs.declared.fault.ScriptFault.TheVariants.{Bad, Cut, LongLine}
-use Rattle.tpcc_script.specs.Script.{script_of, call_of, call_named, later_named, order_of, payment_of, status_of, stock_of, delivery_of, deliver_of}
+use Rattle.tpcc_parse.specs.declared.fault.ScriptFault.{ScriptFault}
+use Rattle.tpcc_parse.specs.declared.fault.ScriptFault.TheVariants.{Bad, Cut, LongLine}
+use Rattle.tpcc_parse.specs.Script.{script_of, call_of, call_named, later_named, order_of, payment_of, status_of, stock_of, delivery_of, deliver_of}
 use Rattle.tpcc_book.specs.Turn.{turn_refusal}
 use Rattle.tpcc_script.specs.ScriptBook.{ScriptBook, screen_of, book_after, screens_of}
 

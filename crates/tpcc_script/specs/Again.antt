@@ -5,17 +5,17 @@ use Rattle.std.specs.List.{list_all}
 use Rattle.tpcc_rows.specs.declared.requests.Request.{Request}
 use Rattle.tpcc_rows.specs.declared.refusals.Refusal.TheVariants as refused
 use Rattle.tpcc_book.specs.Past.{Past, IsKept}
-use Rattle.tpcc_terminal.specs.RequestLines.{journal_lines}
-use Rattle.tpcc_terminal.specs.Screens.{refused_screen}
+use Rattle.tpcc_screens.specs.RequestLines.{journal_lines}
+use Rattle.tpcc_screens.specs.Screens.{refused_screen}
 use Rattle.tpcc_show.specs.Shown.{journal_screens}
-use Rattle.tpcc_script.specs.declared.call.Call.{Call}
-use Rattle.tpcc_script.specs.declared.call.Call.TheVariants.{Ask}
-use Rattle.tpcc_script.specs.declared.fault.ScriptFault.{ScriptFault}
-use Rattle.tpcc_script.specs.declared.fault.ScriptFault.TheVariants.{Bad, Cut, LongLine, TooManyLines, Read, Write, NoMemory}
-use Rattle.tpcc_script.specs.declared.reader.TheConstants.{MOST_LINES}
-use Rattle.tpcc_script.specs.Script.{Script, script_of}
+use Rattle.tpcc_parse.specs.declared.call.Call.{Call}
+use Rattle.tpcc_parse.specs.declared.call.Call.TheVariants.{Ask}
+use Rattle.tpcc_parse.specs.declared.fault.ScriptFault.{ScriptFault}
+use Rattle.tpcc_parse.specs.declared.fault.ScriptFault.TheVariants.{Bad, Cut, LongLine, TooManyLines, Read, Write, NoMemory}
+use Rattle.tpcc_parse.specs.declared.limits.TheConstants.{MOST_LINES}
+use Rattle.tpcc_parse.specs.Script.{Script, script_of}
 use Rattle.tpcc_script.specs.ScriptBook.{ScriptBook, request_refusal, screens_of, books_after}
-use Rattle.tpcc_script.specs.Sayable.{has_words}
+use Rattle.tpcc_parse.specs.Sayable.{has_words}
 use Rattle.tpcc_script.specs.Session.{opened_book}
 
 -- a book whose journal can be written as a script: at most 1,000,000 entries, whose requests have numbers of 32 bits,

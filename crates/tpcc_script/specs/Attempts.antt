@@ -1,8 +1,8 @@
 -- What a call of a script's reader or writer did, and why the two are given up.
 use Rattle.std.specs.Prelude.{◌≡◌, ℕ, ◌<◌, ⊤, Bool, true, List, drop, slice_get, Option, Some}
 use Rattle.std.specs.Io.KnownBytes.{Keeps}
-use Rattle.tpcc_script.specs.declared.fault.ScriptFault.{ScriptFault}
-use Rattle.tpcc_script.specs.declared.fault.ScriptFault.TheVariants.{Bad, Cut, LongLine, TooManyLines, Read, Write, NoMemory}
+use Rattle.tpcc_parse.specs.declared.fault.ScriptFault.{ScriptFault}
+use Rattle.tpcc_parse.specs.declared.fault.ScriptFault.TheVariants.{Bad, Cut, LongLine, TooManyLines, Read, Write, NoMemory}
 use Rattle.tpcc_script.specs.declared.watch.Attempt.{Attempt}
 use Rattle.tpcc_script.specs.declared.watch.Attempt.TheVariants.{Done, Again}
 

@@ -1,10 +1,7 @@
-pub mod Script
-pub mod Sayable
 pub mod ScriptBook
 pub mod Run
 pub mod Steps
 pub mod Attempts
-pub mod Reading
 pub mod Session
 pub mod Shown
 pub mod Again

@@ -2,12 +2,12 @@
 use Rattle.std.specs.Prelude.{◌≡◌, ◌⊎◌, ℕ, ◌≤◌, Bool, true, false, List, [], ◌∷◌, ◌++◌, length, take, Option, Some, None, Result, Ok, Err}
 use Rattle.std.specs.Io.KnownBytes.{Appends}
 use Rattle.tpcc_rows.specs.declared.refusals.Refusal.TheVariants as refused
-use Rattle.tpcc_terminal.specs.Screens.{refused_screen}
-use Rattle.tpcc_script.specs.declared.call.Call.{Call}
-use Rattle.tpcc_script.specs.declared.call.Call.TheVariants.{Ask, Check, Results}
-use Rattle.tpcc_script.specs.declared.fault.ScriptFault.{ScriptFault}
-use Rattle.tpcc_script.specs.declared.fault.ScriptFault.TheVariants.{Bad, Cut, LongLine, TooManyLines, Read, Write, NoMemory}
-use Rattle.tpcc_script.specs.Script.{Script}
+use Rattle.tpcc_screens.specs.Screens.{refused_screen}
+use Rattle.tpcc_parse.specs.declared.call.Call.{Call}
+use Rattle.tpcc_parse.specs.declared.call.Call.TheVariants.{Ask, Check, Results}
+use Rattle.tpcc_parse.specs.declared.fault.ScriptFault.{ScriptFault}
+use Rattle.tpcc_parse.specs.declared.fault.ScriptFault.TheVariants.{Bad, Cut, LongLine, TooManyLines, Read, Write, NoMemory}
+use Rattle.tpcc_parse.specs.Script.{Script}
 use Rattle.tpcc_script.specs.ScriptBook.{ScriptBook, screen_of, book_after, call_refusal}
 
 -- the call's screen, and the book after it

@@ -1,13 +1,13 @@
 -- One line of a run.
 use Rattle.std.specs.Prelude.{◌≡◌, ◌⊎◌, ℕ, ◌+◌, ◌≤◌, List, ◌++◌, Bool, true, false, Option, Some, None, Result, Ok, Err}
 use Rattle.std.specs.Io.KnownBytes.{Appends}
-use Rattle.tpcc_script.specs.declared.call.Call.{Call}
-use Rattle.tpcc_script.specs.declared.fault.ScriptFault.{ScriptFault}
-use Rattle.tpcc_script.specs.declared.fault.ScriptFault.TheVariants.{Bad, Cut, LongLine, TooManyLines, Read, Write, NoMemory}
-use Rattle.tpcc_script.specs.declared.reader.TheConstants.{MOST_LINES}
-use Rattle.tpcc_script.specs.Script.{Script, call_of, lines_say, parts_of, then_says, with_call, ends, fails}
+use Rattle.tpcc_parse.specs.declared.call.Call.{Call}
+use Rattle.tpcc_parse.specs.declared.fault.ScriptFault.{ScriptFault}
+use Rattle.tpcc_parse.specs.declared.fault.ScriptFault.TheVariants.{Bad, Cut, LongLine, TooManyLines, Read, Write, NoMemory}
+use Rattle.tpcc_parse.specs.declared.limits.TheConstants.{MOST_LINES}
+use Rattle.tpcc_parse.specs.Script.{Script, call_of, lines_say, parts_of, then_says, with_call, ends, fails}
 use Rattle.tpcc_script.specs.ScriptBook.{ScriptBook}
-use Rattle.tpcc_audit.specs.Part.{AppendsPart, PassesBytes}
+use Rattle.tpcc_dump.specs.Part.{AppendsPart, PassesBytes}
 use Rattle.tpcc_script.specs.Run.{Shows}
 
 -- what the bytes say, from a line on

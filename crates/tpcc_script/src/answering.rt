@@ -2,11 +2,11 @@
 ghost use Rattle.std.specs.Prelude.{IfOk};
 ghost use Rattle.tpcc_script.specs.Run.{HasServed, Shows};
 
-use crate::call::Call;
 use crate::engine::Engine;
 use std::alloc::Global;
 use tpcc_money::NoMemory;
-use tpcc_terminal::Screen;
+use tpcc_parse::Call;
+use tpcc_screens::Screen;
 
 /// Serves a call and gives its screen; refused only for want of memory, and then the call was served.
 #[tactic(auto, using(crate::proofs::Turns::shows_check, crate::proofs::Turns::shows_results))]

@@ -2,15 +2,15 @@
 ghost use Rattle.std.specs.Prelude.{◌≡◌, IfOk};
 ghost use Rattle.tpcc_rows.specs.Conditions.{first_broken};
 ghost use Rattle.tpcc_rows.specs.Replay.{results_of};
-ghost use Rattle.tpcc_terminal.specs.Screens as screens;
+ghost use Rattle.tpcc_screens.specs.Screens as screens;
 ghost use Rattle.tpcc_script.specs.ScriptBook.{ScriptBook};
 ghost use Rattle.tpcc_script.specs.Run.{HasServed, Shows};
-ghost use Rattle.tpcc_script.specs.declared.call.Call.TheVariants.{Ask};
+ghost use Rattle.tpcc_parse.specs.declared.call.Call.TheVariants.{Ask};
 
 use std::alloc::Global;
 use tpcc_money::NoMemory;
 use tpcc_rows::Request;
-use tpcc_terminal::Screen;
+use tpcc_screens::Screen;
 
 /// Tables with the journal that led to them.
 pub trait Engine {

@@ -1,4 +1,4 @@
-//! The laws of lines that are written from requests, each as the contract of a function with nothing to do.
+//! The laws of a journal that is done again, each as the contract of a function with nothing to do.
 ghost use Rattle.std.specs.Prelude.{◌≡◌, ◌∷◌, ◌≤◌, ℕ, List, [], Option, None, Result, length, map, true};
 ghost use Rattle.std.specs.List.{list_all};
 ghost use Rattle.rand_core.specs.Stream.{Stream};
@@ -10,31 +10,16 @@ ghost use Rattle.tpcc_population.specs.declared.opening.Opening.{Opening};
 ghost use Rattle.tpcc_population.specs.Opening.{opening_rows};
 ghost use Rattle.tpcc_terminal.specs.declared.home.Home.{Home};
 ghost use Rattle.tpcc_terminal.specs.Cards.{drawn_draft, request_of};
-ghost use Rattle.tpcc_terminal.specs.RequestLines.{journal_lines, request_line};
-ghost use Rattle.tpcc_script.specs.declared.call.Call.TheVariants.{Ask};
-ghost use Rattle.tpcc_script.specs.declared.fault.ScriptFault.{ScriptFault};
-ghost use Rattle.tpcc_script.specs.declared.reader.TheConstants.{MOST_LINES};
+ghost use Rattle.tpcc_screens.specs.RequestLines.{journal_lines, request_line};
+ghost use Rattle.tpcc_parse.specs.declared.call.Call.TheVariants.{Ask};
+ghost use Rattle.tpcc_parse.specs.declared.fault.ScriptFault.{ScriptFault};
+ghost use Rattle.tpcc_parse.specs.declared.limits.TheConstants.{MOST_LINES};
 ghost use Rattle.tpcc_script.specs.Again.{IsDoneAgain, IsSameAgain, IsWritable, left_again, screens_again, script_again};
 ghost use Rattle.tpcc_script.specs.ScriptBook.{ScriptBook};
 ghost use Rattle.tpcc_script.specs.Run.{IsRun};
-ghost use Rattle.tpcc_script.specs.Sayable.{has_letters, is_sayable};
-ghost use Rattle.tpcc_script.specs.Script.{is_last_name, script_of};
+ghost use Rattle.tpcc_parse.specs.Sayable.{has_letters, is_sayable};
+ghost use Rattle.tpcc_parse.specs.Script.{is_last_name, script_of};
 ghost use Rattle.tpcc_script.specs.Session.{opened_book};
-
-/// The line of a request is a script that asks just this request; so it has at most 4,096 bytes. The request's numbers, moment and
-/// amount are in the ranges of a script's words, a name is 1 to 16 letters A to Z, and a New-Order has at most 100 lines.
-pub fn request_is_read()
-    ensures { (request : Request) → is_sayable request ≡ true
-        → script_of (request_line request) ≡ record { calls = Ask request ∷ []; fault = None } }
-{}
-
-/// A journal of at most 1,000,000 entries, written as a script, asks the requests of its entries in their order.
-pub fn journal_is_read()
-    ensures { (entries : List Entry) → list_all (λ e. is_sayable e.request) entries ≡ true
-        → length entries ≤ MOST_LINES
-        → script_of (journal_lines entries)
-        ≡ record { calls = map (λ e. Ask e.request) entries; fault = None } }
-{}
 
 /// A kept book's journal, read again as a script at the book's opening, names no fault, and its screens and the book behind
 /// them are those of the stored replies: the same rows and queue, and each entry's request and reply. A book is writable that

@@ -17,27 +17,20 @@
 #![tactic(auto)]
 
 mod answering;
-mod call;
 mod engine;
-mod fault;
 mod laws;
-mod parse;
 mod reader;
 mod script;
 mod session;
 mod showing;
 mod waiting_screens;
 mod watch;
-mod words;
 mod writer;
 
-pub use call::Call;
 pub use engine::Engine;
-pub use fault::ScriptFault;
-pub use laws::{
-    journal_is_done_again, journal_is_read, journal_runs_again, names_are_letters, request_is_read,
-};
-pub use parse::parse_line;
-pub use reader::{LONGEST_LINE, MOST_LINES};
+pub use laws::{journal_is_done_again, journal_runs_again, names_are_letters};
 pub use script::run_script;
 pub use showing::show_script;
+pub use tpcc_parse::{
+    Call, LONGEST_LINE, MOST_LINES, ScriptFault, journal_is_read, parse_line, request_is_read,
+};

@@ -2,18 +2,12 @@
 ghost use Rattle.std.specs.Prelude.{◌≡◌, ◌≢◌, ◌≤◌, ℕ, List, Some, true, IfOk, IfSome, IfErr};
 ghost use Rattle.tpcc_script.specs.Attempts.{HasGivenUp, TakesByte};
 ghost use Rattle.tpcc_script.specs.Steps.{IsRead};
-ghost use Rattle.tpcc_script.specs.declared.reader.TheConstants.{MOST_LINES};
+ghost use Rattle.tpcc_parse.specs.declared.limits.TheConstants.{MOST_LINES};
 
-use crate::fault::ScriptFault;
 use crate::watch::{Attempt, Watch, try_byte};
 use std::alloc::Global;
 use std::io::Read;
-
-/// How many bytes a line has at most, without its line feed.
-pub const LONGEST_LINE: usize = 4_096;
-
-/// How many lines a script has at most.
-pub const MOST_LINES: u32 = 1_000_000;
+use tpcc_parse::{LONGEST_LINE, MOST_LINES, ScriptFault};
 
 /// The next line, whose number is given, without its line feed; none at the end.
 ///

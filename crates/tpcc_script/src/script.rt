@@ -1,18 +1,16 @@
 //! A script from its first line to its end.
 ghost use Rattle.std.specs.Prelude.{◌≡◌, ◌≢◌, ◌≤◌, ◌++◌, ℕ, true, List, Some, IfErr, IfOk, IfSome, OnErr, OnOk};
 ghost use Rattle.std.specs.Io.Buffered.{reader_remaining};
-ghost use Rattle.tpcc_script.specs.declared.reader.TheConstants.{MOST_LINES};
+ghost use Rattle.tpcc_parse.specs.declared.limits.TheConstants.{MOST_LINES};
 ghost use Rattle.tpcc_script.specs.Attempts.{HasGivenUp};
-ghost use Rattle.tpcc_script.specs.Script.{script_of};
+ghost use Rattle.tpcc_parse.specs.Script.{script_of};
 ghost use Rattle.tpcc_script.specs.Run.{HasRun, IsCounted, IsRun};
 ghost use Rattle.tpcc_script.specs.Steps.{IsAnswered, IsStep};
-ghost use Rattle.tpcc_audit.specs.Part.{AppendsPart, PassesBytes};
+ghost use Rattle.tpcc_dump.specs.Part.{AppendsPart, PassesBytes};
 ghost use Rattle.tpcc_script.specs.Session.{opened_book, book_of};
 
 use crate::answering::answer;
 use crate::engine::Engine;
-use crate::fault::ScriptFault;
-use crate::parse::parse_line;
 use crate::reader::read_line;
 use crate::session::Session;
 use crate::waiting_screens::WaitingScreens;
@@ -21,8 +19,9 @@ use std::alloc::Global;
 use std::io::{BufReader, Read, Write};
 use std::marker::Brand;
 use tpcc_book::{Blanks, Naming};
+use tpcc_parse::{ScriptFault, parse_line};
 use tpcc_population::Opening;
-use tpcc_terminal::Screen;
+use tpcc_screens::Screen;
 
 /// Runs a script on a fresh book: each request by a purse of terminal 1, through the book. It is read ahead in blocks,
 /// and its screens are written in blocks: those of all whole lines that were read are written, and the writer is

@@ -9,8 +9,9 @@ use tpcc_book::{Answer, Blanks, Book, Naming, Purse};
 use tpcc_money::NoMemory;
 use tpcc_population::Opening;
 use tpcc_rows::Request;
+use tpcc_screens::Screen;
 use tpcc_show::{check_screen, results_screen};
-use tpcc_terminal::{Screen, screen};
+use tpcc_terminal::screen;
 
 /// A book, with the purse of terminal 1, which makes each of the script's requests.
 #[derive(Drop)]

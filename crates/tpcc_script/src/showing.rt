@@ -1,21 +1,21 @@
 //! A script whose book is shown.
 ghost use Rattle.std.specs.Prelude.{◌≡◌, ◌≢◌, ℕ, List, Some, IfErr, IfOk, OnErr, OnOk};
 ghost use Rattle.std.specs.Io.KnownBytes.{Appends};
-ghost use Rattle.tpcc_audit.specs.Part.{AppendsPart};
+ghost use Rattle.tpcc_dump.specs.Part.{AppendsPart};
 ghost use Rattle.tpcc_show.specs.Shown.{served_text};
-ghost use Rattle.tpcc_script.specs.Script.{script_of};
+ghost use Rattle.tpcc_parse.specs.Script.{script_of};
 ghost use Rattle.tpcc_script.specs.Session.{opened_book, book_of};
 ghost use Rattle.tpcc_script.specs.Shown.{HasShownScript, HasShownScriptPart};
 
-use crate::fault::ScriptFault;
 use crate::script::serve_session;
 use crate::session::Session;
 use crate::watch::Watch;
 use std::alloc::Global;
 use std::io::{Read, Write};
 use std::marker::Brand;
-use tpcc_audit::DumpFault;
 use tpcc_book::{Blanks, Book, Naming};
+use tpcc_dump::DumpFault;
+use tpcc_parse::ScriptFault;
 use tpcc_population::Opening;
 use tpcc_show::{Part, show_served};
 

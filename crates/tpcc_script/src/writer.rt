@@ -3,9 +3,9 @@ ghost use Rattle.std.specs.Prelude.{◌≡◌, IfErr, OnOk, true};
 ghost use Rattle.std.specs.Io.KnownBytes.{Keeps};
 ghost use Rattle.tpcc_script.specs.Attempts.{IsNoWorse};
 
-use crate::fault::ScriptFault;
 use crate::watch::{Attempt, Watch, try_flush};
 use std::io::Write;
+use tpcc_parse::ScriptFault;
 
 /// Flushes the writer. An interrupted call is made again.
 pub fn flush<W: Write>(out: &mut W, watch: &mut Watch) -> Result<(), ScriptFault>

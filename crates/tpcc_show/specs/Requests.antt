@@ -5,7 +5,7 @@ use Rattle.tpcc_rows.specs.Layout.{Scale}
 use Rattle.tpcc_rows.specs.declared.requests.Request.{Request}
 use Rattle.tpcc_terminal.specs.declared.home.Home.{Home}
 use Rattle.tpcc_terminal.specs.Cards.{home_of, request_of}
-use Rattle.tpcc_terminal.specs.RequestLines.{request_line}
+use Rattle.tpcc_screens.specs.RequestLines.{request_line}
 use Rattle.tpcc_terminal.specs.Terminals.{Station, Ahead, ahead_of, drawn_ahead}
 
 -- what the next cards ask at a moment, one after another

@@ -4,22 +4,13 @@ use Rattle.tpcc_rows.specs.Conditions.{first_broken}
 use Rattle.tpcc_rows.specs.Replay.{results_of}
 use Rattle.tpcc_rows.specs.declared.entry.Entry.{Entry}
 use Rattle.tpcc_book.specs.Past.{Past, rise_of}
-use Rattle.tpcc_terminal.specs.Screens.{reply_screen, results_screen, check_screen}
-use Rattle.tpcc_terminal.specs.Report.{report_text}
-use Rattle.tpcc_terminal.specs.RequestLines.{journal_lines}
-use Rattle.tpcc_audit.specs.Columns.{table_name}
-use Rattle.tpcc_audit.specs.Dump.{dump_text}
-use Rattle.tpcc_show.specs.declared.parts.Part.{Part}
-use Rattle.tpcc_show.specs.declared.parts.Part.TheVariants as parts
-
--- the word that asks for a part
-abbrev pub part_name : Part → List ℕ
-part_name parts.Screens = codes "screens"
-part_name parts.Report = codes "report"
-part_name parts.Journal = codes "journal"
-part_name parts.Results = codes "results"
-part_name parts.Check = codes "check"
-part_name (parts.Rows table) = table_name table
+use Rattle.tpcc_screens.specs.Screens.{reply_screen, results_screen, check_screen}
+use Rattle.tpcc_screens.specs.Report.{report_text}
+use Rattle.tpcc_screens.specs.RequestLines.{journal_lines}
+use Rattle.tpcc_asked.specs.Names.{part_name}
+use Rattle.tpcc_dump.specs.Dump.{dump_text}
+use Rattle.tpcc_asked.specs.declared.parts.Part.{Part}
+use Rattle.tpcc_asked.specs.declared.parts.Part.TheVariants as parts
 
 -- the screens of the stored replies, in the journal's order
 abbrev pub journal_screens : List Entry → List ℕ

@@ -7,7 +7,7 @@
 //! `check_screen` and `results_screen` answer the two calls of a script that are no requests, and leave the book as it is.
 //! `put_requests` writes what a terminal asks, a line for each card; it needs no book.
 //!
-//! A writer that is interrupted is called again, as often in a row as `tpcc_audit` says; at a fault a first part of the text is
+//! A writer that is interrupted is called again, as often in a row as `tpcc_dump` says; at a fault a first part of the text is
 //! written.
 //!
 //! Not promised: that the writer is flushed, and that memory is found. A text is made whole before it is put, a journal and a
@@ -15,13 +15,12 @@
 #![tactic(auto)]
 
 mod entries;
-mod parts;
 mod requests;
 mod screens;
 mod showing;
 mod texts;
 
-pub use parts::{Part, ShownParts, part_named};
 pub use requests::put_requests;
 pub use screens::{check_screen, results_screen};
 pub use showing::{show, show_served};
+pub use tpcc_asked::{Part, ShownParts, part_named};

@@ -1,23 +1,24 @@
 //! The requests that a terminal asks, as a script.
 ghost use Rattle.std.specs.Prelude.{◌≤◌, ◌++◌, OnErr, OnOk};
 ghost use Rattle.std.specs.Io.KnownBytes.{Appends};
-ghost use Rattle.tpcc_audit.specs.Part.{AppendsPart, PassesBytes};
+ghost use Rattle.tpcc_dump.specs.Part.{AppendsPart, PassesBytes};
 ghost use Rattle.tpcc_show.specs.Requests.{IsTold, asked_by, asked_next, next_line, request_lines};
 
 use crate::texts::put_screen;
 use std::alloc::Global;
 use std::io::Write;
-use tpcc_audit::{Blocks, DumpFault};
+use tpcc_dump::{Blocks, DumpFault};
 use tpcc_money::Moment;
 use tpcc_population::Scale;
-use tpcc_terminal::{Terminal, request_line};
+use tpcc_screens::request_line;
+use tpcc_terminal::Terminal;
 
 /// Writes the requests of a terminal's first cards, all at one moment, as lines of a script: those that the terminal
 /// of this number asks of a population of this scale and seed, in its order.
 ///
 /// Write where the writer fails or takes nothing, NoMemory where a growth was refused. An interrupted write is made
 /// again, at most 1,000 times in a row.
-#[tactic(auto, using(tpcc_audit::proofs::Parts::none_part))]
+#[tactic(auto, using(tpcc_dump::proofs::Parts::none_part))]
 pub fn put_requests<W: Write>(
     alloc: Global,
     number: u32,

@@ -2,14 +2,14 @@
 ghost use Rattle.std.specs.Prelude.{◌≡◌, IfOk};
 ghost use Rattle.tpcc_rows.specs.Conditions.{first_broken};
 ghost use Rattle.tpcc_rows.specs.Replay.{results_of};
-ghost use Rattle.tpcc_terminal.specs.Screens as screens;
+ghost use Rattle.tpcc_screens.specs.Screens as screens;
 
 use std::alloc::Global;
 use tpcc_conditions::check;
 use tpcc_journal::{Journal, results};
 use tpcc_money::NoMemory;
+use tpcc_screens::{Screen, broken_screen, consistent_screen};
 use tpcc_tables::Tables;
-use tpcc_terminal::{Screen, broken_screen, consistent_screen};
 
 /// The screen of the consistency conditions (3.3.2). Refused only for want of memory.
 pub fn check_screen(alloc: Global, tables: &Tables) -> Result<Screen, NoMemory>
@@ -32,5 +32,5 @@ pub fn results_screen(alloc: Global, journal: &Journal) -> Result<Screen, NoMemo
     ensures shown { IfOk result (λ s. s ≡ screens.results_screen (results_of journal.now.entries)) }
 {
     let log = results(alloc, journal)?;
-    tpcc_terminal::results_screen(alloc, log.as_slice())
+    tpcc_screens::results_screen(alloc, log.as_slice())
 }

@@ -1,4 +1,4 @@
-//! What terminals ask and show: requests from decks of cards, receipts, the screens of answers, and the report of a run.
+//! What terminals ask: requests from decks of cards, with receipts of what was answered, and the screen of an answer.
 //!
 //! # Terminals
 //!
@@ -9,10 +9,7 @@
 //!
 //! # Screens
 //!
-//! `screen` gives the text of an answer, accepted or refused; `reply_screen` and `refusal_screen` give that of either alone.
-//! `consistent_screen`, `broken_screen` and `results_screen` answer a check and a question for the delivery results.
-//! `request_line` gives the line that says a request, which a script reads again. Their texts are those of `specs/Screens.antt`
-//! and `specs/RequestLines.antt`.
+//! `screen` gives the text of an answer, accepted or refused, in the words of `tpcc_screens`.
 //!
 //! # Laws
 //!
@@ -21,31 +18,20 @@
 //! Not promised: that memory is found. Each call refuses for want of it alone, and then a terminal is as it was.
 #![tactic(auto)]
 
-mod answers;
+mod answer_screen;
 mod deal;
-mod delivery;
 mod drafts;
 mod draws;
 mod home;
 mod laws;
-mod new_order;
-mod order_status;
-mod payment;
-mod pieces;
 mod receipts;
-mod refusal;
-mod report;
-mod request_lines;
-mod screens;
-mod stock_level;
 mod terminal;
 
-pub use answers::{
-    broken_screen, consistent_screen, refusal_screen, reply_screen, results_screen, screen,
-};
+pub use answer_screen::screen;
 pub use laws::{receipts_stand, receipts_stay};
 pub use receipts::{Numbered, Receipt};
-pub use report::Report;
-pub use request_lines::request_line;
-pub use screens::Screen;
 pub use terminal::Terminal;
+pub use tpcc_screens::{
+    Report, Screen, broken_screen, consistent_screen, refusal_screen, reply_screen, request_line,
+    results_screen,
+};

@@ -2,7 +2,7 @@
 use std::process::Abort;
 use tpcc_money::{Cents, NoMemory};
 use tpcc_rows::{Field, Refusal, Reply, Status, Text};
-use tpcc_terminal::{Screen, broken_screen, refusal_screen, reply_screen};
+use tpcc_screens::{Screen, broken_screen, refusal_screen, reply_screen};
 
 /// Asserts a screen.
 fn shows<R: Abort>(rt: &R, screen: Result<Screen, NoMemory>, shown: &str) {

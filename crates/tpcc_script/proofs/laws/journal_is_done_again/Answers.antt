@@ -1,5 +1,5 @@
 use Rattle.std.proofs.Common.{ap}
-use Rattle.tpcc_script.specs.Script.{Script}
+use Rattle.tpcc_parse.specs.Script.{Script}
 use Rattle.tpcc_script.proofs.Again.{reads_again, same_again}
 use Rattle.tpcc_script.proofs.laws.journal_is_done_again.Goals as goal
 

@@ -1,4 +1,4 @@
-use Rattle.tpcc_script.specs.Script.{script_of}
+use Rattle.tpcc_parse.specs.Script.{script_of}
 use Rattle.tpcc_script.specs.Session.{opened_book}
 use Rattle.tpcc_script.proofs.Runs.{not_started}
 use Rattle.tpcc_script.proofs.Sessions.{has_run}

@@ -1,6 +1,6 @@
 use Rattle.std.proofs.Common.{◌≡◌, ◌+◌, ◌-◌, ℕ, List, Some}
 use Rattle.std.specs.Io.Buffered.{reader_remaining}
-use Rattle.tpcc_script.specs.declared.reader.TheConstants.{MOST_LINES}
+use Rattle.tpcc_parse.specs.declared.limits.TheConstants.{MOST_LINES}
 use Rattle.tpcc_script.proofs.Runs.{SoFar}
 use Rattle.tpcc_script.proofs.script.serve_lines.Given as goal
 

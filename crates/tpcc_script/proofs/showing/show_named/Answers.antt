@@ -1,10 +1,10 @@
 use Rattle.std.proofs.Common.{subst, refl, inl}
 use Rattle.std.specs.Prelude.{[], Err, IfOk, OnErr}
 use Rattle.tpcc_book.specs.Past.{Past, opening_past}
-use Rattle.tpcc_audit.proofs.Parts.{none_part}
+use Rattle.tpcc_dump.proofs.Parts.{none_part}
 use Rattle.tpcc_show.specs.Shown.{served_text}
-use Rattle.tpcc_script.specs.declared.fault.ScriptFault.TheVariants.{NoMemory}
-use Rattle.tpcc_script.specs.Script.{script_of}
+use Rattle.tpcc_parse.specs.declared.fault.ScriptFault.TheVariants.{NoMemory}
+use Rattle.tpcc_parse.specs.Script.{script_of}
 use Rattle.tpcc_script.specs.Session.{book_of}
 use Rattle.tpcc_script.specs.Shown.{HasShownScript, HasShownScriptPart}
 use Rattle.tpcc_script.proofs.showing.show_named.Goals as goal

@@ -1,7 +1,7 @@
 use Rattle.std.specs.Prelude.{◌≢◌}
-use Rattle.tpcc_script.specs.declared.fault.ScriptFault.{ScriptFault}
-use Rattle.tpcc_script.specs.declared.fault.ScriptFault.TheVariants.{Write}
-use Rattle.tpcc_script.specs.Script.{script_of}
+use Rattle.tpcc_parse.specs.declared.fault.ScriptFault.{ScriptFault}
+use Rattle.tpcc_parse.specs.declared.fault.ScriptFault.TheVariants.{Write}
+use Rattle.tpcc_parse.specs.Script.{script_of}
 use Rattle.tpcc_script.specs.Session.{book_of}
 use Rattle.tpcc_script.proofs.ShownScripts.{has_shown, has_shown_part, has_kept}
 use Rattle.tpcc_script.proofs.showing.show_session.Goals as goal

@@ -1,6 +1,6 @@
 use Rattle.std.proofs.Common.{◌++◌}
-use Rattle.tpcc_audit.specs.Part.{AppendsPart}
-use Rattle.tpcc_audit.proofs.Parts.{at_fault}
+use Rattle.tpcc_dump.specs.Part.{AppendsPart}
+use Rattle.tpcc_dump.proofs.Parts.{at_fault}
 use Rattle.tpcc_show.specs.Requests.{asked_next, request_lines}
 use Rattle.tpcc_show.proofs.Asking.{is_cut}
 use Rattle.tpcc_show.proofs.requests.put_cards.Goals as goal

@@ -1,6 +1,6 @@
 use Rattle.std.proofs.Common.{◌++◌}
-use Rattle.tpcc_audit.specs.Part.{AppendsPart}
-use Rattle.tpcc_audit.proofs.Parts.{at_fault, none_part}
+use Rattle.tpcc_dump.specs.Part.{AppendsPart}
+use Rattle.tpcc_dump.proofs.Parts.{at_fault, none_part}
 use Rattle.tpcc_show.specs.Requests.{next_line}
 use Rattle.tpcc_show.proofs.requests.put_next.Goals as goal
 

@@ -1,5 +1,5 @@
-use Rattle.tpcc_audit.specs.Part.{AppendsPart}
-use Rattle.tpcc_audit.proofs.Parts.{at_fault}
+use Rattle.tpcc_dump.specs.Part.{AppendsPart}
+use Rattle.tpcc_dump.proofs.Parts.{at_fault}
 use Rattle.tpcc_show.specs.Requests.{asked_by, request_lines}
 use Rattle.tpcc_show.proofs.Asking.{first_cards, first_cut, last_cut}
 use Rattle.tpcc_show.proofs.requests.put_requests.Goals as goal

@@ -1,8 +1,9 @@
 use Rattle.std.proofs.Common.{◌++◌}
 use Rattle.std.specs.Prelude.{option_map}
-use Rattle.tpcc_audit.specs.Part.{AppendsPart}
-use Rattle.tpcc_audit.proofs.Parts.{at_fault}
-use Rattle.tpcc_show.specs.Shown.{headed_text, part_name, part_text}
+use Rattle.tpcc_dump.specs.Part.{AppendsPart}
+use Rattle.tpcc_dump.proofs.Parts.{at_fault}
+use Rattle.tpcc_asked.specs.Names.{part_name}
+use Rattle.tpcc_show.specs.Shown.{headed_text, part_text}
 use Rattle.tpcc_show.proofs.Putting.{part_with_heading, headed_cut, heading_cut}
 use Rattle.tpcc_show.proofs.showing.show_headed.Goals as goal
 

@@ -1,0 +1,4 @@
+pub mod Record
+mod Row
+mod ReadBack
+pub mod Parts

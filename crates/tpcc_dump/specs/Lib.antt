@@ -1,0 +1,6 @@
+pub mod Columns
+pub mod Records
+pub mod Fields
+pub mod Dump
+pub mod Output
+pub mod Part

@@ -1,0 +1,178 @@
+//! A table as comma-separated values.
+ghost use Rattle.std.specs.Prelude.{◌≡◌, ◌+◌, ◌-◌, ◌≤◌, ◌^◌, ◌++◌, [], List, ℕ, IfOk, OnErr, OnOk, map};
+ghost use Rattle.std.specs.Io.KnownBytes.{Appends};
+ghost use Rattle.csv.specs.Writing.{default_writer, row_text};
+ghost use Rattle.tpcc_dump.specs.Columns as columns;
+ghost use Rattle.tpcc_dump.specs.Dump.{dump_text, records_from, records_text, rows_of};
+ghost use Rattle.tpcc_dump.specs.Output.{HasTakenText};
+ghost use Rattle.tpcc_dump.specs.Part.{AppendsPart, PassesBytes};
+ghost use Rattle.tpcc_dump.specs.Records.{record_of};
+
+use crate::blocks::Blocks;
+use crate::columns::columns;
+use crate::fault::DumpFault;
+use crate::fields::Fields;
+use crate::output::{finish, put, start};
+use crate::records::put_row;
+use csv::Writer;
+use std::alloc::Global;
+use std::io::Write;
+use tpcc_money::NoMemory;
+use tpcc_rows::Table;
+use tpcc_tables::Tables;
+
+/// How many records are in memory at once, as text.
+const MOST_RECORDS: usize = 256;
+
+/// Writes the names of a table's columns and then its rows in order (1.3), as comma-separated
+/// values, as [`dump_to`] does. Answers the writer, which is let go at a fault.
+pub fn dump<W: Write + Drop>(
+    alloc: Global,
+    tables: &Tables,
+    table: Table,
+    out: W,
+) -> Result<W, DumpFault>
+    ensures written { IfOk result
+        (λ w. Appends (W.contents out) (W.contents w) (dump_text tables.now.rows table)) }
+{
+    let mut out = out;
+    dump_to(alloc, tables, table, &mut out)?;
+    Ok(out)
+}
+
+/// Writes the names of a table's columns and then its rows in order (1.3), as comma-separated
+/// values: each record ends with a line feed, a field is quoted only where it needs it, and a null
+/// is an empty field.
+///
+/// Write where the writer fails or takes nothing, NoMemory where a growth was refused. An interrupted
+/// write is made again, at most 1,000 times in a row.
+#[tactic(auto, using(crate::proofs::Parts::ends_whole, crate::proofs::Parts::ends_part))]
+pub fn dump_to<W: Write>(
+    alloc: Global,
+    tables: &Tables,
+    table: Table,
+    out: &mut W,
+) -> Result<(), DumpFault>
+    ensures written { OnOk result (Appends (W.contents out.old) (W.contents out.new)
+        (dump_text tables.now.rows table)) }
+    ensures part { OnErr result (AppendsPart (W.contents out.old) (W.contents out.new)
+        (dump_text tables.now.rows table)) }
+{
+    let mut blocks = Blocks::new(alloc);
+    put_dump(alloc, tables, table, &mut blocks, out)?;
+    blocks.end(out)?;
+    Ok(())
+}
+
+/// Puts into blocks what [`dump_to`] writes.
+pub fn put_dump<W: Write>(
+    alloc: Global,
+    tables: &Tables,
+    table: Table,
+    blocks: &mut Blocks,
+    out: &mut W,
+) -> Result<(), DumpFault>
+    ensures written { OnOk result (PassesBytes (W.contents out.old) (W.contents out.new)
+        (blocks.old ++ dump_text tables.now.rows table) blocks.new) }
+    ensures part { OnErr result (AppendsPart (W.contents out.old) (W.contents out.new)
+        (blocks.old ++ dump_text tables.now.rows table)) }
+{
+    let mut fields = Fields::new(alloc);
+    put_columns(alloc, &mut fields, table, blocks, out)?;
+    put_rows(alloc, &mut fields, tables, table, blocks, out)
+}
+
+#[tactic(auto, using(crate::proofs::Parts::none_part))]
+fn put_columns<W: Write>(
+    alloc: Global,
+    fields: &mut Fields,
+    table: Table,
+    blocks: &mut Blocks,
+    out: &mut W,
+) -> Result<(), DumpFault>
+    requires { fields.old ≡ [] }
+    ensures written { OnOk result (PassesBytes (W.contents out.old) (W.contents out.new)
+        (blocks.old ++ row_text default_writer (columns.columns table)) blocks.new) }
+    ensures part { OnErr result (AppendsPart (W.contents out.old) (W.contents out.new)
+        (blocks.old ++ row_text default_writer (columns.columns table))) }
+{
+    let bytes = columns_text(alloc, fields, table)?;
+    blocks.put(out, bytes.as_slice())?;
+    Ok(())
+}
+
+fn columns_text(alloc: Global, fields: &mut Fields, table: Table) -> Result<Vec<u8>, NoMemory>
+    requires { fields.old ≡ [] }
+    ensures { IfOk result
+        (λ bytes. bytes.items ≡ row_text default_writer (columns.columns table)) }
+{
+    fields.put_names(columns(table))?;
+    let mut writer = start(alloc);
+    put(&mut writer, fields)?;
+    finish(writer)
+}
+
+// The records of all rows, so many at a time.
+fn put_rows<W: Write>(
+    alloc: Global,
+    fields: &mut Fields,
+    tables: &Tables,
+    table: Table,
+    blocks: &mut Blocks,
+    out: &mut W,
+) -> Result<(), DumpFault>
+    ensures written { OnOk result (PassesBytes (W.contents out.old) (W.contents out.new)
+        (blocks.old ++ records_text (map record_of (rows_of tables.now.rows table))) blocks.new) }
+    ensures part { OnErr result (AppendsPart (W.contents out.old) (W.contents out.new)
+        (blocks.old ++ records_text (map record_of (rows_of tables.now.rows table)))) }
+{
+    let end = tables.count(table);
+    let mut done = 0;
+    'turns: while done < end {
+        let count = MOST_RECORDS.min(end - done);
+        let bytes = rows_text(alloc, fields, tables, table, done, count)?;
+        blocks.put(out, bytes.as_slice())?;
+        done += count;
+    }
+    Ok(())
+}
+
+// The records of so many rows from a place on.
+fn rows_text(
+    alloc: Global,
+    fields: &mut Fields,
+    tables: &Tables,
+    table: Table,
+    from: usize,
+    count: usize,
+) -> Result<Vec<u8>, NoMemory>
+    requires fits { from + count ≤ 2 ^ 64 - 1 }
+    ensures { IfOk result
+        (λ bytes. bytes.items ≡ records_text (records_from tables.now.rows table from count)) }
+{
+    let mut writer = start(alloc);
+    take_rows(&mut writer, fields, tables, table, from, count)?;
+    finish(writer)
+}
+
+fn take_rows(
+    writer: &mut Writer<Vec<u8>>,
+    fields: &mut Fields,
+    tables: &Tables,
+    table: Table,
+    from: usize,
+    count: usize,
+) -> Result<(), NoMemory>
+    requires fits { from + count ≤ 2 ^ 64 - 1 }
+    ensures { OnOk result ((text : List ℕ) → HasTakenText text writer.old
+        → HasTakenText (text ++ records_text (records_from tables.now.rows table from count))
+        writer.new) }
+{
+    for place in 0..count {
+        if let Some(row) = tables.row(table, from + place) {
+            put_row(fields, row)?;
+            put(writer, fields)?;
+        }
+    }
+    Ok(())
+}

@@ -1,0 +1,8 @@
+pub mod Parting
+pub mod PaymentWords
+pub mod Ordering
+pub mod Names
+mod NumeralLaws
+mod PartLaws
+mod WordLaws
+pub mod RequestLaws

@@ -1,5 +1,0 @@
-use Rattle.std.proofs.Common.{rules}
-use Rattle.tpcc_program.proofs.fault.ProgramFault.range.Goals as goal
-
-pub returns-in-Scale-Items : goal.returns-in-Scale-Items
-returns-in-Scale-Items c = search rules

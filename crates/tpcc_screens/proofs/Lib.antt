@@ -1,0 +1,3 @@
+pub mod Chains
+mod Request
+pub mod Districts

@@ -1,0 +1,5 @@
+pub mod Adding
+pub mod Pieces
+pub mod Report
+pub mod RequestLines
+pub mod Screens

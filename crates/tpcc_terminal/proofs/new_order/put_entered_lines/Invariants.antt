@@ -1,8 +1,0 @@
-use Rattle.std.proofs.Common.{take}
-use Rattle.std.specs.Prelude.{flat_map}
-use Rattle.tpcc_terminal.specs.Adding.{Adds}
-use Rattle.tpcc_terminal.specs.Screens.{entered_line}
-use Rattle.tpcc_terminal.proofs.new_order.put_entered_lines.Given as goal
-
-abbrev pub invariant-loop-line : goal.invariant-loop-line
-invariant-loop-line l = Adds l.fn.screen l.screen (flat_map entered_line (take l.line-index l.lines))

@@ -1,0 +1,132 @@
+#!/usr/bin/env python3
+"""Proves, compiles and runs the program, as `programs/build.py script < examples/first_payment.txt`: the words are the program's.
+
+It ends in `rt run`, which alone would prove one crate after another. What a check proved in one checkout serves the others on this machine, so here
+as many scratch copies as there are processors prove one crate each, as soon as those that it stands on are proved, the longest chain first. The
+copies lie beside this checkout, so that their files can be linked, and go at the end. With nothing new to prove it takes a minute; where a crate is
+not proved it says so and ends with status 1.
+"""
+import os
+import shutil
+import subprocess
+import sys
+import tempfile
+import threading
+import time
+
+TOP = os.path.dirname(os.path.dirname(os.path.abspath(__file__)))
+PROGRAM = "tpcc"
+# What a check takes at most, in bytes.
+MEMORY = 3_500_000_000
+
+
+def crates():
+    """The crates of crates.txt, each with those of them that it stands on."""
+    with open(f"{TOP}/crates.txt", encoding="utf-8") as it:
+        lines = [line.partition(":") for line in it if line.strip() and not line.startswith("#")]
+    uses = {head.split()[0]: rest.split() for head, _, rest in lines}
+    return {name: [it for it in below if it in uses] for name, below in uses.items()}
+
+
+def all_below(uses, name):
+    return {name}.union(*[all_below(uses, it) for it in uses[name]])
+
+
+def lines_of(name):
+    found = [f"{at}/{it}" for at, _, files in os.walk(f"{TOP}/crates/{name}") for it in files if it.endswith((".rt", ".antt")) and "/out/" not in f"{at}/"]
+    return sum(open(it, "rb").read().count(b"\n") for it in found)
+
+
+def chains(uses, names):
+    """How many lines the longest chain of crates from each one upwards has."""
+    above = {name: [it for it in names if name in uses[it]] for name in names}
+    known = {}
+
+    def length(name):
+        if name not in known:
+            known[name] = lines_of(name) + max(map(length, above[name]), default=0)
+        return known[name]
+
+    return {name: length(name) for name in names}
+
+
+class Build:
+    """The libraries that are still to be proved, and those that are."""
+
+    def __init__(self, uses, processors):
+        self.uses, self.left = uses, all_below(uses, PROGRAM) - {PROGRAM}
+        self.chain = chains(uses, self.left | {PROGRAM})
+        self.begun, self.done, self.failed, self.free = set(), set(), False, processors
+        self.changed, self.start = threading.Condition(), time.monotonic()
+
+    def ready(self):
+        found = [it for it in self.left - self.begun if self.done.issuperset(self.uses[it])]
+        return sorted(found, key=self.chain.get)
+
+    def is_over(self):
+        return self.failed or self.begun == self.left
+
+    def take(self):
+        """The next crate, and how many processors it gets: those that no other one waits for, and two where all wait for it. None once nothing is left."""
+        with self.changed:
+            self.changed.wait_for(lambda: self.is_over() or (self.free > 0 and self.ready()))
+            if self.is_over():
+                return None
+            *others, name = self.ready()
+            is_first = self.chain[name] == max(self.chain[it] for it in self.left - self.done)
+            jobs = max(1, self.free - len(others), min(2, self.free) if is_first else 1)
+            self.begun.add(name)
+            self.free -= jobs
+            return name, jobs
+
+    def work(self, copy):
+        """Proves crates in a copy, until none is left."""
+        while taken := self.take():
+            name, jobs = taken
+            words = ["rt", "lib", "--jobs", str(jobs)]
+            ran = subprocess.run(words, cwd=f"{copy}/crates/{name}", stdin=subprocess.DEVNULL, stdout=subprocess.PIPE, stderr=subprocess.STDOUT, check=False)
+            with self.changed:
+                self.done.add(name)
+                self.free += jobs
+                self.failed = self.failed or ran.returncode != 0
+                said = f"{name} {'proved' if not ran.returncode else 'NOT PROVED'}, {len(self.done)} of {len(self.left)}"
+                print(f"build: {said}, {time.monotonic() - self.start:.0f} s", file=sys.stderr, flush=True)
+                if ran.returncode:
+                    sys.stderr.write(ran.stdout.decode(errors="replace"))
+                self.changed.notify_all()
+
+
+def processors():
+    """How many processors there are, or as many as memory is for."""
+    with open("/proc/meminfo", encoding="utf-8") as it:
+        free = next(int(line.split()[1]) * 1024 for line in it if line.startswith("MemAvailable"))
+    return max(1, min(len(os.sched_getaffinity(0)), free // MEMORY))
+
+
+def copies(room, number):
+    for copy in (f"{room}/{it}" for it in range(number)):
+        shutil.copytree(f"{TOP}/crates", f"{copy}/crates", ignore=shutil.ignore_patterns("out"))
+        for file in ("crates.txt", "HANDLES"):
+            shutil.copy(f"{TOP}/{file}", copy)
+        yield copy
+
+
+def main():
+    room = tempfile.mkdtemp(prefix="tpcc-build-", dir=os.path.dirname(TOP))
+    try:
+        number = processors()
+        build = Build(crates(), number)
+        lanes = [threading.Thread(target=build.work, args=(copy,)) for copy in copies(room, number)]
+        for lane in lanes:
+            lane.start()
+        for lane in lanes:
+            lane.join()
+        if build.failed:
+            return 1
+        return subprocess.run(["rt", "run", "--jobs", "1", "--", *sys.argv[1:]], cwd=f"{TOP}/crates/{PROGRAM}", check=False).returncode
+    finally:
+        shutil.rmtree(room, ignore_errors=True)
+
+
+if __name__ == "__main__":
+    sys.exit(main())
