@@ -1,4 +1,4 @@
-use Rattle.std.proofs.Common.{◌∙◌, ◌<◌, ap, length, sym, arith, codes}
+use Rattle.std.proofs.Common.{◌∙◌, ◌<◌, ap, length, sym, arith, codes, rules}
 use Rattle.std.proofs.lemmas.Bool.Decides.{nat_tests}
 use Rattle.std.proofs.lemmas.List.{take_rest}
 use Rattle.tpcc_rows.specs.Lists.{has_text}
@@ -17,3 +17,6 @@ returns-then-not-is_of_original t c =
     c.has_original.ensures
     ∙ ap (has_text (codes "ORIGINAL")) (take_rest bytes 8)
     ∙ sym (later bytes c.in-Some.eighth.now long c.in-Some.ensures.lookup.1 (sym c.is_of_original.ensures ∙ c.if-not-is_of_original.true))
+
+pub returns-then-starts_with : goal.returns-then-starts_with
+returns-then-starts_with t c = search (rules, c.starts_with.ensures, c.if-starts_with.true)
