@@ -1,0 +1,7 @@
+use Rattle.std.proofs.Common.{rules}
+use Rattle.tpcc_delivery.specs.Runs.{charge_tests}
+use Rattle.tpcc_delivery.proofs.charge.order_refusal.Goals as goal
+
+pub returns : goal.returns
+unfolding charge_tests
+returns c = search rules
