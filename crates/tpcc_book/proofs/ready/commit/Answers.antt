@@ -7,3 +7,6 @@ pub returns-clause-entries : goal.returns-clause-entries
 returns-clause-entries c =
     let entry : Reply → Entry = λ r. record { terminal = c.args.terminal; number = c.args.number; request = c.args.ready.copy; reply = r } in
     c.append.ensures.appended ∙ ap (λ (r : Reply). c.args.journal.now.entries ++ entry r ∷ []) c.finish-reply.ensures.reply
+
+pub returns-clause-reply : goal.returns-clause-reply
+returns-clause-reply c = c.finish-reply.ensures.reply

@@ -1,6 +1,8 @@
 use Rattle.std.proofs.Common.{rules, ◌+◌, ◌∙◌, ap, refl, sym, subst, arith}
 use Rattle.tpcc_book.specs.Past.{IsKept}
 use Rattle.tpcc_book.specs.Seats.{SeatedView, IsTurned}
+use Rattle.tpcc_book.specs.Serve.{IsServed}
+use Rattle.tpcc_book.specs.TurnSteps.{HasShown}
 use Rattle.tpcc_book.specs.AnswerView.{AnswerView, answer_of}
 use Rattle.tpcc_book.proofs.Keepers.{growing_of, longer_of, turned_within}
 use Rattle.tpcc_book.proofs.turns.Turns.serve_held.Goals as goal
@@ -22,10 +24,19 @@ returns-clause-turned g c =
     subst (λ (t : AnswerView SeatedView). IsTurned c.args.request c.args.purse t) (ap (answer_of turned) (sym c.seated-purse.ensures.seated) ∙ sym c.new.ensures) told
 
 pub seated-purse-requires-clause-idle : goal.seated-purse-requires-clause-idle
-seated-purse-requires-clause-idle g c = search rules
+seated-purse-requires-clause-idle g c =
+    let h = c.held.inside in
+    let served = c.serve_for-turned in
+    let one : IsServed h.book c.args.request c.into_seat-purse.result.0 (answer_of served.result served.new.purse) served.new.self = served.ensures.served in
+    search rules
 
 pub invariant_of-held : goal.invariant_of-held
-invariant_of-held g c = search rules
+invariant_of-held g c =
+    let h = c.held.inside in
+    let served = c.serve_for-turned in
+    let one : IsServed h.book c.args.request c.into_seat-purse.result.0 (answer_of served.result served.new.purse) served.new.self = served.ensures.served in
+    let shown : HasShown c.adopt.new.seat.me served.new.self c.show-book.new.seat.me = c.show-book.ensures.shown in
+    search rules
 
 pub returns-clause-keeper : goal.returns-clause-keeper
 returns-clause-keeper g c = search rules

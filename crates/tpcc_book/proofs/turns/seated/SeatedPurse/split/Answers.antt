@@ -1,4 +1,4 @@
-use Rattle.std.proofs.Common.{◌≡◌, ◌+◌, ◌<◌, [], ◌∙◌, ap, sym, arith}
+use Rattle.std.proofs.Common.{rules, pos, ◌≡◌, ◌+◌, ◌<◌, [], ◌∙◌, ap, sym, arith}
 use Rattle.tpcc_book.specs.Knows.{Knows, Idle}
 use Rattle.tpcc_book.specs.TurnRule.{knows}
 use Rattle.tpcc_book.specs.Seats.{SeatedView, start_of, front_of}
@@ -16,3 +16,8 @@ split_seat-given-requires g c =
       omega (arith, c.turns.invariant.words),
       splits c.turns.inside.table.shared.key c.into_seat-seat.result.id me.0 (ap (λ (v : Knows). v.stage) is) some,
     )
+
+pub returns-clause-new : goal.returns-clause-new
+returns-clause-new g c =
+    let new : c.split.result ≡ record { terminal = c.args.terminal; entries = 0; paid = pos 0; room = 0 } = c.split.ensures.new in
+    search rules
