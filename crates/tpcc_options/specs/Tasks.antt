@@ -1,7 +1,5 @@
 -- What is known of a task.
 use Rattle.std.specs.Prelude.{⊤, ◌≤◌}
-use Rattle.tpcc_rows.specs.declared.row.Table.{Table}
-use Rattle.tpcc_asked.specs.declared.plan.Plan.{Plan}
 use Rattle.tpcc_asked.specs.Plans.{IsPlan}
 use Rattle.tpcc_options.specs.declared.reading.Task.{Task}
 use Rattle.tpcc_options.specs.declared.reading.Task.TheVariants as tasks
