@@ -1,5 +1,5 @@
 #!/usr/bin/env python3
-"""Proves, compiles and runs the program, as `programs/build.py script < examples/first_payment.txt`: the words are the program's.
+"""Proves, compiles and runs a program, as `programs/build.py tpcc script < examples/first_payment.txt`: the words behind its name are its own.
 
 It ends in `rt run`, which alone would prove one crate after another. What a check proved in one checkout serves the others on this machine, so here
 as many scratch copies as there are processors prove one crate each, as soon as those that it stands on are proved, the longest chain first. The
@@ -15,9 +15,10 @@ import threading
 import time
 
 TOP = os.path.dirname(os.path.dirname(os.path.abspath(__file__)))
-PROGRAM = "tpcc"
 # What a check takes at most, in bytes.
 MEMORY = 3_500_000_000
+# Each job of a check reads all that lies below its crate: where that is so many times as long as the crate, one job is enough.
+MOST_BELOW = 15
 
 
 def crates():
@@ -53,9 +54,10 @@ def chains(uses, names):
 class Build:
     """The libraries that are still to be proved, and those that are."""
 
-    def __init__(self, uses, processors):
-        self.uses, self.left = uses, all_below(uses, PROGRAM) - {PROGRAM}
-        self.chain = chains(uses, self.left | {PROGRAM})
+    def __init__(self, uses, program, processors):
+        self.uses, self.left = uses, all_below(uses, program) - {program}
+        self.chain = chains(uses, self.left | {program})
+        self.thin = {it for it in self.left if sum(map(lines_of, all_below(uses, it))) > MOST_BELOW * lines_of(it)}
         self.begun, self.done, self.failed, self.free = set(), set(), False, processors
         self.changed, self.start = threading.Condition(), time.monotonic()
 
@@ -67,14 +69,15 @@ class Build:
         return self.failed or self.begun == self.left
 
     def take(self):
-        """The next crate, and how many processors it gets: those that no other one waits for, and two where all wait for it. None once nothing is left."""
+        """The next crate, and how many processors it gets: one where it is thin; else those that no other one waits for, and two where all wait for it.
+        None once nothing is left."""
         with self.changed:
             self.changed.wait_for(lambda: self.is_over() or (self.free > 0 and self.ready()))
             if self.is_over():
                 return None
             *others, name = self.ready()
             is_first = self.chain[name] == max(self.chain[it] for it in self.left - self.done)
-            jobs = max(1, self.free - len(others), min(2, self.free) if is_first else 1)
+            jobs = 1 if name in self.thin else max(1, self.free - len(others), min(2, self.free) if is_first else 1)
             self.begun.add(name)
             self.free -= jobs
             return name, jobs
@@ -112,10 +115,13 @@ def copies(room, number):
 
 
 def main():
+    program, *words = sys.argv[1:] or [""]
+    if not os.path.isfile(f"{TOP}/crates/{program}/src/main.rt"):
+        sys.exit("usage: programs/build.py PROGRAM [WORD ..], where PROGRAM is tpcc or tpcc_serial")
     room = tempfile.mkdtemp(prefix="tpcc-build-", dir=os.path.dirname(TOP))
     try:
         number = processors()
-        build = Build(crates(), number)
+        build = Build(crates(), program, number)
         lanes = [threading.Thread(target=build.work, args=(copy,)) for copy in copies(room, number)]
         for lane in lanes:
             lane.start()
@@ -123,7 +129,7 @@ def main():
             lane.join()
         if build.failed:
             return 1
-        return subprocess.run(["rt", "run", "--jobs", "1", "--", *sys.argv[1:]], cwd=f"{TOP}/crates/{PROGRAM}", check=False).returncode
+        return subprocess.run(["rt", "run", "--jobs", "1", "--", *words], cwd=f"{TOP}/crates/{program}", check=False).returncode
     finally:
         shutil.rmtree(room, ignore_errors=True)
 

@@ -3,7 +3,8 @@
 # compares standard output and standard error byte for byte, and the exit status. Stops at the first case that differs,
 # and says where its files are; else the last line counts the cases.
 #
-# TPCC is the program (crates/tpcc/out/tpcc). Words after the command's name pick the cases whose names have one of them.
+# TPCC is the program (crates/tpcc/out/tpcc). Words after the command's name pick the cases whose names have one of them. Where tpcc_serial is
+# built too, it serves each script that is for the opening that it has.
 set -u -o pipefail
 top=$(cd "$(dirname "$0")/.." && pwd)
 tpcc=$(realpath "${TPCC:-$top/crates/tpcc/out/tpcc}")
@@ -84,6 +85,8 @@ by() {
 # ---- the cases
 
 begun=$SECONDS
+serial=$top/crates/tpcc_serial/out/tpcc_serial
+[ "${tpcc%.by-rattle}" != "$tpcc" ] && serial=$serial.by-rattle
 for script in "$top"/examples/*.txt "$top"/programs/scripts/*.txt; do
     name=${script%.txt}
     words=script
@@ -93,6 +96,9 @@ for script in "$top"/examples/*.txt "$top"/programs/scripts/*.txt; do
     [ -f "$name.status" ] && status=$(cat "$name.status")
     [ -f "$name.stderr" ] && fault=$(cat "$name.stderr")
     it "${name#"$top/"}" "$words" "@cat $script" "$status" "$fault" "=${name#"$top/"}"
+    if [ -x "$serial" ] && [ "$words" = script ]; then
+        tpcc=$serial it "${name#"$top/"} on one thread" '' "@cat $script" $((status > 0)) "$fault" "=${name#"$top/"}"
+    fi
 done
 . "$top/programs/cases.sh"
 . "$top/programs/shows.sh"

@@ -12,22 +12,13 @@ pub mod OrderParents
 pub mod DeliveryKeys
 pub mod Chosen
 pub mod TurnKeys
-pub mod ReplayKeeps
 pub mod Check
 pub mod PaymentParents
-mod Plain
-pub mod Small
-mod WorkedPayments
-mod WorkedOrders
-mod WorkedLookups
-mod WorkedDeliveries
-mod WrongBodies
 pub mod ChosenRow
 pub mod Numbers
 pub mod PaymentFacts
 pub mod Paid
 pub mod PaymentRanges
-pub mod Middle
 pub mod DeliveryRanges
 pub mod OrderRanges
 pub mod OrderInRange

@@ -1,4 +1,3 @@
-mod Worked
 pub mod Values
 pub mod Digit
 pub mod Total

@@ -1,4 +1,3 @@
-mod WorkedScripts
 pub mod Turns
 pub mod Runs
 pub mod Lines

@@ -1,4 +1,3 @@
 pub mod Decks
 pub mod Drawn
 pub mod Standing
-pub mod WorkedScreens

@@ -18,7 +18,7 @@ use Rattle.tpcc_rows.specs.declared.replies.Reply.TheVariants as tell
 use Rattle.tpcc_rows.specs.Tables.{State, is_customer, is_district, warehouse_at, district_at, customer_at}
 use Rattle.tpcc_rows.specs.Opening.{plain_address, plain_customer}
 use Rattle.tpcc_rows.specs.Turn.{refusal, state_after, reply_to}
-use Rattle.tpcc_laws.proofs.Small.{all_definitions, opening, pays, asks_status, after_all, times}
+use Rattle.tpcc_worked.proofs.Small.{all_definitions, opening, pays, asks_status, after_all, times}
 
 one_dollar_accepted : refusal opening (pays 1 1 1 1 (Number 1) 100 0) ≡ None
 unfolding all_definitions

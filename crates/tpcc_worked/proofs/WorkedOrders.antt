@@ -19,7 +19,7 @@ use Rattle.tpcc_rows.specs.Tables.{Rows, State, is_stock, is_district, warehouse
 use Rattle.tpcc_rows.specs.Conditions.{first_broken}
 use Rattle.tpcc_rows.specs.Opening.{plain_rows}
 use Rattle.tpcc_rows.specs.Turn.{refusal, state_after, reply_to}
-use Rattle.tpcc_laws.proofs.Small.{all_definitions, opening, orders, pays, line, times}
+use Rattle.tpcc_worked.proofs.Small.{all_definitions, opening, orders, pays, line, times}
 
 abbrev five : Request
 five = orders 1 1 1 0 (line 20 1 10 ∷ line 26 1 8 ∷ line 12 1 10 ∷ line 21 1 5 ∷ line 11 1 10 ∷ [])

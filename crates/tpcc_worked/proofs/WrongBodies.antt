@@ -14,7 +14,7 @@ use Rattle.tpcc_rows.specs.Conditions.{IsConsistent, first_broken, keeps_9}
 use Rattle.tpcc_rows.specs.Payment.{after_payment}
 use Rattle.tpcc_rows.specs.NewOrder.{with_next_order, stock_after}
 use Rattle.tpcc_rows.specs.Delivery.{after_delivery}
-use Rattle.tpcc_laws.proofs.Small.{all_definitions, opening}
+use Rattle.tpcc_worked.proofs.Small.{all_definitions, opening}
 
 false_is_true : {A : Type 0} → false ≡ true → A
 false_is_true e = cc

@@ -3,8 +3,8 @@ use Rattle.std.proofs.Common.{◌≡◌, refl, ℕ, List, [], ◌∷◌, ◌++�
 use Rattle.std.specs.Prelude.{Some, None, Option, codes, flat_map, replicate}
 use Rattle.tpcc_money.specs.Numerals.{number_up_to, amount_of}
 use Rattle.tpcc_population.specs.declared.opening.Opening.TheVariants.{Plain}
-use Rattle.tpcc_laws.proofs.Small.{all_definitions, opening, times}
-use Rattle.tpcc_terminal.proofs.WorkedScreens.{screen_definitions, lines}
+use Rattle.tpcc_worked.proofs.Small.{all_definitions, opening, times}
+use Rattle.tpcc_worked.proofs.WorkedScreens.{screen_definitions, lines}
 use Rattle.tpcc_parse.specs.declared.fault.ScriptFault.{ScriptFault}
 use Rattle.tpcc_parse.specs.declared.fault.ScriptFault.TheVariants.{Bad, Cut, LongLine}
 use Rattle.tpcc_parse.specs.Script.{script_of, call_of, call_named, later_named, order_of, payment_of, status_of, stock_of, delivery_of, deliver_of}

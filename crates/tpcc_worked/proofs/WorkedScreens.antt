@@ -8,7 +8,7 @@ use Rattle.tpcc_rows.specs.declared.refusals.Refusal.TheVariants as refused
 use Rattle.tpcc_rows.specs.declared.refusals.Field.TheVariants.{StockOrders, StockYtd}
 use Rattle.tpcc_rows.specs.Conditions.{first_broken}
 use Rattle.tpcc_rows.specs.Turn.{state_after, reply_to}
-use Rattle.tpcc_laws.proofs.Small.{all_definitions, opening, pays, orders, line, asks_status, asks_stock, queues, delivers, after_all, times}
+use Rattle.tpcc_worked.proofs.Small.{all_definitions, opening, pays, orders, line, asks_status, asks_stock, queues, delivers, after_all, times}
 use Rattle.tpcc_screens.specs.Report.{report_text}
 use Rattle.tpcc_screens.specs.Screens.{reply_screen, refused_screen, check_screen, payment_line, place_lines, customer_line, accepted_line, entered_line, rolled_back_line, status_line, order_head, ordered_line, level_screen, queued_screen, delivered_line, district_line}
 

@@ -9,7 +9,7 @@ use Rattle.tpcc_rows.specs.Tables.{Rows}
 use Rattle.tpcc_rows.specs.Opening.{plain_rows}
 use Rattle.tpcc_rows.specs.Lookups.{low_stock, status_reply}
 use Rattle.tpcc_rows.specs.Turn.{refusal, state_after, reply_to}
-use Rattle.tpcc_laws.proofs.Small.{all_definitions, opening, orders, line, asks_status, asks_stock, times}
+use Rattle.tpcc_worked.proofs.Small.{all_definitions, opening, orders, line, asks_status, asks_stock, times}
 
 abbrev delivered_line : ℕ → StatusLine
 delivered_line item = record { supply = 1; item = item; quantity = 5; amount = pos 0; delivered = Some 0 }

@@ -14,7 +14,7 @@ use Rattle.tpcc_rows.specs.Tables.{State, is_customer, is_new_order, customer_at
 use Rattle.tpcc_rows.specs.Conditions.{first_broken}
 use Rattle.tpcc_rows.specs.Replay.{replay, results_of}
 use Rattle.tpcc_rows.specs.Turn.{refusal, state_after, reply_to}
-use Rattle.tpcc_laws.proofs.Small.{all_definitions, opening, queues, delivers, after_all, times}
+use Rattle.tpcc_worked.proofs.Small.{all_definitions, opening, queues, delivers, after_all, times}
 
 abbrev ticket : Ticket
 ticket = record { warehouse = 1; carrier = 3; queued = 60 }

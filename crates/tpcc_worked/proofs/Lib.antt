@@ -1,0 +1,10 @@
+pub mod Small
+mod WorkedAmounts
+mod WorkedOpening
+mod WorkedPayments
+mod WorkedOrders
+mod WorkedLookups
+mod WorkedDeliveries
+mod WrongBodies
+pub mod WorkedScreens
+mod WorkedScripts
