@@ -69,15 +69,16 @@ class Build:
         return self.failed or self.begun == self.left
 
     def take(self):
-        """The next crate, and how many processors it gets: one where it is thin; else those that no other one waits for, and two where all wait for it.
-        None once nothing is left."""
+        """The next crate, and how many processors it gets. Each gets one, but that for which the longest chain waits, where it isn't thin: what is left by as
+        many others as are done as soon as it, two at least. None once nothing is left."""
         with self.changed:
             self.changed.wait_for(lambda: self.is_over() or (self.free > 0 and self.ready()))
             if self.is_over():
                 return None
             *others, name = self.ready()
             is_first = self.chain[name] == max(self.chain[it] for it in self.left - self.done)
-            jobs = 1 if name in self.thin else max(1, self.free - len(others), min(2, self.free) if is_first else 1)
+            beside = min(len(others), -(-sum(map(lines_of, others)) // lines_of(name)))
+            jobs = max(min(2, self.free), self.free - beside) if is_first and name not in self.thin else 1
             self.begun.add(name)
             self.free -= jobs
             return name, jobs

@@ -3,5 +3,3 @@ pub mod Runs
 pub mod Lines
 pub mod Sessions
 pub mod ShownScripts
-pub mod Letters
-pub mod Again

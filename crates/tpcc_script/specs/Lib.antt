@@ -4,4 +4,3 @@ pub mod Steps
 pub mod Attempts
 pub mod Session
 pub mod Shown
-pub mod Again

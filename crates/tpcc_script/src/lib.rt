@@ -10,15 +10,14 @@
 //! `ScriptFault` says why a script ended early. The lines before the fault were served, and their screens are written; where writing
 //! itself fails a first part of them is.
 //!
-//! `request_is_read`, `journal_is_read`, `journal_is_done_again`, `journal_runs_again` and `names_are_letters` are laws, each the
-//! contract of a function with nothing to do: what a book's journal says as a script, and that it leads to the same book.
+//! `request_is_read` and `journal_is_read` are laws, each the contract of a function with nothing to do: what a book's journal says as a
+//! script. That it leads to the same book is in `tpcc_again`.
 //!
 //! Not promised: that memory is found, and that an interrupted call ends well at last; after so many in a row it is given up.
 #![tactic(auto)]
 
 mod answering;
 mod engine;
-mod laws;
 mod reader;
 mod script;
 mod session;
@@ -28,7 +27,6 @@ mod watch;
 mod writer;
 
 pub use engine::Engine;
-pub use laws::{journal_is_done_again, journal_runs_again, names_are_letters};
 pub use script::run_script;
 pub use showing::show_script;
 pub use tpcc_parse::{

@@ -1,5 +1,5 @@
-use Rattle.tpcc_script.proofs.Letters.{drawn_by_letters, opening_by_letters}
-use Rattle.tpcc_script.proofs.laws.names_are_letters.Goals as goal
+use Rattle.tpcc_again.proofs.Letters.{drawn_by_letters, opening_by_letters}
+use Rattle.tpcc_again.proofs.laws.names_are_letters.Goals as goal
 
 pub returns-clause-openings : goal.returns-clause-openings
 returns-clause-openings c = opening_by_letters

@@ -1,7 +1,7 @@
 use Rattle.std.proofs.Common.{ap}
 use Rattle.tpcc_parse.specs.Script.{Script}
-use Rattle.tpcc_script.proofs.Again.{reads_again, same_again}
-use Rattle.tpcc_script.proofs.laws.journal_is_done_again.Goals as goal
+use Rattle.tpcc_again.proofs.Again.{reads_again, same_again}
+use Rattle.tpcc_again.proofs.laws.journal_is_done_again.Goals as goal
 
 pub returns-clause-whole : goal.returns-clause-whole
 returns-clause-whole c = λ book w. ap (λ (s : Script). s.fault) (reads_again book w)

@@ -14,7 +14,7 @@ ghost use Rattle.tpcc_screens.specs.RequestLines.{journal_lines, request_line};
 ghost use Rattle.tpcc_parse.specs.declared.call.Call.TheVariants.{Ask};
 ghost use Rattle.tpcc_parse.specs.declared.fault.ScriptFault.{ScriptFault};
 ghost use Rattle.tpcc_parse.specs.declared.limits.TheConstants.{MOST_LINES};
-ghost use Rattle.tpcc_script.specs.Again.{IsDoneAgain, IsSameAgain, IsWritable, left_again, screens_again, script_again};
+ghost use Rattle.tpcc_again.specs.Again.{IsDoneAgain, IsSameAgain, IsWritable, left_again, screens_again, script_again};
 ghost use Rattle.tpcc_script.specs.ScriptBook.{ScriptBook};
 ghost use Rattle.tpcc_script.specs.Run.{IsRun};
 ghost use Rattle.tpcc_parse.specs.Sayable.{has_letters, is_sayable};
@@ -30,7 +30,7 @@ pub fn journal_is_done_again()
         → IsSameAgain book (screens_again book) (left_again book) }
 {}
 
-/// Whatever [`run_script`](crate::run_script) does with that script: where it ends it has written just these screens and left
+/// Whatever `run_script` does with that script: where it ends it has written just these screens and left
 /// that book, or some request was refused for want of memory; no fault of the text stops it.
 pub fn journal_runs_again()
     ensures { (book : Past) (old new : Option (List ℕ)) (left : ScriptBook)

@@ -33,7 +33,7 @@ use Rattle.tpcc_script.specs.ScriptBook.{ScriptBook, book_with_entry, request_re
 use Rattle.tpcc_script.specs.Run.{Shows, Prints, IsOutOfMemory, IsRun, Wrote}
 use Rattle.tpcc_parse.specs.Sayable.{has_words, fits_line, is_sayable, is_amount}
 use Rattle.tpcc_script.specs.Session.{opened_book}
-use Rattle.tpcc_script.specs.Again.{IsWritable, script_again, IsSameAgain, IsShort, IsDone, IsDoneAgain}
+use Rattle.tpcc_again.specs.Again.{IsWritable, script_again, IsSameAgain, IsShort, IsDone, IsDoneAgain}
 use Rattle.tpcc_parse.proofs.RequestLaws.{journal_is_read}
 
 -- ---- requests that were accepted can be written
