@@ -10,8 +10,7 @@ use tpcc_money::NoMemory;
 use tpcc_population::Opening;
 use tpcc_rows::Request;
 use tpcc_screens::Screen;
-use tpcc_show::{check_screen, results_screen};
-use tpcc_terminal::screen;
+use tpcc_show::{check_screen, results_screen, screen};
 
 /// A book, with the purse of terminal 1, which makes each of the script's requests.
 #[derive(Drop)]

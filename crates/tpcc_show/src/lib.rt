@@ -4,8 +4,8 @@
 //! `show` writes parts in the order in which they are given: one alone as it is, several each under a heading with its word. The
 //! screens that it shows are those of the journal's replies; `show_served` shows screens that were kept as they were written.
 //!
-//! `check_screen` and `results_screen` answer the two calls of a script that are no requests, and leave the book as it is.
-//! `put_requests` writes what a terminal asks, a line for each card; it needs no book.
+//! `screen` gives the text of an answer, accepted or refused, in the words of `tpcc_screens`. `check_screen` and `results_screen` answer the
+//! two calls of a script that are no requests, and leave the book as it is. `put_screen` puts such a text into blocks.
 //!
 //! A writer that is interrupted is called again, as often in a row as `tpcc_dump` says; at a fault a first part of the text is
 //! written.
@@ -14,13 +14,14 @@
 //! table some rows at a time.
 #![tactic(auto)]
 
+mod answer_screen;
 mod entries;
-mod requests;
 mod screens;
 mod showing;
 mod texts;
 
-pub use requests::put_requests;
+pub use answer_screen::screen;
 pub use screens::{check_screen, results_screen};
 pub use showing::{show, show_served};
+pub use texts::put_screen;
 pub use tpcc_asked::{Part, ShownParts, part_named};

@@ -1,4 +1,4 @@
-//! What terminals ask: requests from decks of cards, with receipts of what was answered, and the screen of an answer.
+//! What terminals ask: requests from decks of cards, with receipts of what was answered.
 //!
 //! # Terminals
 //!
@@ -7,10 +7,6 @@
 //! keeps the receipt of an accepted one; `receipts` ends the terminal and gives them all. What a terminal asks depends on its
 //! number, the scale and the seed, and on nothing that it is answered.
 //!
-//! # Screens
-//!
-//! `screen` gives the text of an answer, accepted or refused, in the words of `tpcc_screens`.
-//!
 //! # Laws
 //!
 //! `receipts_stand` and `receipts_stay` do nothing: their contracts say that a receipt is the journal's entry at its place, and stays so.
@@ -18,7 +14,6 @@
 //! Not promised: that memory is found. Each call refuses for want of it alone, and then a terminal is as it was.
 #![tactic(auto)]
 
-mod answer_screen;
 mod deal;
 mod drafts;
 mod draws;
@@ -27,11 +22,6 @@ mod laws;
 mod receipts;
 mod terminal;
 
-pub use answer_screen::screen;
 pub use laws::{receipts_stand, receipts_stay};
 pub use receipts::{Numbered, Receipt};
 pub use terminal::Terminal;
-pub use tpcc_screens::{
-    Report, Screen, broken_screen, consistent_screen, refusal_screen, reply_screen, request_line,
-    results_screen,
-};

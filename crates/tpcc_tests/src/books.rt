@@ -11,7 +11,8 @@ use tpcc_conditions::check;
 use tpcc_journal::results;
 use tpcc_money::{Cents, NoMemory};
 use tpcc_rows::{Refusal, Request};
-use tpcc_terminal::{Receipt, Terminal, screen};
+use tpcc_show::screen;
+use tpcc_terminal::{Receipt, Terminal};
 
 /// What happens at a new book.
 #[derive(Clone, Copy)]

@@ -2,15 +2,15 @@
 ghost use Rattle.std.specs.Prelude.{◌≤◌, ◌++◌, OnErr, OnOk};
 ghost use Rattle.std.specs.Io.KnownBytes.{Appends};
 ghost use Rattle.tpcc_dump.specs.Part.{AppendsPart, PassesBytes};
-ghost use Rattle.tpcc_show.specs.Requests.{IsTold, asked_by, asked_next, next_line, request_lines};
+ghost use Rattle.tpcc_requests.specs.Requests.{IsTold, asked_by, asked_next, next_line, request_lines};
 
-use crate::texts::put_screen;
 use std::alloc::Global;
 use std::io::Write;
 use tpcc_dump::{Blocks, DumpFault};
 use tpcc_money::Moment;
 use tpcc_population::Scale;
 use tpcc_screens::request_line;
+use tpcc_show::put_screen;
 use tpcc_terminal::Terminal;
 
 /// Writes the requests of a terminal's first cards, all at one moment, as lines of a script: those that the terminal

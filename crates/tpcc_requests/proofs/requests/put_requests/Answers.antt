@@ -1,8 +1,8 @@
 use Rattle.tpcc_dump.specs.Part.{AppendsPart}
 use Rattle.tpcc_dump.proofs.Parts.{at_fault}
-use Rattle.tpcc_show.specs.Requests.{asked_by, request_lines}
-use Rattle.tpcc_show.proofs.Asking.{first_cards, first_cut, last_cut}
-use Rattle.tpcc_show.proofs.requests.put_requests.Goals as goal
+use Rattle.tpcc_requests.specs.Requests.{asked_by, request_lines}
+use Rattle.tpcc_requests.proofs.Asking.{first_cards, first_cut, last_cut}
+use Rattle.tpcc_requests.proofs.requests.put_requests.Goals as goal
 
 pub returns-in_err-put_cards-clause-part : goal.returns-in_err-put_cards-clause-part
 returns-in_err-put_cards-clause-part g c =

@@ -9,7 +9,7 @@ use Rattle.tpcc_dump.proofs.Parts.{all_wait, in_turn, cut_first, cut_later, ends
 use Rattle.tpcc_terminal.specs.Cards.{home_of, request_of}
 use Rattle.tpcc_screens.specs.RequestLines.{request_line}
 use Rattle.tpcc_terminal.specs.Terminals.{Station, IsStarted, ahead_of, drawn_ahead}
-use Rattle.tpcc_show.specs.Requests.{IsTold, asked_from, asked_next, asked_by, next_line, request_lines}
+use Rattle.tpcc_requests.specs.Requests.{IsTold, asked_from, asked_next, asked_by, next_line, request_lines}
 
 -- the lines of the cards so far, and what those that are left will ask
 pub record SoFar (start : Station) (moment cards done : ℕ) (held now : Option (List ℕ)) (waited waits : List ℕ) (t : Station) : Type 0 where

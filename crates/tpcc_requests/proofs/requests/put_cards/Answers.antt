@@ -1,9 +1,9 @@
 use Rattle.std.proofs.Common.{◌++◌}
 use Rattle.tpcc_dump.specs.Part.{AppendsPart}
 use Rattle.tpcc_dump.proofs.Parts.{at_fault}
-use Rattle.tpcc_show.specs.Requests.{asked_next, request_lines}
-use Rattle.tpcc_show.proofs.Asking.{is_cut}
-use Rattle.tpcc_show.proofs.requests.put_cards.Goals as goal
+use Rattle.tpcc_requests.specs.Requests.{asked_next, request_lines}
+use Rattle.tpcc_requests.proofs.Asking.{is_cut}
+use Rattle.tpcc_requests.proofs.requests.put_cards.Goals as goal
 
 pub returns-in_err-put_next-clause-part : goal.returns-in_err-put_next-clause-part
 returns-in_err-put_next-clause-part g c =

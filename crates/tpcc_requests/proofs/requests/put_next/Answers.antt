@@ -1,8 +1,8 @@
 use Rattle.std.proofs.Common.{◌++◌}
 use Rattle.tpcc_dump.specs.Part.{AppendsPart}
 use Rattle.tpcc_dump.proofs.Parts.{at_fault, none_part}
-use Rattle.tpcc_show.specs.Requests.{next_line}
-use Rattle.tpcc_show.proofs.requests.put_next.Goals as goal
+use Rattle.tpcc_requests.specs.Requests.{next_line}
+use Rattle.tpcc_requests.proofs.requests.put_next.Goals as goal
 
 pub returns-in_err-request-clause-part : goal.returns-in_err-request-clause-part
 returns-in_err-request-clause-part g c =
