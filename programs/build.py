@@ -17,8 +17,8 @@ import time
 TOP = os.path.dirname(os.path.dirname(os.path.abspath(__file__)))
 # What a check takes at most, in bytes.
 MEMORY = 3_500_000_000
-# Each job of a check reads all that lies below its crate: where that is so many times as long as the crate, one job is enough.
-MOST_BELOW = 15
+# Each job of a check reads all that lies below its crate: where that is over so many times as long as the crate, one job does nearly as well.
+MOST_BELOW = 2
 
 
 def crates():
@@ -57,7 +57,7 @@ class Build:
     def __init__(self, uses, program, processors):
         self.uses, self.left = uses, all_below(uses, program) - {program}
         self.chain = chains(uses, self.left | {program})
-        self.thin = {it for it in self.left if sum(map(lines_of, all_below(uses, it))) > MOST_BELOW * lines_of(it)}
+        self.high = {it for it in self.left if sum(map(lines_of, all_below(uses, it) - {it})) > MOST_BELOW * lines_of(it)}
         self.begun, self.done, self.failed, self.free = set(), set(), False, processors
         self.changed, self.start = threading.Condition(), time.monotonic()
 
@@ -69,8 +69,8 @@ class Build:
         return self.failed or self.begun == self.left
 
     def take(self):
-        """The next crate, and how many processors it gets. Each gets one, but that for which the longest chain waits, where it isn't thin: what is left by as
-        many others as are done as soon as it, two at least. None once nothing is left."""
+        """The next crate, and how many processors it gets: one, or, where the longest chain waits for it and it isn't high, what is left by as many others
+        as are done as soon as it, two at least. None once nothing is left."""
         with self.changed:
             self.changed.wait_for(lambda: self.is_over() or (self.free > 0 and self.ready()))
             if self.is_over():
@@ -78,7 +78,7 @@ class Build:
             *others, name = self.ready()
             is_first = self.chain[name] == max(self.chain[it] for it in self.left - self.done)
             beside = min(len(others), -(-sum(map(lines_of, others)) // lines_of(name)))
-            jobs = max(min(2, self.free), self.free - beside) if is_first and name not in self.thin else 1
+            jobs = max(min(2, self.free), self.free - beside) if is_first and name not in self.high else 1
             self.begun.add(name)
             self.free -= jobs
             return name, jobs
