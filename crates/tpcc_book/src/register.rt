@@ -19,7 +19,6 @@ use tpcc_tables::Tables;
 /// Tables, queue and journal of one opening. Whenever it can be seen, its rows satisfy the
 /// consistency conditions 1 to 10 and 12 (3.3.2) and are the opening's rows followed by the journal
 /// one transaction at a time, and each entry's reply is what its request gave at its place.
-#[derive(Drop)]
 pub struct Register {
     /// The opening whose rows it began with.
     opening: Opening,
@@ -31,6 +30,19 @@ pub struct Register {
     queue: Queue,
     /// The entries, the oldest first.
     journal: Journal,
+}
+
+// By hand, so that who lets a register go proves none of its parts anew.
+impl Drop for Register {
+    fn drop(self) {
+        let Register {
+            opening: _,
+            opening_year_to_date: _,
+            tables: _,
+            queue: _,
+            journal: _,
+        } = self;
+    }
 }
 
 impl Model for Register {

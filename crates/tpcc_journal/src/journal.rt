@@ -27,7 +27,6 @@ pub struct EntryRef<'a> {
 }
 
 /// The accepted requests with their replies, in the order in which they were served.
-#[derive(Drop)]
 pub struct Journal {
     /// The oldest first.
     entries: Vec<KeptEntry>,
@@ -35,6 +34,17 @@ pub struct Journal {
     replies: Replies,
     /// One for each terminal that has entries, so that they need not be counted again.
     tallies: Vec<Tally>,
+}
+
+// By hand, so that who lets a journal go proves none of its parts anew.
+impl Drop for Journal {
+    fn drop(self) {
+        let Journal {
+            entries: _,
+            replies: _,
+            tallies: _,
+        } = self;
+    }
 }
 
 impl Model for Journal {

@@ -13,12 +13,18 @@ use tpcc_screens::Screen;
 use tpcc_show::{check_screen, results_screen, screen};
 
 /// A book, with the purse of terminal 1, which makes each of the script's requests.
-#[derive(Drop)]
 pub(crate) struct Session<N: Naming> {
     /// What its requests are served by.
     book: Book<N>,
     /// The purse of terminal 1; None only while it is served with.
     purse: Option<Purse<N>>,
+}
+
+// By hand, so that who lets a session go proves nothing of how the book goes.
+impl<N: Naming> Drop for Session<N> {
+    fn drop(self) {
+        let Session { book: _, purse: _ } = self;
+    }
 }
 
 impl<N: Naming> Model for Session<N> {
