@@ -166,7 +166,7 @@ compare_terminals() {
 
 # How many entries the serial programs make, where the product's is built.
 compare_serial() {
-    local serial="$BUILT/tpcc_serial/out/tpcc_serial" terminals
+    local serial="$BUILT/tpcc_bench/out/tpcc_bench" terminals
     local scale=(--seeded --warehouses 4 --customers 300 --items 10000)
     [ -x "$serial" ] || return 0
     input=/dev/null

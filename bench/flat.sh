@@ -8,7 +8,7 @@
 set -eu -o pipefail
 serial_too=yes # read by built.sh
 . "$(dirname "$0")/plain/built.sh"
-serial="$BUILT/tpcc_serial/out/tpcc_serial"
+serial="$BUILT/tpcc_bench/out/tpcc_bench"
 cards=${CARDS:-60000}
 runs=${RUNS:-3}
 

@@ -9,7 +9,7 @@
 set -eu -o pipefail
 serial_too=yes # read by built.sh
 . "$(dirname "$0")/plain/built.sh"
-serial="$BUILT/tpcc_serial/out/tpcc_serial"
+serial="$BUILT/tpcc_bench/out/tpcc_bench"
 cards=${CARDS:-5000}
 words="serial --seeded --warehouses 4 --customers 300 --items 10000 --terminals 16 --cards"
 

@@ -29,7 +29,7 @@ rate() {
 serial_rate() {
     local word count
     for _ in $(seq "$runs"); do
-        "$BUILT/tpcc_serial/out/tpcc_serial" "$@" | while read -r word count; do
+        "$BUILT/tpcc_bench/out/tpcc_bench" "$@" | while read -r word count; do
             [ "$word" != at ] || echo "$EPOCHREALTIME $count"
         done | awk 'NR == 1 { t = $1; n = $2 } END { printf "%.0f\n", ($2 - n) / ($1 - t) }'
     done | greatest

@@ -14,7 +14,7 @@ serial_too=yes # read by built.sh
 runs=${RUNS:-3}
 limit=${LIMIT:-300}
 input=/dev/null
-serial="$BUILT/tpcc_serial/out/tpcc_serial"
+serial="$BUILT/tpcc_bench/out/tpcc_bench"
 large="--seeded --warehouses 4 --customers 3000 --items 100000"
 middle="--seeded --warehouses 4 --customers 300 --items 10000"
 

@@ -36,11 +36,11 @@ copy_product() {
 
 # The gate reads each .rt and .antt file of the repository as part of a crate, so these have other endings there.
 build_serial() {
-    echo "tpcc_serial: tpcc_terminal tpcc_book tpcc_population tpcc_rows tpcc_money" >> "$work/product/crates.txt"
-    mkdir -p "$BUILT/tpcc_serial/src" "$BUILT/tpcc_serial/proofs/main"
-    cp "$top/bench/serial/main.rt.in" "$BUILT/tpcc_serial/src/main.rt"
-    cp "$top/bench/serial/Invariants.antt.in" "$BUILT/tpcc_serial/proofs/main/Invariants.antt"
-    build "$BUILT/tpcc_serial" 1 0
+    echo "tpcc_bench: tpcc_terminal tpcc_book tpcc_population tpcc_rows tpcc_money" >> "$work/product/crates.txt"
+    mkdir -p "$BUILT/tpcc_bench/src" "$BUILT/tpcc_bench/proofs/main"
+    cp "$top/bench/serial/main.rt.in" "$BUILT/tpcc_bench/src/main.rt"
+    cp "$top/bench/serial/Invariants.antt.in" "$BUILT/tpcc_bench/proofs/main/Invariants.antt"
+    build "$BUILT/tpcc_bench" 1 0
 }
 
 if [ -z "${BUILT:-}" ]; then
