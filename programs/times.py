@@ -37,10 +37,10 @@ def edit_of(crate, folder):
     """The name of the edit that was made in a copy of the crate, or 'base' of a copy without one."""
     for edit in sorted(glob.glob(f"crates/{crate}/must-fail/*.edit")):
         with open(edit, encoding="utf-8") as it:
-            found = re.search(r"file: (.*)\nold: .*\nnew: ?(.*)", it.read())
+            found = re.search(r"file: (.*)\nold: (.*)\nnew: ?(.*)", it.read())
         try:
-            with open(f"{folder}/{found[1]}", encoding="utf-8") as it:
-                if found[2] and found[2] in it.read():
+            with open(f"crates/{crate}/{found[1]}", encoding="utf-8") as own, open(f"{folder}/{found[1]}", encoding="utf-8") as it:
+                if own.read().replace(found[2], found[3]) == it.read():
                     return os.path.basename(edit)[: -len(".edit")]
         except OSError:
             return "?"
