@@ -88,7 +88,7 @@ def main():
         print(f"{crate} proof {row['proof']:.0f} tests {row['tests']:.0f} edits {row['edits']:.0f} tried {row['tried']:.0f} peak {row['peak']:.0f}")
     for pid in sorted(edits, key=lambda it: -seen[it][2])[:40]:
         print(f"edit {seen[pid][0]}/{edits[pid]} {seen[pid][2] / TICKS:.0f}")
-    tried = [seen[pid][2] / TICKS for pid, name in edits.items() if name != "base"]
+    tried = [seen[pid][2] / TICKS for pid, name in edits.items() if name not in ("base", "?")]
     print(f"edits: {len(tried)} tried, {sum(tried) / max(len(tried), 1):.1f} each on average")
     used = sum(row[kind] for row in rows.values() for kind in ("proof", "tests", "edits"))
     print(f"all: {time.monotonic() - begun:.0f} seconds, {used:.0f} of processors")

@@ -34,7 +34,8 @@ copy_product() {
     git -C "$work/product" init -q
 }
 
-# The gate reads each .rt and .antt file of the repository as part of a crate, so these have other endings there.
+# The gate reads each .rt and .antt file of the repository as part of a crate, so these have other endings there. No crate of the
+# repository may have this one's name.
 build_serial() {
     echo "tpcc_bench: tpcc_terminal tpcc_book tpcc_population tpcc_rows tpcc_money" >> "$work/product/crates.txt"
     mkdir -p "$BUILT/tpcc_bench/src" "$BUILT/tpcc_bench/proofs/main"
