@@ -19,8 +19,8 @@ use Rattle.tpcc_rows.specs.Replay.{replay, count_of, IsServedAfter}
 use Rattle.tpcc_rows.proofs.Booleans.{split, both_true}
 use Rattle.tpcc_rows.specs.Lists.{first_finding}
 use Rattle.tpcc_population.specs.Opening.{opening_state}
-use Rattle.tpcc_book.specs.Past.{Past}
-use Rattle.tpcc_book.specs.Turn.{turn_refusal}
+use Rattle.tpcc_register.specs.Past.{Past}
+use Rattle.tpcc_register.specs.Turn.{turn_refusal}
 use Rattle.tpcc_screens.specs.Screens.{reply_screen, refused_screen}
 use Rattle.tpcc_show.specs.Shown.{journal_screens}
 use Rattle.tpcc_parse.specs.declared.limits.TheConstants.{MOST_LINES}

@@ -4,7 +4,7 @@ use Rattle.std.specs.Io.KnownBytes.{Appends}
 use Rattle.std.specs.List.{list_all}
 use Rattle.tpcc_rows.specs.declared.requests.Request.{Request}
 use Rattle.tpcc_rows.specs.declared.refusals.Refusal.TheVariants as refused
-use Rattle.tpcc_book.specs.Past.{Past, IsKept}
+use Rattle.tpcc_register.specs.Past.{Past, IsKept}
 use Rattle.tpcc_screens.specs.RequestLines.{journal_lines}
 use Rattle.tpcc_screens.specs.Screens.{refused_screen}
 use Rattle.tpcc_show.specs.Shown.{journal_screens}

@@ -5,7 +5,7 @@ ghost use Rattle.rand_core.specs.Stream.{Stream};
 ghost use Rattle.tpcc_draws.specs.declared.cards.Card.{Card};
 ghost use Rattle.tpcc_rows.specs.declared.entry.Entry.{Entry};
 ghost use Rattle.tpcc_rows.specs.declared.requests.Request.{Request};
-ghost use Rattle.tpcc_book.specs.Past.{Past};
+ghost use Rattle.tpcc_register.specs.Past.{Past};
 ghost use Rattle.tpcc_population.specs.declared.opening.Opening.{Opening};
 ghost use Rattle.tpcc_population.specs.Opening.{opening_rows};
 ghost use Rattle.tpcc_terminal.specs.declared.home.Home.{Home};

@@ -1,13 +1,10 @@
 pub mod Closing
 pub mod Gathering
 pub mod Knows
-pub mod Past
 pub mod Purses
-pub mod Ready
 pub mod Seats
 pub mod Serve
 pub mod Shares
 pub mod AnswerView
-pub mod Turn
 pub mod TurnSteps
 pub mod TurnRule

@@ -2,8 +2,8 @@
 ghost use Rattle.std.specs.Prelude.{◌≡◌};
 ghost use Rattle.tpcc_book.specs.AnswerView.{answer_of};
 
-use crate::outcome::Turned;
 use std::marker::Model;
+use tpcc_register::Turned;
 use tpcc_rows::{Refusal, Reply, Request};
 
 /// What a served request gives back. Only this crate makes one, and it has no copy, so whoever

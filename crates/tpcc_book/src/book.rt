@@ -1,16 +1,14 @@
 //! The book: a register with the totals of its purses.
 ghost use Rattle.std.specs.Prelude.{◌≡◌, IfOk, length};
-ghost use Rattle.tpcc_book.specs.Past.{IsKept, opening_past, rise_of};
+ghost use Rattle.tpcc_register.specs.Past.{IsKept, opening_past, rise_of};
 ghost use Rattle.tpcc_book.specs.Purses.{all_parts, first_purse};
-ghost use Rattle.tpcc_book.specs.Turn.{TakesTurn, MakesTurn};
+ghost use Rattle.tpcc_register.specs.Turn.{TakesTurn, MakesTurn};
 ghost use Rattle.tpcc_book.specs.AnswerView.{answer_of};
 ghost use Rattle.tpcc_book.specs.Serve.{IsServed, rooms_of, entries_of, paid_of};
 
 use crate::answer::Answer;
 use crate::naming::{Blanks, Entries, Naming, PaidCents};
-use crate::outcome::Turned;
 use crate::purse::{Pool, Purse};
-use crate::register::Register;
 use std::alloc::Global;
 use std::marker::Model;
 use std::sync::ledger::Book as LedgerBook;
@@ -18,6 +16,7 @@ use tpcc_delivery::Queue;
 use tpcc_journal::Journal;
 use tpcc_money::{Cents, NoMemory};
 use tpcc_population::Opening;
+use tpcc_register::{Register, Turned};
 use tpcc_rows::Request;
 use tpcc_tables::Tables;
 
@@ -45,7 +44,7 @@ impl<N: Naming> Drop for Book<N> {
 
 impl<N: Naming> Model for Book<N> {
     ghost use Rattle.std.specs.Prelude.{◌≡◌, length, pos};
-    ghost use Rattle.tpcc_book.specs.Past.{Past, rise_of};
+    ghost use Rattle.tpcc_register.specs.Past.{Past, rise_of};
 
     ghost Value = { Past };
 

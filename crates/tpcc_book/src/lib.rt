@@ -1,4 +1,4 @@
-//! The book: tables, queue and journal, served one transaction at a time, and the purses that share its totals.
+//! The book: a register of tables, queue and journal, and the purses that share its totals.
 //!
 //! # A book and its purses
 //!
@@ -32,20 +32,13 @@
 
 mod answer;
 mod book;
-mod halves;
 mod naming;
-mod outcome;
 mod purse;
-mod ready;
-mod register;
 mod turns;
-mod year_to_date;
 
 pub use answer::Answer;
 pub use book::Book;
 pub use naming::{Blanks, Entries, Naming, PaidCents};
-pub use outcome::Turned;
 pub use purse::{MOST_PURSES, Purse};
-pub use ready::MOST_ENTRIES;
-pub use register::Register;
+pub use tpcc_register::{MOST_ENTRIES, Register, Turned};
 pub use turns::{HeldTurn, SeatedPurse, Seating, Turns, UnnamedTurns};

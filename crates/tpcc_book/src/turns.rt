@@ -5,7 +5,7 @@
 //! are served in the order of their tickets, one at a time.
 ghost use Rattle.std.specs.Prelude.{◌≡◌};
 ghost use Rattle.tpcc_book.specs.Seats.{IsTurned};
-ghost use Rattle.tpcc_book.specs.Turn.{TakesTurn, MakesTurn};
+ghost use Rattle.tpcc_register.specs.Turn.{TakesTurn, MakesTurn};
 
 mod boxed_book;
 mod gather;
@@ -19,8 +19,6 @@ mod unnamed;
 
 use crate::answer::Answer;
 use crate::naming::Naming;
-use crate::outcome::Turned;
-use crate::register::Register;
 use crate::turns::boxed_book::BoxedBook;
 use crate::turns::knows::Knows;
 use crate::turns::rule::TurnRule;
@@ -32,6 +30,7 @@ use std::alloc::Global;
 use std::marker::{Model, PhantomData};
 use std::sync::Wait;
 use tpcc_population::Opening;
+use tpcc_register::{Register, Turned};
 use tpcc_rows::Request;
 pub use unnamed::UnnamedTurns;
 

@@ -1,4 +1,3 @@
 pub mod Record
 mod Row
 mod ReadBack
-pub mod Parts

@@ -12,9 +12,9 @@ use Rattle.tpcc_rows.specs.declared.row.Table.TheVariants as table
 use Rattle.tpcc_rows.specs.Tables.{Rows}
 use Rattle.tpcc_tables.specs.Positions.{count_of, row_at}
 use Rattle.tpcc_dump.specs.Dump.{rows_of, records_from, records_text}
-use Rattle.tpcc_dump.specs.Part.{AppendsPart, PassesBytes}
+use Rattle.tpcc_blocks.specs.Part.{AppendsPart, PassesBytes}
 use Rattle.tpcc_dump.specs.Records.{record_of}
-use Rattle.tpcc_dump.proofs.Parts.{in_turn, cut_first, cut_later, cut_between}
+use Rattle.tpcc_blocks.proofs.Parts.{in_turn, cut_first, cut_later, cut_between}
 
 -- the row at a place of the list
 pub row_of_place : (rows : Rows) (t : Table) (k : ℕ) → row_at rows t k ≡ slice_get (rows_of rows t) k

@@ -3,4 +3,3 @@ pub mod Records
 pub mod Fields
 pub mod Dump
 pub mod Output
-pub mod Part

@@ -5,10 +5,9 @@ ghost use Rattle.csv.specs.Writing.{default_writer, row_text};
 ghost use Rattle.tpcc_dump.specs.Columns as columns;
 ghost use Rattle.tpcc_dump.specs.Dump.{dump_text, records_from, records_text, rows_of};
 ghost use Rattle.tpcc_dump.specs.Output.{HasTakenText};
-ghost use Rattle.tpcc_dump.specs.Part.{AppendsPart, PassesBytes};
+ghost use Rattle.tpcc_blocks.specs.Part.{AppendsPart, PassesBytes};
 ghost use Rattle.tpcc_dump.specs.Records.{record_of};
 
-use crate::blocks::Blocks;
 use crate::columns::columns;
 use crate::fault::DumpFault;
 use crate::fields::Fields;
@@ -17,6 +16,7 @@ use crate::records::put_row;
 use csv::Writer;
 use std::alloc::Global;
 use std::io::Write;
+use tpcc_blocks::Blocks;
 use tpcc_money::NoMemory;
 use tpcc_rows::Table;
 use tpcc_tables::Tables;
@@ -46,7 +46,7 @@ pub fn dump<W: Write + Drop>(
 ///
 /// Write where the writer fails or takes nothing, NoMemory where a growth was refused. An interrupted
 /// write is made again, at most 1,000 times in a row.
-#[tactic(auto, using(crate::proofs::Parts::ends_whole, crate::proofs::Parts::ends_part))]
+#[tactic(auto, using(tpcc_blocks::proofs::Parts::ends_whole, tpcc_blocks::proofs::Parts::ends_part))]
 pub fn dump_to<W: Write>(
     alloc: Global,
     tables: &Tables,
@@ -82,7 +82,7 @@ pub fn put_dump<W: Write>(
     put_rows(alloc, &mut fields, tables, table, blocks, out)
 }
 
-#[tactic(auto, using(crate::proofs::Parts::none_part))]
+#[tactic(auto, using(tpcc_blocks::proofs::Parts::none_part))]
 fn put_columns<W: Write>(
     alloc: Global,
     fields: &mut Fields,

@@ -1,11 +1,8 @@
 //! Why a dump ends early.
 
 use thiserror::Error;
+use tpcc_blocks::Unwritten;
 use tpcc_money::NoMemory;
-
-/// The writer failed, took nothing, or was interrupted 1,001 times in a row.
-#[derive(Clone, Copy)]
-pub struct Unwritten;
 
 /// Why a dump ended early; a first part of its text is written. The text is the program's line on standard error.
 #[derive(Clone, Copy, Debug, Error)]

@@ -4,8 +4,8 @@ use Rattle.std.specs.Prelude.{Option}
 use Rattle.std.specs.Io.KnownBytes.{Appends}
 use Rattle.tpcc_draws.specs.Draws.{answers}
 use Rattle.tpcc_rows.specs.Layout.{Scale}
-use Rattle.tpcc_dump.specs.Part.{AppendsPart, PassesBytes}
-use Rattle.tpcc_dump.proofs.Parts.{all_wait, in_turn, cut_first, cut_later, ends_whole, ends_part}
+use Rattle.tpcc_blocks.specs.Part.{AppendsPart, PassesBytes}
+use Rattle.tpcc_blocks.proofs.Parts.{all_wait, in_turn, cut_first, cut_later, ends_whole, ends_part}
 use Rattle.tpcc_terminal.specs.Cards.{home_of, request_of}
 use Rattle.tpcc_screens.specs.RequestLines.{request_line}
 use Rattle.tpcc_terminal.specs.Terminals.{Station, IsStarted, ahead_of, drawn_ahead}

@@ -1,12 +1,13 @@
 //! The requests that a terminal asks, as a script.
 ghost use Rattle.std.specs.Prelude.{◌≤◌, ◌++◌, OnErr, OnOk};
 ghost use Rattle.std.specs.Io.KnownBytes.{Appends};
-ghost use Rattle.tpcc_dump.specs.Part.{AppendsPart, PassesBytes};
+ghost use Rattle.tpcc_blocks.specs.Part.{AppendsPart, PassesBytes};
 ghost use Rattle.tpcc_requests.specs.Requests.{IsTold, asked_by, asked_next, next_line, request_lines};
 
 use std::alloc::Global;
 use std::io::Write;
-use tpcc_dump::{Blocks, DumpFault};
+use tpcc_blocks::Blocks;
+use tpcc_dump::DumpFault;
 use tpcc_money::Moment;
 use tpcc_population::Scale;
 use tpcc_screens::request_line;
@@ -18,7 +19,7 @@ use tpcc_terminal::Terminal;
 ///
 /// Write where the writer fails or takes nothing, NoMemory where a growth was refused. An interrupted write is made
 /// again, at most 1,000 times in a row.
-#[tactic(auto, using(tpcc_dump::proofs::Parts::none_part))]
+#[tactic(auto, using(tpcc_blocks::proofs::Parts::none_part))]
 pub fn put_requests<W: Write>(
     alloc: Global,
     number: u32,

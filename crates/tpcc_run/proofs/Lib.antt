@@ -1,3 +1,1 @@
-mod Kept
 pub mod Reported
-mod Worked

@@ -3,7 +3,7 @@ use Rattle.std.proofs.Common.{◌≡◌, refl, ℕ, List, Option, Some, None, in
 use Rattle.std.specs.Prelude.{Result, Ok, Err, OnErr}
 use Rattle.std.specs.Io.KnownBytes.{Appends}
 use Rattle.tpcc_population.specs.declared.opening.Opening.{Opening}
-use Rattle.tpcc_book.specs.Past.{Past}
+use Rattle.tpcc_register.specs.Past.{Past}
 use Rattle.tpcc_book.specs.Purses.{all_parts}
 use Rattle.tpcc_book.specs.Serve.{rooms_of}
 use Rattle.tpcc_book.specs.Seats.{SeatedView, purses_of}

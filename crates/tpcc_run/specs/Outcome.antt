@@ -1,19 +1,15 @@
 -- What a run comes to.
-use Rattle.std.specs.Prelude.{ℕ, ◌≡◌, ◌⊎◌, List, [], ◌∷◌, ◌++◌, Option, length}
+use Rattle.std.specs.Prelude.{ℕ, ◌≡◌, ◌⊎◌, List, Option, length}
 use Rattle.std.specs.Io.KnownBytes.{Appends, Keeps}
 use Rattle.tpcc_population.specs.declared.opening.Opening.{Opening}
-use Rattle.tpcc_book.specs.Past.{Past, IsKept, rise_of}
+use Rattle.tpcc_register.specs.Past.{Past, IsKept, rise_of}
 use Rattle.tpcc_book.specs.Purses.{PurseView, all_parts}
-use Rattle.tpcc_book.specs.Seats.{SeatedView}
 use Rattle.tpcc_book.specs.Serve.{rooms_of, entries_of, paid_of}
-use Rattle.tpcc_terminal.specs.declared.receipts.Receipt.{Receipt}
 use Rattle.tpcc_screens.specs.declared.report.Report.{Report}
 use Rattle.tpcc_screens.specs.Report.{report_text}
-use Rattle.tpcc_dump.specs.Part.{AppendsPart}
+use Rattle.tpcc_blocks.specs.Part.{AppendsPart}
 use Rattle.tpcc_asked.specs.declared.parts.Part.{Part}
 use Rattle.tpcc_show.specs.Shown.{shown_text}
-use Rattle.tpcc_operator.specs.declared.asking.Back.{Back}
-use Rattle.tpcc_operator.specs.declared.asking.Back.TheVariants.{All, Short, Missing}
 
 -- a kept book of the opening with its totals, and its purses, which are all there: the entries that they made are the book's, and what
 -- they paid is the rise of W_YTD
@@ -50,9 +46,3 @@ pub record HasCut (opening : Opening) (parts : List Part) (before after : Option
 
 abbrev pub HasShownPart : Opening → List Part → Option (List ℕ) → Option (List ℕ) → Type 0
 HasShownPart opening parts before after = HasCut opening parts before after ⊎ Keeps before after
-
--- a terminal that has asked all is kept whole: its purse is the last, and its receipts are behind the others
-abbrev pub HasKeptBack : {N T C : Type 0} → Back N T C → List SeatedView → List Receipt → List SeatedView → List Receipt → Type 0
-HasKeptBack (All s) purses receipts new_purses new_receipts = (new_purses ≡ purses ++ s.purse ∷ []) × (new_receipts ≡ receipts ++ s.station.receipts)
-HasKeptBack (Short s) purses receipts new_purses new_receipts = ⊥
-HasKeptBack Missing purses receipts new_purses new_receipts = ⊥

@@ -4,8 +4,7 @@ ghost use Rattle.tpcc_population.specs.declared.opening.Opening.{Opening};
 ghost use Rattle.tpcc_run.specs.Outcome.{HasReported, HasShown, HasShownPart, HasTotals};
 ghost use Rattle.tpcc_asked.specs.Plans.{IsPlan};
 
-use crate::context::{Lent, RunContext};
-use crate::fault::RunFault;
+use crate::lent::Lent;
 use crate::settled_book::{SettledBook, end_run, show_settled};
 use std::alloc::{AllocError, Global};
 use std::io::Write;
@@ -17,6 +16,7 @@ use tpcc_book::{Blanks, Naming, Seating, UnnamedTurns};
 use tpcc_population::{Opening, Scale};
 use tpcc_screens::Report;
 use tpcc_server::OneTurn;
+use tpcc_threads::{RunContext, RunFault};
 
 /// Runs terminals, a delivery runner and the plan's servers on the book of an opening, each in a thread of its own;
 /// `make` gives the call of each request. Where the plan has no servers each thread makes its own turns. Once all

@@ -3,8 +3,6 @@ ghost use Rattle.std.specs.Prelude.{◌≡◌, IfOk, OnErr};
 ghost use Rattle.tpcc_audit.specs.Settlement.{AllSeen, all_receipts};
 ghost use Rattle.tpcc_run.specs.Outcome.{HasCut, HasShown, HasTotals};
 
-use crate::fault::RunFault;
-use crate::results::ThreadResults;
 use std::alloc::Global;
 use std::io::Write;
 use tpcc_audit::settle_terminals;
@@ -14,6 +12,7 @@ use tpcc_population::Opening;
 use tpcc_screens::Report;
 use tpcc_show::{Part, show};
 use tpcc_terminal::Receipt;
+use tpcc_threads::{RunFault, ThreadResults};
 
 /// The book of a run at its end, and what it comes to.
 pub(crate) struct SettledBook<N: Naming> {

@@ -2,4 +2,3 @@ pub mod Turns
 pub mod Runs
 pub mod Lines
 pub mod Sessions
-pub mod ShownScripts

@@ -15,7 +15,7 @@ use Rattle.tpcc_script.specs.Run.{Shows, HasServed}
 use Rattle.tpcc_parse.specs.Script.{parts_of, with_byte, lines_say, rest_says, then_says, call_of, ends, fails}
 use Rattle.tpcc_script.specs.Steps.{says, IsLine, IsRead, IsLineServed, IsAnswered, IsStopped, IsFault}
 use Rattle.std.specs.Io.KnownBytes.{Appends}
-use Rattle.tpcc_dump.specs.Part.{AppendsPart}
+use Rattle.tpcc_blocks.specs.Part.{AppendsPart}
 
 -- bytes put before the first part
 abbrev pub onto_all : List ℕ → List (List ℕ) → List (List ℕ)

@@ -9,8 +9,8 @@ use Rattle.tpcc_parse.specs.Script.{Script, script_of, with_call, ends, fails}
 use Rattle.tpcc_script.specs.ScriptBook.{ScriptBook}
 use Rattle.tpcc_script.specs.Run.{Shows, Prints, Wrote, WroteFirst, WroteButLast, IsRun, HasRun}
 use Rattle.tpcc_script.specs.Steps.{says, IsLineServed, IsLineUnshown, IsEnd, IsStep, IsStillBroken, IsLineBroken}
-use Rattle.tpcc_dump.specs.Part.{PassesBytes}
-use Rattle.tpcc_dump.proofs.Parts.{all_wait, passes-on, passes-all, passes-part, passes-some}
+use Rattle.tpcc_blocks.specs.Part.{PassesBytes}
+use Rattle.tpcc_blocks.proofs.Parts.{all_wait, passes-on, passes-all, passes-part, passes-some}
 
 abbrev pub with_calls : List Call → Script → Script
 with_calls [] script = script

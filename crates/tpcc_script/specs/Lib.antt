@@ -3,4 +3,3 @@ pub mod Run
 pub mod Steps
 pub mod Attempts
 pub mod Session
-pub mod Shown

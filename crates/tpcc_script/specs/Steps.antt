@@ -7,7 +7,7 @@ use Rattle.tpcc_parse.specs.declared.fault.ScriptFault.TheVariants.{Bad, Cut, Lo
 use Rattle.tpcc_parse.specs.declared.limits.TheConstants.{MOST_LINES}
 use Rattle.tpcc_parse.specs.Script.{Script, call_of, lines_say, parts_of, then_says, with_call, ends, fails}
 use Rattle.tpcc_script.specs.ScriptBook.{ScriptBook}
-use Rattle.tpcc_dump.specs.Part.{AppendsPart, PassesBytes}
+use Rattle.tpcc_blocks.specs.Part.{AppendsPart, PassesBytes}
 use Rattle.tpcc_script.specs.Run.{Shows}
 
 -- what the bytes say, from a line on

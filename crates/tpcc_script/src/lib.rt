@@ -1,7 +1,7 @@
 //! Scripts: lines of requests and calls, and the screens that answer them.
 //!
-//! `run_script` reads a script from a reader, serves each line on a fresh book and writes its screen. `show_script` does the same,
-//! keeps the screens, and writes parts of the book that is left. `parse_line` reads one line alone, and gives the `Call` that it says.
+//! `run_script` reads a script from a reader, serves each line on a fresh book and writes its screen. A `Session` does the same and has the
+//! book that is left; `show_script` of `tpcc_show_script` writes parts of it. `parse_line` reads one line alone, and gives the `Call` that it says.
 //! A script may have `MOST_LINES` lines, of at most `LONGEST_LINE` bytes.
 //!
 //! The script is read ahead in blocks, and its screens go out in blocks: all that wait are written, and the writer is flushed,
@@ -21,14 +21,13 @@ mod engine;
 mod reader;
 mod script;
 mod session;
-mod showing;
 mod waiting_screens;
 mod watch;
 mod writer;
 
 pub use engine::Engine;
 pub use script::run_script;
-pub use showing::show_script;
+pub use session::Session;
 pub use tpcc_parse::{
     Call, LONGEST_LINE, MOST_LINES, ScriptFault, journal_is_read, parse_line, request_is_read,
 };

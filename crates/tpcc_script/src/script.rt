@@ -6,7 +6,7 @@ ghost use Rattle.tpcc_script.specs.Attempts.{HasGivenUp};
 ghost use Rattle.tpcc_parse.specs.Script.{script_of};
 ghost use Rattle.tpcc_script.specs.Run.{HasRun, IsCounted, IsRun};
 ghost use Rattle.tpcc_script.specs.Steps.{IsAnswered, IsStep};
-ghost use Rattle.tpcc_dump.specs.Part.{AppendsPart, PassesBytes};
+ghost use Rattle.tpcc_blocks.specs.Part.{AppendsPart, PassesBytes};
 ghost use Rattle.tpcc_script.specs.Session.{opened_book, book_of};
 
 use crate::answering::answer;
@@ -67,8 +67,26 @@ fn run_named<N: Naming, R: Read, W: Write>(
     }
 }
 
-/// Reads a script and serves its lines on a session; answers how many entries it then has.
-pub(crate) fn serve_session<N: Naming, R: Read, W: Write>(
+impl<N: Naming> Session<N> {
+    /// Runs a script as [`run_script`] does, on the session's book, and answers how many entries that then has. Where the writer is a `Vec`,
+    /// Write says that memory for its screens was refused.
+    pub fn run<R: Read, W: Write>(
+        &mut self,
+        alloc: Global,
+        input: &mut R,
+        out: &mut W,
+    ) -> Result<usize, ScriptFault>
+        ensures counted { (bytes : List ℕ) → R.remaining input.old ≡ Some bytes
+            → IsCounted (book_of self.old) (script_of bytes)
+            (W.contents out.old) (W.contents out.new) (book_of self.new) result }
+    {
+        let mut watch = Watch::new();
+        serve_session(alloc, self, input, out, &mut watch)
+    }
+}
+
+// Reads a script and serves its lines on a session; answers how many entries it then has.
+fn serve_session<N: Naming, R: Read, W: Write>(
     alloc: Global,
     session: &mut Session<N>,
     input: &mut R,

@@ -1,19 +1,19 @@
 //! A book that serves the requests of one script.
 ghost use Rattle.std.specs.Prelude.{◌≡◌, IfOk, length};
-ghost use Rattle.tpcc_book.specs.Past.{opening_past};
+ghost use Rattle.tpcc_register.specs.Past.{opening_past};
 
 use crate::engine::Engine;
 use std::alloc::Global;
 use std::marker::Model;
 use tpcc_book::{Answer, Blanks, Book, Naming, Purse};
+use tpcc_book_screens::{check_screen, results_screen, screen};
 use tpcc_money::NoMemory;
 use tpcc_population::Opening;
 use tpcc_rows::Request;
 use tpcc_screens::Screen;
-use tpcc_show::{check_screen, results_screen, screen};
 
 /// A book, with the purse of terminal 1, which makes each of the script's requests.
-pub(crate) struct Session<N: Naming> {
+pub struct Session<N: Naming> {
     /// What its requests are served by.
     book: Book<N>,
     /// The purse of terminal 1; None only while it is served with.
@@ -28,7 +28,7 @@ impl<N: Naming> Drop for Session<N> {
 }
 
 impl<N: Naming> Model for Session<N> {
-    ghost use Rattle.tpcc_book.specs.Past.{Past};
+    ghost use Rattle.tpcc_register.specs.Past.{Past};
     ghost use Rattle.tpcc_script.specs.Session.{IsAtHand};
 
     ghost Value = { Past };
@@ -40,11 +40,7 @@ impl<N: Naming> Model for Session<N> {
 
 impl<N: Naming> Session<N> {
     /// The session of an opening. Refused only for want of memory.
-    pub(crate) fn start(
-        alloc: Global,
-        opening: &Opening,
-        blanks: Blanks,
-    ) -> Result<Session<N>, NoMemory>
+    pub fn start(alloc: Global, opening: &Opening, blanks: Blanks) -> Result<Session<N>, NoMemory>
         requires entries { blanks.entries.name ≡ N.entries }
         requires cents { blanks.cents.name ≡ N.cents }
         ensures started { IfOk result (λ s. s ≡ opening_past opening.now) }
@@ -59,7 +55,7 @@ impl<N: Naming> Session<N> {
     }
 
     /// The book that the requests left.
-    pub(crate) fn book(&self) -> &Book<N>
+    pub fn book(&self) -> &Book<N>
         ensures book { result.now ≡ self.now }
     {
         &self.book

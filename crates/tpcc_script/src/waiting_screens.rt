@@ -1,7 +1,7 @@
 //! Screens that wait to be written.
 ghost use Rattle.std.specs.Prelude.{◌≡◌, [], ◌++◌, IfErr, OnErr, OnOk, true};
 ghost use Rattle.std.specs.Io.KnownBytes.{Appends};
-ghost use Rattle.tpcc_dump.specs.Part.{AppendsPart, PassesBytes};
+ghost use Rattle.tpcc_blocks.specs.Part.{AppendsPart, PassesBytes};
 ghost use Rattle.tpcc_script.specs.Attempts.{IsNoWorse};
 
 use crate::watch::{Watch, put_bytes, write_blocks};
@@ -9,7 +9,7 @@ use crate::writer::flush;
 use std::alloc::Global;
 use std::io::Write;
 use std::marker::Model;
-use tpcc_dump::Blocks;
+use tpcc_blocks::Blocks;
 use tpcc_parse::ScriptFault;
 
 /// Screens that were made and not yet written, so that they go out in blocks.

@@ -1,13 +1,13 @@
 //! Calls of a reader and a writer that are made again where they were interrupted, and whether one of the two failed.
 ghost use Rattle.std.specs.Prelude.{◌≡◌, ◌<◌, ◌++◌, [], ℕ, List, Some, slice_get, drop, true, false, IfOk, IfErr, OnErr, OnOk};
 ghost use Rattle.std.specs.Io.KnownBytes.{Appends, Keeps};
-ghost use Rattle.tpcc_dump.specs.Part.{AppendsPart, PassesBytes};
-ghost use Rattle.tpcc_dump.specs.declared.writing.TheConstants.{MOST_RETRIES};
+ghost use Rattle.tpcc_blocks.specs.Part.{AppendsPart, PassesBytes};
+ghost use Rattle.tpcc_blocks.specs.declared.writing.TheConstants.{MOST_RETRIES};
 ghost use Rattle.tpcc_script.specs.Attempts.{HasFlushed, HasRead, IsNoWorse};
 
 use std::io::{Error, ErrorKind, Read, Write};
 use std::marker::Model;
-use tpcc_dump::{Blocks, MOST_RETRIES};
+use tpcc_blocks::{Blocks, MOST_RETRIES};
 use tpcc_parse::ScriptFault;
 
 /// What became of the calls of a script's reader and writer. That one of the two failed is noted by the calls of this

@@ -1,6 +1,6 @@
 //! Jobs, and the answers that fit them.
 ghost use Rattle.std.specs.Prelude.{◌≡◌};
-ghost use Rattle.tpcc_book.specs.Turn.{IsTurn, TakesTurn, MakesTurn};
+ghost use Rattle.tpcc_register.specs.Turn.{IsTurn, TakesTurn, MakesTurn};
 ghost use Rattle.tpcc_book.specs.Seats.{IsTurned};
 
 use crate::errand::Errand;

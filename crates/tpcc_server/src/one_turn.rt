@@ -1,5 +1,5 @@
 //! Calls that make one turn of a register.
-ghost use Rattle.tpcc_book.specs.Turn.{IsTurn, TakesTurn, MakesTurn};
+ghost use Rattle.tpcc_register.specs.Turn.{IsTurn, TakesTurn, MakesTurn};
 
 use tpcc_book::{Register, Turned};
 use tpcc_rows::Request;

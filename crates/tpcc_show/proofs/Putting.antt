@@ -5,8 +5,8 @@ use Rattle.std.proofs.Math.Seq.{take-suc}
 use Rattle.std.proofs.lemmas.List.{take-append-drop}
 use Rattle.std.proofs.lemmas.List.Concat.{flat_map-append}
 use Rattle.std.proofs.lemmas.Option.{slice_get_within, slice_get_read, get_or_from_slice_get}
-use Rattle.tpcc_dump.specs.Part.{AppendsPart, PassesBytes}
-use Rattle.tpcc_dump.proofs.Parts.{in_turn, cut_first, cut_later, both, both_cut}
+use Rattle.tpcc_blocks.specs.Part.{AppendsPart, PassesBytes}
+use Rattle.tpcc_blocks.proofs.Parts.{in_turn, cut_first, cut_later, both, both_cut}
 
 one_more : {X : Type 0} (xs : List X) (k : ℕ) (x : X) → slice_get xs k ≡ Some x → take (k + 1) xs ≡ take k xs ++ x ∷ []
 one_more xs k x e =

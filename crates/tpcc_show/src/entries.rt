@@ -1,6 +1,6 @@
 //! The journal's entries, one after another.
 ghost use Rattle.std.specs.Prelude.{◌≡◌, ◌++◌, IfOk, OnErr, OnOk, flat_map};
-ghost use Rattle.tpcc_dump.specs.Part.{AppendsPart, PassesBytes};
+ghost use Rattle.tpcc_blocks.specs.Part.{AppendsPart, PassesBytes};
 ghost use Rattle.tpcc_journal.specs.Kept.{entry_of};
 ghost use Rattle.tpcc_screens.specs.RequestLines as lines;
 ghost use Rattle.tpcc_screens.specs.Screens as screens;
@@ -8,7 +8,8 @@ ghost use Rattle.tpcc_screens.specs.Screens as screens;
 use crate::texts::put_screen;
 use std::alloc::Global;
 use std::io::Write;
-use tpcc_dump::{Blocks, DumpFault};
+use tpcc_blocks::Blocks;
+use tpcc_dump::DumpFault;
 use tpcc_journal::{EntryRef, Journal};
 use tpcc_money::NoMemory;
 use tpcc_screens::{Screen, reply_screen, request_line};

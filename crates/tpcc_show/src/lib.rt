@@ -4,24 +4,19 @@
 //! `show` writes parts in the order in which they are given: one alone as it is, several each under a heading with its word. The
 //! screens that it shows are those of the journal's replies; `show_served` shows screens that were kept as they were written.
 //!
-//! `screen` gives the text of an answer, accepted or refused, in the words of `tpcc_screens`. `check_screen` and `results_screen` answer the
-//! two calls of a script that are no requests, and leave the book as it is. `put_screen` puts such a text into blocks.
+//! `put_screen` puts a screen, or another such text, into blocks.
 //!
-//! A writer that is interrupted is called again, as often in a row as `tpcc_dump` says; at a fault a first part of the text is
+//! A writer that is interrupted is called again, as often in a row as `tpcc_blocks` says; at a fault a first part of the text is
 //! written.
 //!
 //! Not promised: that the writer is flushed, and that memory is found. A text is made whole before it is put, a journal and a
 //! table some rows at a time.
 #![tactic(auto)]
 
-mod answer_screen;
 mod entries;
-mod screens;
 mod showing;
 mod texts;
 
-pub use answer_screen::screen;
-pub use screens::{check_screen, results_screen};
 pub use showing::{show, show_served};
 pub use texts::put_screen;
 pub use tpcc_asked::{Part, ShownParts, part_named};

@@ -1,17 +1,18 @@
 //! Parts of a book, written one after another.
 ghost use Rattle.std.specs.Prelude.{◌≡◌, ◌++◌, OnErr, OnOk, Some, flat_map, option_map};
 ghost use Rattle.std.specs.Io.KnownBytes.{Appends};
-ghost use Rattle.tpcc_dump.specs.Part.{AppendsPart, PassesBytes};
+ghost use Rattle.tpcc_blocks.specs.Part.{AppendsPart, PassesBytes};
 ghost use Rattle.tpcc_show.specs.Shown.{book_report, headed_text, heading, named_line, part_text, parts_text, screens_shown, served_text, shown_text};
 
 use crate::entries::{ReplyScreens, RequestLines, put_each};
-use crate::screens::{check_screen, results_screen};
 use crate::texts::{put_bytes, put_screen};
 use std::alloc::Global;
 use std::io::Write;
 use tpcc_asked::Part;
+use tpcc_blocks::Blocks;
 use tpcc_book::{Book, Naming};
-use tpcc_dump::{Blocks, DumpFault, put_dump};
+use tpcc_book_screens::{check_screen, results_screen};
+use tpcc_dump::{DumpFault, put_dump};
 use tpcc_screens::Report;
 
 /// Writes parts of a book, in their order: one part alone as it is, several each under a line `== PART`.
@@ -19,7 +20,7 @@ use tpcc_screens::Report;
 ///
 /// Write where the writer fails or takes nothing, NoMemory where a growth was refused. An interrupted write is made
 /// again, at most 1,000 times in a row.
-#[tactic(auto, using(tpcc_dump::proofs::Parts::ends_whole, tpcc_dump::proofs::Parts::ends_part))]
+#[tactic(auto, using(tpcc_blocks::proofs::Parts::ends_whole, tpcc_blocks::proofs::Parts::ends_part))]
 pub fn show<N: Naming, W: Write>(
     alloc: Global,
     book: &Book<N>,
@@ -38,7 +39,7 @@ pub fn show<N: Naming, W: Write>(
 }
 
 /// Writes parts of a book whose screens were kept as they were shown. Else as [`show`].
-#[tactic(auto, using(tpcc_dump::proofs::Parts::ends_whole, tpcc_dump::proofs::Parts::ends_part))]
+#[tactic(auto, using(tpcc_blocks::proofs::Parts::ends_whole, tpcc_blocks::proofs::Parts::ends_part))]
 pub fn show_served<N: Naming, W: Write>(
     alloc: Global,
     book: &Book<N>,
@@ -181,7 +182,7 @@ fn put_shown<N: Naming, W: Write>(
     }
 }
 
-#[tactic(auto, using(tpcc_dump::proofs::Parts::none_part))]
+#[tactic(auto, using(tpcc_blocks::proofs::Parts::none_part))]
 fn put_report<N: Naming, W: Write>(
     alloc: Global,
     blocks: &mut Blocks,

@@ -1,9 +1,10 @@
 //! Texts, put into blocks.
 ghost use Rattle.std.specs.Prelude.{◌≡◌, ◌++◌, ℕ, List, IfOk, OnErr, OnOk};
-ghost use Rattle.tpcc_dump.specs.Part.{AppendsPart, PassesBytes};
+ghost use Rattle.tpcc_blocks.specs.Part.{AppendsPart, PassesBytes};
 
 use std::io::Write;
-use tpcc_dump::{Blocks, DumpFault};
+use tpcc_blocks::Blocks;
+use tpcc_dump::DumpFault;
 use tpcc_money::NoMemory;
 use tpcc_screens::Screen;
 
@@ -21,7 +22,7 @@ pub fn put_bytes<W: Write>(blocks: &mut Blocks, out: &mut W, bytes: &[u8]) -> Re
 }
 
 /// Puts a screen whose text is known; where memory for it was refused, nothing.
-#[tactic(auto, using(tpcc_dump::proofs::Parts::none_part))]
+#[tactic(auto, using(tpcc_blocks::proofs::Parts::none_part))]
 pub fn put_screen<W: Write>(
     blocks: &mut Blocks,
     out: &mut W,

@@ -10,10 +10,10 @@ use Rattle.tpcc_rows.specs.declared.requests.Request.{Request}
 use Rattle.tpcc_rows.specs.declared.replies.Reply.{Reply}
 use Rattle.tpcc_rows.specs.declared.refusals.Refusal.{Refusal}
 use Rattle.tpcc_rows.specs.Replay.{paid_by_request}
-use Rattle.tpcc_book.specs.Past.{Past}
+use Rattle.tpcc_register.specs.Past.{Past}
 use Rattle.tpcc_book.specs.Purses.{PurseView}
 use Rattle.tpcc_book.specs.AnswerView.{AnswerView}
-use Rattle.tpcc_book.specs.Turn.{Accepts, Refuses, entry_of}
+use Rattle.tpcc_register.specs.Turn.{Accepts, Refuses, entry_of}
 use Rattle.tpcc_book.specs.Serve.{IsServed, purse_after}
 use Rattle.tpcc_book.specs.Seats.{SeatedView, IsTurned, by_purse}
 use Rattle.tpcc_terminal.specs.declared.receipts.Receipt.{Receipt}

@@ -3,7 +3,7 @@ ghost use Rattle.std.specs.Prelude.{◌≡◌, ◌++◌, List};
 ghost use mathlib.Core.List.{IsPrefix};
 ghost use Rattle.tpcc_rows.specs.declared.entry.Entry.{Entry};
 ghost use Rattle.tpcc_rows.specs.declared.requests.Request.{Request};
-ghost use Rattle.tpcc_book.specs.Past.{Past};
+ghost use Rattle.tpcc_register.specs.Past.{Past};
 ghost use Rattle.tpcc_book.specs.Purses.{PurseView};
 ghost use Rattle.tpcc_book.specs.Serve.{IsServed};
 ghost use Rattle.tpcc_book.specs.Seats.{SeatedView, IsTurned};

@@ -7,11 +7,11 @@ use std::alloc::{AllocGlobal, Global};
 use std::marker::Brand;
 use std::process::Abort;
 use tpcc_book::{Answer, Blanks, Book, Naming, Purse};
+use tpcc_book_screens::screen;
 use tpcc_conditions::check;
 use tpcc_journal::results;
 use tpcc_money::{Cents, NoMemory};
 use tpcc_rows::{Refusal, Request};
-use tpcc_show::screen;
 use tpcc_terminal::{Receipt, Terminal};
 
 /// What happens at a new book.

@@ -8,7 +8,7 @@ use Rattle.tpcc_worked.proofs.WorkedScreens.{screen_definitions, lines}
 use Rattle.tpcc_parse.specs.declared.fault.ScriptFault.{ScriptFault}
 use Rattle.tpcc_parse.specs.declared.fault.ScriptFault.TheVariants.{Bad, Cut, LongLine}
 use Rattle.tpcc_parse.specs.Script.{script_of, call_of, call_named, later_named, order_of, payment_of, status_of, stock_of, delivery_of, deliver_of}
-use Rattle.tpcc_book.specs.Turn.{turn_refusal}
+use Rattle.tpcc_register.specs.Turn.{turn_refusal}
 use Rattle.tpcc_script.specs.ScriptBook.{ScriptBook, screen_of, book_after, screens_of}
 
 unfoldable pub run : Unit {0}

@@ -1,19 +1,18 @@
 //! A book behind a pointer.
 ghost use Rattle.std.specs.Prelude.{◌≡◌, IfOk};
-ghost use Rattle.tpcc_book.specs.Past.{IsKept};
-ghost use Rattle.tpcc_book.specs.Turn.{TakesTurn, MakesTurn};
+ghost use Rattle.tpcc_register.specs.Past.{IsKept};
+ghost use Rattle.tpcc_register.specs.Turn.{TakesTurn, MakesTurn};
 ghost use Rattle.tpcc_book.specs.AnswerView.{answer_of};
 ghost use Rattle.tpcc_book.specs.Serve.{IsServed};
 
 use crate::book::Book;
 use crate::naming::Naming;
-use crate::outcome::Turned;
 use crate::purse::Purse;
-use crate::register::Register;
 use std::alloc::Global;
 use std::marker::Model;
 use tpcc_journal::Journal;
 use tpcc_money::NoMemory;
+use tpcc_register::{Register, Turned};
 use tpcc_rows::Request;
 
 /// A book in a block of its own: who takes it out of its slot, or keeps it over many requests, moves a pointer.
@@ -24,7 +23,7 @@ pub struct BoxedBook<N: Naming> {
 }
 
 impl<N: Naming> Model for BoxedBook<N> {
-    ghost use Rattle.tpcc_book.specs.Past.{Past};
+    ghost use Rattle.tpcc_register.specs.Past.{Past};
 
     ghost Value = { Past };
 

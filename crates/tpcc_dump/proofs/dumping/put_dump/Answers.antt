@@ -2,8 +2,8 @@ use Rattle.std.proofs.Common.{◌++◌}
 use Rattle.csv.specs.Writing.{default_writer, row_text}
 use Rattle.tpcc_dump.specs.Columns.{columns}
 use Rattle.tpcc_dump.specs.Dump.{dump_text}
-use Rattle.tpcc_dump.specs.Part.{AppendsPart}
-use Rattle.tpcc_dump.proofs.Parts.{at_fault, both, both_cut, cut_first}
+use Rattle.tpcc_blocks.specs.Part.{AppendsPart}
+use Rattle.tpcc_blocks.proofs.Parts.{at_fault, both, both_cut, cut_first}
 use Rattle.tpcc_dump.proofs.Row.{all_text}
 use Rattle.tpcc_dump.proofs.dumping.put_dump.Goals as goal
 

@@ -1,6 +1,6 @@
 use Rattle.std.proofs.Common.{arith, ◌∙◌, ◌++◌}
-use Rattle.tpcc_dump.specs.Part.{AppendsPart}
-use Rattle.tpcc_dump.proofs.Parts.{at_fault}
+use Rattle.tpcc_blocks.specs.Part.{AppendsPart}
+use Rattle.tpcc_blocks.proofs.Parts.{at_fault}
 use Rattle.tpcc_dump.proofs.Row.{all_text, put_more, put_whole, cut_before, cut_within}
 use Rattle.tpcc_dump.proofs.dumping.put_rows.Goals as goal
 

@@ -1,6 +1,6 @@
 use Rattle.std.proofs.Common.{◌≤◌, ◌-◌, ◌++◌, map, take}
 use Rattle.tpcc_dump.specs.Dump.{records_text, rows_of}
-use Rattle.tpcc_dump.specs.Part.{PassesBytes}
+use Rattle.tpcc_blocks.specs.Part.{PassesBytes}
 use Rattle.tpcc_dump.specs.Records.{record_of}
 use Rattle.tpcc_dump.proofs.dumping.put_rows.Given as goal
 

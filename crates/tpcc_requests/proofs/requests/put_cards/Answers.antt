@@ -1,6 +1,6 @@
 use Rattle.std.proofs.Common.{◌++◌}
-use Rattle.tpcc_dump.specs.Part.{AppendsPart}
-use Rattle.tpcc_dump.proofs.Parts.{at_fault}
+use Rattle.tpcc_blocks.specs.Part.{AppendsPart}
+use Rattle.tpcc_blocks.proofs.Parts.{at_fault}
 use Rattle.tpcc_requests.specs.Requests.{asked_next, request_lines}
 use Rattle.tpcc_requests.proofs.Asking.{is_cut}
 use Rattle.tpcc_requests.proofs.requests.put_cards.Goals as goal

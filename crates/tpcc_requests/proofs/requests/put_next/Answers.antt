@@ -1,6 +1,6 @@
 use Rattle.std.proofs.Common.{◌++◌}
-use Rattle.tpcc_dump.specs.Part.{AppendsPart}
-use Rattle.tpcc_dump.proofs.Parts.{at_fault, none_part}
+use Rattle.tpcc_blocks.specs.Part.{AppendsPart}
+use Rattle.tpcc_blocks.proofs.Parts.{at_fault, none_part}
 use Rattle.tpcc_requests.specs.Requests.{next_line}
 use Rattle.tpcc_requests.proofs.requests.put_next.Goals as goal
 

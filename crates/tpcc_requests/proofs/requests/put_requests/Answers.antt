@@ -1,5 +1,5 @@
-use Rattle.tpcc_dump.specs.Part.{AppendsPart}
-use Rattle.tpcc_dump.proofs.Parts.{at_fault}
+use Rattle.tpcc_blocks.specs.Part.{AppendsPart}
+use Rattle.tpcc_blocks.proofs.Parts.{at_fault}
 use Rattle.tpcc_requests.specs.Requests.{asked_by, request_lines}
 use Rattle.tpcc_requests.proofs.Asking.{first_cards, first_cut, last_cut}
 use Rattle.tpcc_requests.proofs.requests.put_requests.Goals as goal

@@ -1,8 +1,8 @@
 use Rattle.std.proofs.Common.{◌∙◌, ◌++◌, sym, ap}
 use Rattle.std.specs.Prelude.{flat_map, option_map}
 use Rattle.tpcc_journal.specs.Kept.{entry_of}
-use Rattle.tpcc_dump.specs.Part.{AppendsPart}
-use Rattle.tpcc_dump.proofs.Parts.{at_fault}
+use Rattle.tpcc_blocks.specs.Part.{AppendsPart}
+use Rattle.tpcc_blocks.proofs.Parts.{at_fault}
 use Rattle.tpcc_show.proofs.Putting.{put_next, cut_next}
 use Rattle.tpcc_show.proofs.entries.put_each.Goals as goal
 

@@ -1,8 +1,8 @@
 use Rattle.std.proofs.Common.{codes, ◌++◌}
-use Rattle.tpcc_dump.specs.Part.{AppendsPart}
-use Rattle.tpcc_dump.proofs.Parts.{at_fault, cut_first}
+use Rattle.tpcc_blocks.specs.Part.{AppendsPart}
+use Rattle.tpcc_blocks.proofs.Parts.{at_fault, cut_first}
 use Rattle.tpcc_show.specs.Shown.{heading, named_line}
-use Rattle.tpcc_dump.proofs.Parts.{both, both_cut}
+use Rattle.tpcc_blocks.proofs.Parts.{both, both_cut}
 use Rattle.tpcc_show.proofs.showing.put_heading.Goals as goal
 
 pub returns-in_err-put_bytes-clause-part : goal.returns-in_err-put_bytes-clause-part

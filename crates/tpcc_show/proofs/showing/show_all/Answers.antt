@@ -1,8 +1,8 @@
 use Rattle.std.proofs.Common.{◌++◌}
 use Rattle.std.specs.Prelude.{flat_map, option_map}
 use Rattle.std.proofs.lemmas.Option.{slice_get-get_or}
-use Rattle.tpcc_dump.specs.Part.{AppendsPart}
-use Rattle.tpcc_dump.proofs.Parts.{at_fault}
+use Rattle.tpcc_blocks.specs.Part.{AppendsPart}
+use Rattle.tpcc_blocks.proofs.Parts.{at_fault}
 use Rattle.tpcc_show.specs.Shown.{headed_text}
 use Rattle.tpcc_show.proofs.Putting.{put_next, cut_next}
 use Rattle.tpcc_show.proofs.showing.show_all.Goals as goal

@@ -1,7 +1,7 @@
 use Rattle.std.proofs.Common.{◌++◌}
 use Rattle.std.specs.Prelude.{option_map}
-use Rattle.tpcc_dump.specs.Part.{AppendsPart}
-use Rattle.tpcc_dump.proofs.Parts.{at_fault}
+use Rattle.tpcc_blocks.specs.Part.{AppendsPart}
+use Rattle.tpcc_blocks.proofs.Parts.{at_fault}
 use Rattle.tpcc_asked.specs.Names.{part_name}
 use Rattle.tpcc_show.specs.Shown.{headed_text, part_text}
 use Rattle.tpcc_show.proofs.Putting.{part_with_heading, headed_cut, heading_cut}

@@ -2,7 +2,7 @@ use Rattle.std.proofs.Common.{◌≡◌, ◌≤ℤ◌, ℤ, true, subst, sym, po
 use Rattle.std.specs.Prelude.{Result, Ok, Err, is_ok, OnOk}
 use Rattle.std.proofs.lemmas.Int.{ints}
 use Rattle.std.proofs.lemmas.Bool.{false≢true}
-use Rattle.tpcc_book.specs.Past.{Rises}
+use Rattle.tpcc_register.specs.Past.{Rises}
 use Rattle.tpcc_book.proofs.book.Book.serve_for.Goals as goal
 
 -- what holds where there is a reply holds there
