@@ -19,6 +19,8 @@ TOP = os.path.dirname(os.path.dirname(os.path.abspath(__file__)))
 MEMORY = 3_500_000_000
 # Each job of a check reads all that lies below its crate: where that is over so many times as long as the crate, one job does nearly as well.
 MOST_BELOW = 7
+# More jobs than these cost a crate more processor time than they save seconds.
+MOST_JOBS = 2
 
 
 def crates():
@@ -69,16 +71,14 @@ class Build:
         return self.failed or self.begun == self.left
 
     def take(self):
-        """The next crate, and how many processors it gets: one, or, where the longest chain waits for it and it isn't high, what is left by as many others
-        as are done as soon as it, two at least. None once nothing is left."""
+        """The next crate, and how many processors it gets: one, or two where the longest chain waits for it and it isn't high. None once nothing is left."""
         with self.changed:
             self.changed.wait_for(lambda: self.is_over() or (self.free > 0 and self.ready()))
             if self.is_over():
                 return None
-            *others, name = self.ready()
+            name = self.ready()[-1]
             is_first = self.chain[name] == max(self.chain[it] for it in self.left - self.done)
-            beside = min(len(others), -(-sum(map(lines_of, others)) // lines_of(name)))
-            jobs = max(min(2, self.free), self.free - beside) if is_first and name not in self.high else 1
+            jobs = min(MOST_JOBS, self.free) if is_first and name not in self.high else 1
             self.begun.add(name)
             self.free -= jobs
             return name, jobs
