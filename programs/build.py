@@ -18,7 +18,7 @@ TOP = os.path.dirname(os.path.dirname(os.path.abspath(__file__)))
 # What a check takes at most, in bytes.
 MEMORY = 3_500_000_000
 # Each job of a check reads all that lies below its crate: where that is over so many times as long as the crate, one job does nearly as well.
-MOST_BELOW = 7
+MOST_BELOW = 8
 # More jobs than these cost a crate more processor time than they save seconds.
 MOST_JOBS = 2
 
