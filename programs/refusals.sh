@@ -1,14 +1,17 @@
 #!/usr/bin/env bash
-# Each allocation refused in turn under the tests of refused.rt in tpcc_tests, each of which makes a call, looks that a refused one has
+# Each allocation refused in turn under the tests of refused.rt in tpcc_table_tests and tpcc_tests, each of which makes a call, looks that a refused one has
 # changed nothing, and makes it again. Prints test by test how many allocations were refused within its call; those before it end the test, and say
 # so. Stops at the first that differs.
 #
-# TESTS is the program of tests (crates/tpcc_tests/out/tpcc_tests_tests), which `rt ci` leaves; STEP (1) tries each STEP-th
+# TESTS are the programs of tests (out/ of the two crates, where `rt ci` leaves them), with spaces between; STEP (1) tries each STEP-th
 # allocation alone.
 set -u -o pipefail
 top=$(cd "$(dirname "$0")/.." && pwd)
-tests=$(realpath "${TESTS:-$top/crates/tpcc_tests/out/tpcc_tests_tests}")
-[ -x "$tests" ] || { echo "refusals: there is no program at $tests; (cd crates/tpcc_tests && rt test) builds it"; exit 1; }
+read -r -a programs <<< "${TESTS:-$top/crates/tpcc_table_tests/out/tpcc_table_tests_tests $top/crates/tpcc_tests/out/tpcc_tests_tests}"
+for tests in "${!programs[@]}"; do
+    [ -x "${programs[tests]}" ] || { echo "refusals: there is no program at ${programs[tests]}; rt test in its crate's folder builds it"; exit 1; }
+    programs[tests]=$(realpath "${programs[tests]}")
+done
 scratch=$(mktemp -d)
 trap 'rm -rf "$scratch"' EXIT
 trap 'exit 1' INT TERM
@@ -23,7 +26,7 @@ done
 # One test with one allocation refused: 0 where it passed, 1 where it was refused before its call, 2 where it differs, 3 where there is
 # no such allocation.
 tried() {
-    timeout 60 env FAILING="alloc $2" LD_PRELOAD="$scratch/failing.so" "$tests" "$1" > said 2>&1 9> hit
+    timeout 60 env FAILING="alloc $3" LD_PRELOAD="$scratch/failing.so" "$1" "$2" > said 2>&1 9> hit
     local status=$?
     [ -s hit ] || return 3
     [ $status -eq 0 ] && return 0
@@ -31,21 +34,29 @@ tried() {
     return 2
 }
 
-begun=$SECONDS
-all=0
-for name in $("$tests" --list | sed -n '/^refused::/s/: test$//p'); do
-    within=0
+# Every allocation of one test refused in turn, of this program.
+refuse() {
+    local within=0
     for ((call = 1; ; call += ${STEP:-1})); do
-        tried "$name" "$call" 2> /dev/null
+        tried "$1" "$2" "$call" 2> /dev/null
         case $? in
             0) within=$((within + 1)) ;;
-            2) echo "refusals: '$name' differs where allocation $call is refused:"; cat said; exit 1 ;;
+            2) echo "refusals: '$2' differs where allocation $call is refused:"; cat said; exit 1 ;;
             3) break ;;
         esac
     done
-    [ "$within" -gt 0 ] || { echo "refusals: no allocation was refused within the call of '$name'"; exit 1; }
-    echo "refusals: $name: $within"
+    [ "$within" -gt 0 ] || { echo "refusals: no allocation was refused within the call of '$2'"; exit 1; }
+    echo "refusals: $2: $within"
     all=$((all + within))
+}
+
+begun=$SECONDS
+all=0
+for tests in "${programs[@]}"; do
+    names=$("$tests" --list | sed -n '/^refused::/s/: test$//p')
+    [ -n "$names" ] || { echo "refusals: $tests lists no test"; exit 1; }
+    for name in $names; do
+        refuse "$tests" "$name"
+    done
 done
-[ "$all" -gt 0 ] || { echo "refusals: $tests lists no test"; exit 1; }
 echo "refusals: $all refused allocations, in $((SECONDS - begun)) seconds"

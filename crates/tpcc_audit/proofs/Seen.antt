@@ -6,8 +6,8 @@ use mathlib.Core.List.{IsPrefix}
 use Rattle.tpcc_rows.specs.declared.entry.Entry.{Entry}
 use Rattle.tpcc_population.specs.declared.opening.Opening.{Opening}
 use Rattle.tpcc_register.specs.Past.{Past}
-use Rattle.tpcc_book.specs.Closing.{IsLeft}
-use Rattle.tpcc_book.specs.Seats.{SeatedView}
+use Rattle.tpcc_turns.specs.Closing.{IsLeft}
+use Rattle.tpcc_turns.specs.Seats.{SeatedView}
 use Rattle.tpcc_terminal.specs.declared.receipts.Receipt.{Receipt}
 use Rattle.tpcc_terminal.specs.Receipts.{Stands, AllStand}
 use Rattle.tpcc_screens.specs.declared.report.Report.{Report}

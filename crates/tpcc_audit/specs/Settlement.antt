@@ -3,8 +3,8 @@ use Rattle.std.specs.Prelude.{ℕ, ◌≡◌, List, All, Some, Vec, flat_map, sl
 use Rattle.std.specs.declared.alloc.Global.{Global}
 use Rattle.tpcc_population.specs.declared.opening.Opening.{Opening}
 use Rattle.tpcc_register.specs.Past.{Past, rise_of}
-use Rattle.tpcc_book.specs.Seats.{SeatedView}
-use Rattle.tpcc_book.specs.Closing.{IsLeft, IsGathered}
+use Rattle.tpcc_turns.specs.Seats.{SeatedView}
+use Rattle.tpcc_turns.specs.Closing.{IsLeft, IsGathered}
 use Rattle.tpcc_terminal.specs.declared.receipts.Receipt.{Receipt}
 use Rattle.tpcc_screens.specs.declared.report.Report.{Report}
 use Rattle.tpcc_terminal.specs.Receipts.{Stands, AllStand}

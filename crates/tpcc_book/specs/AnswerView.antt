@@ -16,3 +16,8 @@ pub record AnswerView (P : Type 0) : Type 0 where
 abbrev pub answer_of : {P : Type 0} → Turned → P → AnswerView P
 answer_of turned purse =
     record { request = turned.request; outcome = turned.outcome; place = turned.place; purse = purse }
+
+-- the same answer with another purse
+abbrev pub answer_with : {Q P : Type 0} → AnswerView Q → P → AnswerView P
+answer_with answer purse =
+    record { request = answer.request; outcome = answer.outcome; place = answer.place; purse = purse }

@@ -1,10 +1,4 @@
-pub mod Closing
-pub mod Gathering
-pub mod Knows
-pub mod Purses
-pub mod Seats
-pub mod Serve
-pub mod Shares
 pub mod AnswerView
-pub mod TurnSteps
-pub mod TurnRule
+pub mod Pooling
+pub mod Purses
+pub mod Serve

@@ -1,6 +1,6 @@
 //! A sealed answer.
 ghost use Rattle.std.specs.Prelude.{◌≡◌};
-ghost use Rattle.tpcc_book.specs.AnswerView.{answer_of};
+ghost use Rattle.tpcc_book.specs.AnswerView.{answer_of, answer_with};
 
 use std::marker::Model;
 use tpcc_register::Turned;
@@ -77,5 +77,15 @@ impl<P> Answer<P> {
     {
         let Answer { turned, purse } = self;
         (turned.request, turned.outcome, turned.place, purse)
+    }
+}
+
+impl Answer<()> {
+    /// The same answer, with the purse by which it was served.
+    pub fn with_purse<P>(self, purse: P) -> Answer<P>
+        ensures { result ≡ answer_with self purse }
+    {
+        let Answer { turned, purse: () } = self;
+        Answer { turned, purse }
     }
 }

@@ -11,34 +11,20 @@
 //! `Purse::split` makes up to 10,000 more of the first one. `gather` takes them all, and tells what their sum is
 //! then: the journal's length, and the rise of the sum of W_YTD.
 //!
-//! # Threads
-//!
-//! `UnnamedTurns::start` makes a book for threads, which share its `Turns` and have a `SeatedPurse` each:
-//!
-//! ```text
-//! Turns::serve:  draw a ticket, wait until it is called -> serve -> put the book back, call the next ticket
-//! ```
-//!
-//! `begin` keeps a turn as a `HeldTurn`; `serve_held` serves in it for any purse, as often as one wants, until
-//! `end`. After the joins `gather` takes all purses and gives the book back.
-//!
 //! # Names
 //!
-//! A book's type names it: `N: Naming` stands for its two ledgers, `T: Seating` for the seats of its turns. So a
-//! purse can't be used at another book.
+//! A book's type names it: `N: Naming` stands for its two ledgers. So a purse can't be used at another book.
 //!
-//! Not promised: that a ticket is ever called.
+//! `tpcc_turns` shares a book among threads.
 #![tactic(auto)]
 
 mod answer;
 mod book;
 mod naming;
 mod purse;
-mod turns;
 
 pub use answer::Answer;
 pub use book::Book;
 pub use naming::{Blanks, Entries, Naming, PaidCents};
-pub use purse::{MOST_PURSES, Purse};
+pub use purse::{ALL_PARTS, MOST_PURSES, Pool, Purse};
 pub use tpcc_register::{MOST_ENTRIES, Register, Turned};
-pub use turns::{HeldTurn, SeatedPurse, Seating, Turns, UnnamedTurns};

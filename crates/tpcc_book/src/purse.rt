@@ -6,7 +6,7 @@ ghost use Rattle.tpcc_book.specs.Serve.{purse_after};
 mod pool;
 
 use crate::naming::{Entries, Naming, PaidCents};
-pub(crate) use pool::Pool;
+pub use pool::Pool;
 use std::marker::Model;
 use std::sync::ledger::{Book as LedgerBook, Share};
 use tpcc_money::Cents;
@@ -15,7 +15,7 @@ use tpcc_money::Cents;
 pub const MOST_PURSES: u32 = 10_000;
 
 /// The parts of a book: one is its first purse, and one each purse that can be split off.
-pub(crate) const ALL_PARTS: u32 = MOST_PURSES + 1;
+pub const ALL_PARTS: u32 = MOST_PURSES + 1;
 
 /// A terminal's token for the entries that it made and the payments among them. A request is served
 /// only with a purse, and the purse's entries and cents are shares of the book's two totals: all

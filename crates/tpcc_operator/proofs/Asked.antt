@@ -1,6 +1,6 @@
 -- Requests that were asked one after another.
 use Rattle.std.proofs.Common.{◌≡◌, ◌∙◌, ℕ, suc, ◌+◌, sym, subst, arith, Bool, true, false}
-use Rattle.tpcc_book.specs.Seats.{SeatedView}
+use Rattle.tpcc_turns.specs.Seats.{SeatedView}
 use Rattle.tpcc_rows.specs.declared.requests.Request.{Request}
 use Rattle.tpcc_operator.specs.Posts.{Post}
 use Rattle.tpcc_operator.specs.declared.duty.Duty.{Duty}

@@ -1,5 +1,5 @@
 -- What an operator is seen as.
-use Rattle.tpcc_book.specs.Seats.{SeatedView}
+use Rattle.tpcc_turns.specs.Seats.{SeatedView}
 use Rattle.tpcc_terminal.specs.Terminals.{Station}
 
 -- a terminal between two requests: its purse, and what it is seen as

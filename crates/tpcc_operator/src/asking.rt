@@ -6,9 +6,10 @@ use crate::duty::Duty;
 use crate::operator::{Asked, Operator};
 use std::alloc::{AllocError, Global};
 use std::sync::Wait;
-use tpcc_book::{Naming, Seating};
+use tpcc_book::Naming;
 use tpcc_money::Moment;
 use tpcc_server::OneTurn;
+use tpcc_turns::Seating;
 
 /// What each request is asked with. That `make` may always be called no ghost field can say of a type parameter, so
 /// each method asks for it.

@@ -1,12 +1,13 @@
 //! The routes by which a terminal's requests come to the book.
 ghost use Rattle.std.specs.Prelude.{◌≡◌, IfSome};
-ghost use Rattle.tpcc_book.specs.Seats.{IsTurned};
+ghost use Rattle.tpcc_turns.specs.Seats.{IsTurned};
 ghost use Rattle.tpcc_mailbox.specs.Tokens.{identity, idle_origin};
 
 use std::sync::Wait;
-use tpcc_book::{Naming, SeatedPurse, Seating, Turns};
+use tpcc_book::Naming;
 use tpcc_rows::Request;
 use tpcc_server::{Errand, Job, JobAnswer, JobIdle, JobMailboxes, OneTurn, ask};
+use tpcc_turns::{SeatedPurse, Seating, Turns};
 
 /// How one terminal's requests are served, one after another.
 pub enum Route<'s, N: Naming, T: Seating, C> {

@@ -6,7 +6,7 @@ use Rattle.tpcc_population.specs.declared.opening.Opening.{Opening}
 use Rattle.tpcc_register.specs.Past.{Past}
 use Rattle.tpcc_book.specs.Purses.{all_parts}
 use Rattle.tpcc_book.specs.Serve.{rooms_of}
-use Rattle.tpcc_book.specs.Seats.{SeatedView, purses_of}
+use Rattle.tpcc_turns.specs.Seats.{SeatedView, purses_of}
 use Rattle.tpcc_terminal.specs.declared.receipts.Receipt.{Receipt}
 use Rattle.tpcc_screens.specs.declared.report.Report.{Report}
 use Rattle.tpcc_audit.specs.Settlement.{IsSettled}

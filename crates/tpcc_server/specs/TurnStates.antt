@@ -1,5 +1,5 @@
 -- Whose purse a server has.
-use Rattle.tpcc_book.specs.Seats.{Keeper, keeper_of}
+use Rattle.tpcc_turns.specs.Seats.{Keeper, keeper_of}
 use Rattle.tpcc_server.specs.declared.turn_state.TurnState.{TurnState}
 use Rattle.tpcc_server.specs.declared.turn_state.TurnState.TheVariants.{Free, Holding}
 

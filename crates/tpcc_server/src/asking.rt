@@ -1,12 +1,13 @@
 //! What a client does with a job.
 ghost use Rattle.std.specs.Prelude.{◌≡◌, true, IfOk, IfErr};
-ghost use Rattle.tpcc_book.specs.Seats.{IsTurned};
+ghost use Rattle.tpcc_turns.specs.Seats.{IsTurned};
 ghost use Rattle.tpcc_mailbox.specs.Tokens.{identity, idle_origin, idle_mailbox, waiting_origin, waiting_mailbox, waiting_letter, waiting_saw_closed};
 
 use crate::job::{Job, JobAnswer, JobIdle, JobMailboxes, JobWaiting};
 use crate::pause::Pause;
 use std::sync::Wait;
-use tpcc_book::{Naming, Seating};
+use tpcc_book::Naming;
+use tpcc_turns::Seating;
 
 /// Posts a job, and waits for its answer, or until the mailboxes are seen closed while there is none.
 /// In the error the job stays posted, and a server may still take it: its token is the right to what

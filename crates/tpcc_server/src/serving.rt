@@ -1,7 +1,7 @@
 //! What a server does with its mailboxes.
 ghost use Rattle.std.specs.Prelude.{◌≡◌, ◌+◌, ◌<◌, ◌≤◌, true, None};
 ghost use Rattle.tpcc_mailbox.specs.Tokens.{identity, mailbox_count, serving_origin, serving_hand, serving_answered, serving_saw_closed};
-ghost use Rattle.tpcc_book.specs.Seats.{keeper_of};
+ghost use Rattle.tpcc_turns.specs.Seats.{keeper_of};
 ghost use Rattle.tpcc_server.specs.Rounds.{HasAnswered, HasAnsweredInTurn};
 ghost use Rattle.tpcc_server.specs.Servings.{HasServed};
 ghost use Rattle.tpcc_server.specs.TurnStates.{keeper_in};
@@ -13,7 +13,8 @@ use crate::one_turn::OneTurn;
 use crate::pause::Pause;
 use crate::turn_state::TurnState;
 use std::sync::Wait;
-use tpcc_book::{HeldTurn, Naming, SeatedPurse, Seating, Turns};
+use tpcc_book::Naming;
+use tpcc_turns::{HeldTurn, SeatedPurse, Seating, Turns};
 
 /// Looks at each mailbox once, in order, and answers the jobs that it finds, each in a turn of its own. It gives
 /// their number. The server's own purse keeps the book's turn from one job to the next while nobody else waits for it,

@@ -1,11 +1,12 @@
 //! Whether a server has the turn.
 ghost use Rattle.std.specs.Prelude.{◌≡◌};
-ghost use Rattle.tpcc_book.specs.Seats.{keeper_of};
+ghost use Rattle.tpcc_turns.specs.Seats.{keeper_of};
 ghost use Rattle.tpcc_server.specs.TurnStates.{keeper_in};
 
 use crate::pause::Pause;
 use std::sync::Wait;
-use tpcc_book::{HeldTurn, Naming, SeatedPurse, Seating, Turns};
+use tpcc_book::Naming;
+use tpcc_turns::{HeldTurn, SeatedPurse, Seating, Turns};
 
 /// How often a server that stands by looks again whether the book is free.
 const LOOKS: u32 = 500;

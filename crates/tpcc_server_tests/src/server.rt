@@ -19,11 +19,12 @@ use std::sync::Wait;
 use std::sync::atomic::{AtomicU64, Ordering};
 use std::thread::Threads;
 use std::time::Clock;
-use tpcc_book::{Blanks, Naming, Register, SeatedPurse, Seating, Turned, Turns, UnnamedTurns};
+use tpcc_book::{Blanks, Naming, Register, Turned};
 use tpcc_money::{Cents, Moment};
 use tpcc_population::{Opening, Scale};
 use tpcc_rows::{Payment, Request, Who};
 use tpcc_server::{Job, JobAnswer, JobIdle, JobMailboxes, JobServing, JobWaiting, OneTurn};
+use tpcc_turns::{SeatedPurse, Seating, Turns, UnnamedTurns};
 
 /// What happens at the turns of a new book.
 #[derive(Clone, Copy)]

@@ -15,7 +15,7 @@ use Rattle.tpcc_book.specs.Purses.{PurseView}
 use Rattle.tpcc_book.specs.AnswerView.{AnswerView}
 use Rattle.tpcc_register.specs.Turn.{Accepts, Refuses, entry_of}
 use Rattle.tpcc_book.specs.Serve.{IsServed, purse_after}
-use Rattle.tpcc_book.specs.Seats.{SeatedView, IsTurned, by_purse}
+use Rattle.tpcc_turns.specs.Seats.{SeatedView, IsTurned, by_purse}
 use Rattle.tpcc_terminal.specs.declared.receipts.Receipt.{Receipt}
 use Rattle.tpcc_terminal.specs.Receipts.{receipts_at, receipts_of, entry_of_receipt, Stands, AllStand}
 

@@ -6,7 +6,7 @@ ghost use Rattle.tpcc_rows.specs.declared.requests.Request.{Request};
 ghost use Rattle.tpcc_register.specs.Past.{Past};
 ghost use Rattle.tpcc_book.specs.Purses.{PurseView};
 ghost use Rattle.tpcc_book.specs.Serve.{IsServed};
-ghost use Rattle.tpcc_book.specs.Seats.{SeatedView, IsTurned};
+ghost use Rattle.tpcc_turns.specs.Seats.{SeatedView, IsTurned};
 ghost use Rattle.tpcc_book.specs.AnswerView.{AnswerView};
 ghost use Rattle.tpcc_terminal.specs.declared.receipts.Receipt.{Receipt};
 ghost use Rattle.tpcc_terminal.specs.Receipts.{receipts_of, AllStand};

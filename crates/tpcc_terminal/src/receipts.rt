@@ -4,9 +4,10 @@ ghost use Rattle.tpcc_book.specs.Purses.{PurseView};
 ghost use Rattle.tpcc_terminal.specs.Receipts.{receipts_of};
 
 use std::alloc::Global;
-use tpcc_book::{Answer, Naming, Purse, SeatedPurse, Seating};
+use tpcc_book::{Answer, Naming, Purse};
 use tpcc_money::NoMemory;
 use tpcc_rows::{Reply, Request};
+use tpcc_turns::{SeatedPurse, Seating};
 
 /// What a terminal keeps of an accepted request, to be settled with the journal at the end.
 #[derive(Drop)]

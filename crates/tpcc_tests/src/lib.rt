@@ -1,5 +1,5 @@
-//! Tests by public calls alone of all that stands below the server: what no script and no run brings about, and each call
-//! that wants memory.
+//! Tests by public calls alone of all that stands on the tables and below the server: what no script and no run brings about, and each
+//! call that wants memory.
 #![tactic(auto)]
 
 #[cfg(test)]
@@ -8,8 +8,6 @@ mod asked;
 mod books;
 #[cfg(test)]
 mod desk;
-#[cfg(test)]
-mod dumps;
 #[cfg(test)]
 mod mailboxes;
 #[cfg(test)]
@@ -20,8 +18,6 @@ mod refused;
 mod screens;
 #[cfg(test)]
 mod sizes;
-#[cfg(test)]
-mod tables;
 #[cfg(test)]
 mod terminals;
 #[cfg(test)]

@@ -8,9 +8,10 @@ use std::marker::Brand;
 use std::process::Abort;
 use std::sync::Wait;
 use tpcc_audit::settle;
-use tpcc_book::{Answer, Blanks, Book, Naming, SeatedPurse, Seating, Turns, UnnamedTurns};
+use tpcc_book::{Answer, Blanks, Book, Naming};
 use tpcc_money::{Cents, NoMemory};
 use tpcc_rows::{Refusal, Request};
+use tpcc_turns::{SeatedPurse, Seating, Turns, UnnamedTurns};
 
 /// Whether every purse is handed in.
 #[derive(Clone, Copy)]

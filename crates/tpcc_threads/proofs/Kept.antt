@@ -4,7 +4,7 @@ use Rattle.std.specs.Prelude.{slice_get, Bool, true, false, Vec, if◌then◌els
 use Rattle.std.specs.declared.alloc.Global.{Global}
 use Rattle.std.proofs.lemmas.List.Elements.{All-append}
 use Rattle.std.proofs.lemmas.List.Concat.{flat_map-append}
-use Rattle.tpcc_book.specs.Seats.{SeatedView}
+use Rattle.tpcc_turns.specs.Seats.{SeatedView}
 use Rattle.tpcc_terminal.specs.declared.receipts.Receipt.{Receipt}
 use Rattle.tpcc_terminal.specs.Receipts.{AllStand}
 use Rattle.tpcc_audit.specs.Settlement.{IsSeen, AllSeen, all_receipts}

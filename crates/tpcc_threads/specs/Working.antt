@@ -1,7 +1,7 @@
 -- What a terminal's thread gives back.
 use Rattle.std.specs.Prelude.{ℕ, ◌≡◌, List, [], ◌∷◌, ◌++◌}
 use Rattle.tpcc_rows.specs.Layout.{Scale}
-use Rattle.tpcc_book.specs.Seats.{SeatedView}
+use Rattle.tpcc_turns.specs.Seats.{SeatedView}
 use Rattle.tpcc_terminal.specs.declared.receipts.Receipt.{Receipt}
 use Rattle.tpcc_terminal.specs.Terminals.{IsStarted}
 use Rattle.tpcc_operator.specs.Posts.{Post}

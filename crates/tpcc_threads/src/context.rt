@@ -4,8 +4,9 @@ ghost use Rattle.tpcc_asked.specs.Plans.{plan_once};
 
 use std::alloc::Global;
 use tpcc_asked::Plan;
-use tpcc_book::{Naming, Seating, Turns};
+use tpcc_book::Naming;
 use tpcc_population::Scale;
+use tpcc_turns::{Seating, Turns};
 
 /// What each thread of a run is lent: the turns are those of the run's book, and `make` gives the call of each
 /// request. That it may always be called no ghost field can say of a type parameter, so each method asks for it.

@@ -10,9 +10,10 @@ use crate::terminal_threads::join_terminal;
 use std::alloc::{AllocError, Global};
 use std::sync::Wait;
 use std::thread::{Scope, Threads};
-use tpcc_book::{Naming, SeatedPurse, Seating};
+use tpcc_book::Naming;
 use tpcc_operator::{Back, Duty, Route};
 use tpcc_server::OneTurn;
+use tpcc_turns::{SeatedPurse, Seating};
 
 impl<
     's,

@@ -6,9 +6,10 @@ ghost use Rattle.tpcc_threads.specs.Working.{HasKeptBack};
 
 use crate::fault::RunFault;
 use std::alloc::Global;
-use tpcc_book::{Naming, SeatedPurse, Seating};
+use tpcc_book::Naming;
 use tpcc_operator::{Back, Operator};
 use tpcc_terminal::Receipt;
+use tpcc_turns::{SeatedPurse, Seating};
 
 /// The purses that came back, with their receipts, and the fault that the run is to end with.
 #[derive(Drop)]

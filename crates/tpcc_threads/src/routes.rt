@@ -3,9 +3,10 @@ ghost use Rattle.std.specs.Prelude.{◌≡◌, ◌<◌, All, IfSome, IsSome, vec
 ghost use Rattle.tpcc_mailbox.specs.Tokens.{identity, idle_origin};
 
 use std::alloc::{AllocError, Global};
-use tpcc_book::{Naming, Seating, Turns};
+use tpcc_book::Naming;
 use tpcc_operator::{MailboxRoute, Route};
 use tpcc_server::{JobIdle, JobMailboxes};
+use tpcc_turns::{Seating, Turns};
 
 /// The routes by all mailboxes.
 pub(crate) fn by_mailboxes<'s, N: Naming, T: Seating, C>(

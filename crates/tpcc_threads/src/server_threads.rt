@@ -8,8 +8,9 @@ use crate::results::ThreadResults;
 use std::alloc::{AllocError, Global};
 use std::sync::Wait;
 use std::thread::{JoinHandle, Scope, Threads};
-use tpcc_book::{Naming, SeatedPurse, Seating};
+use tpcc_book::Naming;
 use tpcc_server::{JobMailboxes, JobServing, OneTurn, OpenGate, serve_until_closed};
+use tpcc_turns::{SeatedPurse, Seating};
 
 /// The thread of a server, which gives the server's purse back.
 pub(crate) type ServerHandle<N, T> = JoinHandle<SeatedPurse<N, T>>;

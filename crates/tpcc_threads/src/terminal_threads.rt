@@ -12,10 +12,11 @@ use crate::results::ThreadResults;
 use std::alloc::{AllocError, Global};
 use std::sync::Wait;
 use std::thread::{Scope, Threads};
-use tpcc_book::{Naming, SeatedPurse, Seating};
+use tpcc_book::Naming;
 use tpcc_operator::{AskContext, Back, Duty, Operator, Route};
 use tpcc_server::OneTurn;
 use tpcc_terminal::Terminal;
+use tpcc_turns::{SeatedPurse, Seating};
 
 impl<
     's,

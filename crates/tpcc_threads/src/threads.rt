@@ -16,10 +16,11 @@ use std::sync::Wait;
 use std::thread;
 use std::thread::{Scope, Threads};
 use tpcc_asked::Service;
-use tpcc_book::{Naming, SeatedPurse, Seating};
+use tpcc_book::Naming;
 use tpcc_mailbox::Mailboxes;
 use tpcc_operator::Route;
 use tpcc_server::{Job, JobAnswer, JobIdle, JobMailboxes, JobServing, OneTurn};
+use tpcc_turns::{SeatedPurse, Seating};
 
 impl<
     's,

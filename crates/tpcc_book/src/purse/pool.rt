@@ -11,7 +11,7 @@ use tpcc_money::Cents;
 /// What several purses of a book have together. That the sums are the book's totals is known only once the
 /// book is at hand, so until then they are kept in 128 bits, which the sums of 10,001 purses always fit.
 #[derive(Drop)]
-pub(crate) struct Pool<N: Naming> {
+pub struct Pool<N: Naming> {
     /// How many of the book's 10,001 parts are in it.
     parts: u32,
     /// The sum of the purses' entries.
@@ -44,8 +44,8 @@ impl<N: Naming> Model for Pool<N> {
 }
 
 impl<N: Naming> Pool<N> {
-    // One purse.
-    pub(crate) fn of(purse: Purse<N>) -> Pool<N>
+    /// One purse.
+    pub fn of(purse: Purse<N>) -> Pool<N>
         ensures pool { result ≡ pool_of purse }
     {
         let Purse {
@@ -65,15 +65,15 @@ impl<N: Naming> Pool<N> {
         }
     }
 
-    // Of the 10,001 parts that the purses of a book have, those that are here.
-    pub(crate) fn parts(&self) -> u32
+    /// How many of the 10,001 parts that the purses of a book have are here.
+    pub fn parts(&self) -> u32
         ensures parts { result ≡ self.now.parts }
     {
         self.parts
     }
 
-    // One more purse.
-    pub(crate) fn take_in(&mut self, purse: Purse<N>)
+    /// One more purse.
+    pub fn take_in(&mut self, purse: Purse<N>)
         ensures pool { self.new ≡ pool_with self.old purse }
     {
         let Purse {

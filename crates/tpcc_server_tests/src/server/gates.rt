@@ -11,8 +11,9 @@ use std::sync::Wait;
 use std::sync::atomic::{AtomicU64, Ordering};
 use std::thread::{self, Threads, join};
 use std::time::{Clock, Duration};
-use tpcc_book::{Naming, SeatedPurse, Seating, Turns};
+use tpcc_book::Naming;
 use tpcc_server::{Gate, JobMailboxes, JobServing, serve_until_closed};
+use tpcc_turns::{SeatedPurse, Seating, Turns};
 
 /// Holds the first job that is taken until another has been answered, or the limit is met.
 #[derive(Drop)]

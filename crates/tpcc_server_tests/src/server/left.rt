@@ -7,12 +7,13 @@ use std::alloc::Global;
 use std::process::Abort;
 use std::sync::Wait;
 use std::sync::atomic::{AtomicU64, Ordering};
-use tpcc_book::{Naming, SeatedPurse, Seating, Turns};
+use tpcc_book::Naming;
 use tpcc_mailbox::{Client, Left};
 use tpcc_server::{
     Job, JobAnswer, JobIdle, JobMailboxes, JobServing, JobWaiting, OneTurn, OpenGate, ask,
     serve_round,
 };
+use tpcc_turns::{SeatedPurse, Seating, Turns};
 
 #[test]
 fn a_job_at_closed_mailboxes_is_given_back_uncalled(rt: HostRuntime) {

@@ -7,8 +7,9 @@ use crate::plain_turn::PlainTurn;
 use std::alloc::Global;
 use std::process::Abort;
 use std::sync::Wait;
-use tpcc_book::{Naming, SeatedPurse, Seating, Turns};
+use tpcc_book::Naming;
 use tpcc_server::{Gate, JobAnswer, JobMailboxes, JobServing, JobWaiting, serve_until_closed};
+use tpcc_turns::{SeatedPurse, Seating, Turns};
 
 /// A gate behind which the client of the first job posts again.
 #[derive(Drop)]

@@ -7,8 +7,9 @@ use std::alloc::Global;
 use std::process::Abort;
 use std::sync::Wait;
 use std::sync::atomic::{AtomicU64, Ordering};
-use tpcc_book::{Naming, SeatedPurse, Seating, Turns};
+use tpcc_book::Naming;
 use tpcc_server::{Gate, JobMailboxes, JobServing, OneTurn, serve_round, serve_until_closed};
+use tpcc_turns::{SeatedPurse, Seating, Turns};
 
 /// A gate that sees whether each job is turned between its two calls, in the order of the mailboxes.
 #[derive(Drop)]

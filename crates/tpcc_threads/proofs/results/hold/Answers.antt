@@ -1,6 +1,6 @@
 use Rattle.std.proofs.Common.{◌∙◌, ◌∷◌, [], ◌++◌, ap, sym, List}
 use Rattle.std.specs.Prelude.{is_ok, Bool, if◌then◌else◌}
-use Rattle.tpcc_book.specs.Seats.{SeatedView}
+use Rattle.tpcc_turns.specs.Seats.{SeatedView}
 use Rattle.tpcc_audit.specs.Settlement.{all_receipts}
 use Rattle.tpcc_threads.proofs.Kept.{seen_appended, receipts_pushed}
 use Rattle.tpcc_threads.proofs.results.hold.Goals as goal

@@ -1,5 +1,5 @@
 use Rattle.std.proofs.Common.{subst}
-use Rattle.tpcc_book.specs.Seats.{IsTurned}
+use Rattle.tpcc_turns.specs.Seats.{IsTurned}
 use Rattle.tpcc_server.specs.Jobs.{JobView}
 use Rattle.tpcc_server.proofs.job.JobErrand.run.Goals as goal
 

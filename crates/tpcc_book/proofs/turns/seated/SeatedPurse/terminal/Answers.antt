@@ -1,5 +1,0 @@
-use Rattle.std.proofs.Common.{rules}
-use Rattle.tpcc_book.proofs.turns.seated.SeatedPurse.terminal.Goals as goal
-
-pub returns : goal.returns
-returns g c = search rules

@@ -1,0 +1,11 @@
+pub mod Closes
+pub mod Draws
+pub mod Ends
+pub mod Grows
+pub mod Joins
+pub mod Keepers
+pub mod Looks
+pub mod Seats
+pub mod Serves
+pub mod Shares
+pub mod Starts

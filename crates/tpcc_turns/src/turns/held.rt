@@ -1,0 +1,121 @@
+//! A turn that is kept over the requests of many purses.
+ghost use Rattle.std.specs.Prelude.{◌≡◌};
+ghost use Rattle.tpcc_turns.specs.Seats.{IsTurned, keeper_of};
+ghost use Rattle.tpcc_register.specs.Turn.{TakesTurn, MakesTurn};
+
+use crate::turns::Turns;
+use crate::turns::boxed_book::BoxedBook;
+use crate::turns::seated::{SeatedPurse, Seating};
+use crate::turns::steps::{BoardSeat, adopt, free, give, show, take};
+use std::marker::{Model, PhantomData};
+use std::sync::Wait;
+use tpcc_book::{Answer, Naming, Purse};
+use tpcc_register::{Register, Turned};
+use tpcc_rows::Request;
+
+/// The turn of one purse, its keeper, with the book. Each request that is served in it is a turn of the book for the
+/// purse that asks; no other turn comes until this one is ended.
+#[derive(Drop)]
+pub struct HeldTurn<N: Naming, T: Seating> {
+    /// The keeper's own purse; requests are served by those of others.
+    purse: Purse<N>,
+    /// The keeper's seat, which holds the book.
+    seat: BoardSeat<N>,
+    /// The ticket that is served, modulo 2^64.
+    ticket: u64,
+    /// The book, out of its slot.
+    book: BoxedBook<N>,
+    /// Which table it is, for its type alone.
+    of: PhantomData<T>,
+}
+
+impl<N: Naming, T: Seating> Model for HeldTurn<N, T> {
+    ghost use Rattle.std.specs.Prelude.{◌+◌};
+    ghost use Rattle.tpcc_turns.specs.Seats.{IsHeldTurn, Keeper};
+
+    ghost Value = { Keeper };
+
+    ghost view = { λ h. record { purse = h.purse; start = h.seat.me.0.start } };
+
+    ghost invariant = { λ h. IsHeldTurn T.table h.seat (h.purse.room + 1) h.ticket h.book };
+}
+
+impl<N: Naming, T: Seating> Turns<N, T> {
+    /// Waits for the purse's turn, and keeps it.
+    pub fn begin<R: Wait>(&self, rt: &R, purse: SeatedPurse<N, T>) -> HeldTurn<N, T>
+        ensures keeper { result ≡ keeper_of purse }
+    {
+        let (purse, mut seat) = purse.into_seat();
+        let (ticket, book) = take(rt, &self.table.shared, &mut seat);
+        HeldTurn {
+            purse,
+            seat,
+            ticket,
+            book,
+            of: PhantomData,
+        }
+    }
+
+    /// Whether somebody else has drawn a turn since this one.
+    pub fn is_awaited(&self, held: &HeldTurn<N, T>) -> bool {
+        self.table.shared.peek(0) != held.ticket.wrapping_add(1)
+    }
+
+    /// Whether somebody has a turn, or waits for one.
+    pub fn is_busy(&self) -> bool {
+        self.table.shared.peek(0) != self.table.shared.peek(1)
+    }
+
+    /// Serves a request for a purse in a turn that is kept, by a call that makes a turn of the book.
+    pub fn serve_held<F: FnOnce(&mut Register, Request, u32, u64) -> Turned>(
+        &self,
+        held: HeldTurn<N, T>,
+        request: Request,
+        purse: SeatedPurse<N, T>,
+        turn: F,
+    ) -> (HeldTurn<N, T>, Answer<SeatedPurse<N, T>>)
+        requires takes { TakesTurn (F.pre turn) }
+        requires turns { MakesTurn (F.post turn) }
+        ensures keeper { result.0 ≡ held }
+        ensures turned { IsTurned request purse result.1 }
+    {
+        let HeldTurn {
+            purse: keeper,
+            mut seat,
+            ticket,
+            mut book,
+            of,
+        } = held;
+        let (mut purse, other) = purse.into_seat();
+        let board = &self.table.shared;
+        adopt(board, &mut seat, other);
+        let turned = book.serve_for(request, &mut purse, turn);
+        let book = show(board, &mut seat, book);
+        let _journal = book.journal();
+        let back = free(board, &mut seat);
+        let purse = SeatedPurse::seated(purse, back);
+        let held = HeldTurn {
+            purse: keeper,
+            seat,
+            ticket,
+            book,
+            of,
+        };
+        (held, turned.with_purse(purse))
+    }
+
+    /// Ends a turn that was kept: the keeper's purse, which has seen the whole journal.
+    pub fn end(&self, held: HeldTurn<N, T>) -> SeatedPurse<N, T>
+        ensures keeper { keeper_of result ≡ held }
+    {
+        let HeldTurn {
+            purse,
+            mut seat,
+            ticket,
+            book,
+            of: _,
+        } = held;
+        give(&self.table.shared, &mut seat, ticket, book);
+        SeatedPurse::seated(purse, seat)
+    }
+}

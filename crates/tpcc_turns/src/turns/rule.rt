@@ -1,0 +1,59 @@
+//! The rule of the turns, and the kinds of step.
+//!
+//! Word 0 is the next ticket to be drawn, word 1 the ticket that is served. The one slot holds the book,
+//! which the seat that is served has taken out.
+use crate::turns::boxed_book::BoxedBook;
+use crate::turns::knows::Knows;
+use atomic_table::{Play, TableRule};
+use std::marker::PhantomData;
+use tpcc_book::Naming;
+use tpcc_population::Opening;
+
+/// The rule by which the two words, the book and the seats stand to one another.
+pub struct TurnRule<N> {
+    of: PhantomData<N>,
+}
+
+impl<N: Naming> TableRule<Option<BoxedBook<N>>, Knows, Opening> for TurnRule<N> {
+    ghost use Rattle.tpcc_turns.specs.TurnRule.{FollowsTurnRule, first};
+
+    ghost holds = { FollowsTurnRule };
+
+    ghost first = { first };
+}
+
+/// Drawing a ticket.
+pub struct Draw;
+
+impl<N: Naming> Play<Option<BoxedBook<N>>, Knows> for Draw {
+    ghost use Rattle.tpcc_turns.specs.TurnRule.{DrawStep};
+
+    ghost then = { DrawStep };
+}
+
+/// Looking whether it is served, and taking the book.
+pub struct Look;
+
+impl<N: Naming> Play<Option<BoxedBook<N>>, Knows> for Look {
+    ghost use Rattle.tpcc_turns.specs.TurnRule.{LookStep};
+
+    ghost then = { LookStep };
+}
+
+/// Telling that the journal is that of the book in hand.
+pub struct Grow;
+
+impl<N: Naming> Play<Option<BoxedBook<N>>, Knows> for Grow {
+    ghost use Rattle.tpcc_turns.specs.TurnRule.{GrowStep};
+
+    ghost then = { GrowStep };
+}
+
+/// Giving the book back, and serving the next ticket.
+pub struct End;
+
+impl<N: Naming> Play<Option<BoxedBook<N>>, Knows> for End {
+    ghost use Rattle.tpcc_turns.specs.TurnRule.{EndStep};
+
+    ghost then = { EndStep };
+}

@@ -1,0 +1,174 @@
+//! The steps of a turn: a ticket is drawn, looked for, and ended.
+ghost use Rattle.std.specs.Prelude.{◌≡◌, ◌<◌, ℕ, List, [], ◌∷◌, Option, Some};
+ghost use Rattle.atomic_table.specs.Table.{rest};
+ghost use Rattle.tpcc_turns.specs.Knows.{Idle, Out, Holds};
+ghost use Rattle.tpcc_turns.specs.TurnRule.{knows, HasBook, HasGrown};
+ghost use Rattle.tpcc_turns.specs.TurnSteps.{HasDrawn, Awaits, HasTaken, CanGive, CanEnd, CanShow, CanGrow, HasShown};
+ghost use Rattle.tpcc_turns.specs.Shares.{both_of, last_parts, freed_of, back_of};
+ghost use Rattle.tpcc_rows.specs.declared.entry.Entry.{Entry};
+ghost use Rattle.tpcc_register.specs.Past.{Past};
+
+use crate::turns::boxed_book::BoxedBook;
+use crate::turns::gather::Joining;
+use crate::turns::knows::Knows;
+use crate::turns::rule::{Draw, End, Grow, Look, TurnRule};
+use crate::turns::split::LastJoined;
+use atomic_table::{Seat, Shared, TableRule};
+use std::sync::Wait;
+use std::thread;
+use tpcc_book::Naming;
+use tpcc_population::Opening;
+
+/// The words and the slot that all seats share.
+pub type Board<N> = Shared<Option<BoxedBook<N>>, Knows, Opening, TurnRule<N>>;
+
+/// A seat at the board.
+pub type BoardSeat<N> = Seat<Option<BoxedBook<N>>, Knows>;
+
+// Draws a ticket.
+fn draw<N: Naming>(board: &Board<N>, seat: &mut BoardSeat<N>) -> u64
+    requires fits { (seat.old.table_id ≡ board.now.table_id) × (board.now.table_id.words ≡ 2) }
+    requires idle { (seat.old.me.0.stage ≡ Idle) × (0 < seat.old.me.0.parts) }
+    ensures same { (seat.new.table_id ≡ seat.old.table_id) × (seat.new.id ≡ seat.old.id) }
+    ensures drawn { HasDrawn seat.old.me result seat.new.me }
+{
+    board.fetch_add::<Draw>(seat, 0, 1)
+}
+
+// Looks until the ticket is served, and takes the book.
+fn wait<N: Naming, R: Wait>(rt: &R, board: &Board<N>, seat: &mut BoardSeat<N>, ticket: u64)
+    requires fits { (seat.old.table_id ≡ board.now.table_id) × (board.now.table_id.words ≡ 2) }
+    requires out { Awaits seat.old.me ticket }
+    ensures same { (seat.new.table_id ≡ seat.old.table_id) × (seat.new.id ≡ seat.old.id) }
+    ensures called { (number : ℕ) → seat.old.me.0.stage ≡ Out number
+        → HasBook seat.old.me number seat.new.me }
+{
+    for _ in rt.forever() {
+        if board.load::<Look>(seat, 1) == ticket {
+            return;
+        }
+        // The thread whose turn it is may have no processor.
+        thread::yield_now();
+    }
+    unreachable!()
+}
+
+// Ends the turn.
+fn end<N: Naming>(board: &Board<N>, seat: &mut BoardSeat<N>, next: u64)
+    requires fits { (seat.old.table_id ≡ board.now.table_id) × (board.now.table_id.words ≡ 2) }
+    requires holds { CanEnd seat.old.me next }
+    ensures same { (seat.new.table_id ≡ seat.old.table_id) × (seat.new.id ≡ seat.old.id) }
+    ensures ended { (book : Past) → seat.old.me.1 ≡ (0, Some book) ∷ []
+        → seat.new.me
+        ≡ (knows seat.old.me.0.start book.entries seat.old.me.0.parts Idle seat.old.me.0.told, []) }
+{
+    board.store::<End>(seat, 1, next);
+}
+
+/// Draws a ticket, waits until it is served, and takes the book.
+pub(crate) fn take<N: Naming, R: Wait>(
+    rt: &R,
+    board: &Board<N>,
+    seat: &mut BoardSeat<N>,
+) -> (u64, BoxedBook<N>)
+    requires fits { (seat.old.table_id ≡ board.now.table_id) × (board.now.table_id.words ≡ 2) }
+    requires idle { (seat.old.me.0.stage ≡ Idle) × (0 < seat.old.me.0.parts)
+        × (seat.old.me.1 ≡ []) }
+    ensures same { (seat.new.table_id ≡ seat.old.table_id) × (seat.new.id ≡ seat.old.id) }
+    ensures taken { HasTaken seat.old.me result.0 result.1 seat.new.me }
+{
+    let ticket = draw(board, seat);
+    wait(rt, board, seat, ticket);
+    let Some(book) = board.exchange(seat, 0, None) else {
+        unreachable!()
+    };
+    (ticket, book)
+}
+
+// Puts the book into its slot, of whatever a book is.
+fn put<B: Drop, V, K, P: TableRule<Option<B>, V, K>>(
+    board: &Shared<Option<B>, V, K, P>,
+    seat: &mut Seat<Option<B>, V>,
+    book: B,
+)
+    requires fits { seat.old.table_id ≡ board.now.table_id }
+    requires out { (old : Option B) × (seat.old.me.1 ≡ (0, old) ∷ rest seat.old.me.1) }
+    ensures same { (seat.new.table_id ≡ seat.old.table_id) × (seat.new.id ≡ seat.old.id) }
+    ensures put { seat.new.me ≡ (seat.old.me.0, (0, Some book) ∷ rest seat.old.me.1) }
+{
+    let _none = board.exchange(seat, 0, Some(book));
+}
+
+/// Joins an idle seat into one that has the turn.
+pub(crate) fn adopt<N: Naming>(board: &Board<N>, seat: &mut BoardSeat<N>, other: BoardSeat<N>)
+    requires fits { (seat.old.table_id ≡ board.now.table_id) × (board.now.table_id.words ≡ 2) }
+    requires other { (other.table_id ≡ board.now.table_id) × (other.me.0.stage ≡ Idle)
+        × (other.me.1 ≡ []) }
+    requires parts { (0 < seat.old.me.0.parts) × (0 < other.me.0.parts) }
+    ensures same { (seat.new.table_id ≡ seat.old.table_id) × (seat.new.id ≡ seat.old.id) }
+    ensures adopted { seat.new.me ≡ (both_of seat.old.me.0 other.me.0, seat.old.me.1) }
+{
+    board.join_seat::<Joining>(seat, other);
+}
+
+/// Tells the turn's seat that the journal is that of the book, which comes back.
+pub(crate) fn show<N: Naming>(
+    board: &Board<N>,
+    seat: &mut BoardSeat<N>,
+    book: BoxedBook<N>,
+) -> BoxedBook<N>
+    requires fits { (seat.old.table_id ≡ board.now.table_id) × (board.now.table_id.words ≡ 2) }
+    requires growing { CanShow seat.old.me book }
+    ensures same { (seat.new.table_id ≡ seat.old.table_id) × (seat.new.id ≡ seat.old.id) }
+    ensures book { result ≡ book }
+    ensures shown { HasShown seat.old.me book seat.new.me }
+{
+    put(board, seat, book);
+    grow(board, seat);
+    let Some(book) = board.exchange(seat, 0, None) else {
+        unreachable!()
+    };
+    book
+}
+
+// Tells the turn's seat that the journal is that of the book in its slot.
+fn grow<N: Naming>(board: &Board<N>, seat: &mut BoardSeat<N>)
+    requires fits { (seat.old.table_id ≡ board.now.table_id) × (board.now.table_id.words ≡ 2) }
+    requires grows { CanGrow seat.old.me }
+    ensures same { (seat.new.table_id ≡ seat.old.table_id) × (seat.new.id ≡ seat.old.id) }
+    ensures grown { (number : ℕ) (base : List Entry) (book : Past)
+        → seat.old.me.0.stage ≡ Holds number base
+        → seat.old.me.1 ≡ (0, Some book) ∷ [] → HasGrown seat.old.me number base book seat.new.me }
+{
+    board.load::<Grow>(seat, 0);
+}
+
+/// Splits off the seat that was joined last.
+pub(crate) fn free<N: Naming>(board: &Board<N>, seat: &mut BoardSeat<N>) -> BoardSeat<N>
+    requires fits { (seat.old.table_id ≡ board.now.table_id) × (board.now.table_id.words ≡ 2) }
+    requires parts { (0 < last_parts seat.old.me.0.told)
+        × (last_parts seat.old.me.0.told < seat.old.me.0.parts) }
+    ensures same { (seat.new.table_id ≡ seat.old.table_id) × (seat.new.id ≡ seat.old.id) }
+    ensures left { seat.new.me ≡ (freed_of seat.old.me.0, seat.old.me.1) }
+    ensures back { (result.table_id ≡ seat.old.table_id)
+        × (result.me ≡ (back_of seat.old.me.0, [])) }
+{
+    board.split_seat::<LastJoined>(seat)
+}
+
+/// Gives the book back, and ends the turn.
+pub(crate) fn give<N: Naming>(
+    board: &Board<N>,
+    seat: &mut BoardSeat<N>,
+    ticket: u64,
+    book: BoxedBook<N>,
+)
+    requires fits { (seat.old.table_id ≡ board.now.table_id) × (board.now.table_id.words ≡ 2) }
+    requires giving { CanGive seat.old.me ticket book }
+    ensures same { (seat.new.table_id ≡ seat.old.table_id) × (seat.new.id ≡ seat.old.id) }
+    ensures ended { seat.new.me
+        ≡ (knows seat.old.me.0.start book.entries seat.old.me.0.parts Idle seat.old.me.0.told, []) }
+{
+    put(board, seat, book);
+    end(board, seat, ticket.wrapping_add(1));
+}
