@@ -7,7 +7,8 @@
 # allocation alone.
 set -u -o pipefail
 top=$(cd "$(dirname "$0")/.." && pwd)
-read -r -a programs <<< "${TESTS:-$top/crates/tpcc_table_tests/out/tpcc_table_tests_tests $top/crates/tpcc_tests/out/tpcc_tests_tests}"
+programs=("$top/crates/tpcc_table_tests/out/tpcc_table_tests_tests" "$top/crates/tpcc_tests/out/tpcc_tests_tests")
+[ -z "${TESTS:-}" ] || read -r -a programs <<< "$TESTS"
 for tests in "${!programs[@]}"; do
     [ -x "${programs[tests]}" ] || { echo "refusals: there is no program at ${programs[tests]}; rt test in its crate's folder builds it"; exit 1; }
     programs[tests]=$(realpath "${programs[tests]}")
