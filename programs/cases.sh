@@ -1,8 +1,6 @@
 # The table of cases, read by run.sh. `it` has a name, the program's words, the input, the exit status, the line on
 # standard error and the output. An empty column is nothing; after @ stands a command, after = a script's stored screens.
 
-first='payment 1 1 1 1 1 1.00 0\n'
-screen==examples/first_payment
 address=MAINSTREET,SIDESTREET,CITYCENTRE,AB,000111111
 
 # The screens of so many payments of 5,000.00 by customer 1.
@@ -563,34 +561,6 @@ within() {
     shift
     timeout "$seconds" bash -c 'ulimit -v "$1"; shift; exec "$@"' - "$size" "$tpcc" "$@" < stdin > stdout 2> stderr
     echo $? > status
-}
-
-# One of these faults, with status 4.
-is_refused() {
-    local fault
-    for fault in "$@"; do
-        [ "$(cat status)" = 4 ] && [ "$(cat stderr)" = "$fault" ] && return 0
-    done
-    return 1
-}
-
-# What the last run wrote to standard output is a report of equal amounts, and to standard error nothing; or nothing and one of
-# these faults. A request that was refused memory in its turn is not in the journal, so the amounts may be lower than in ample memory.
-wants_report() {
-    local amount
-    : > stderr.wanted
-    : > stdout.wanted
-    if is_refused "$@"; then
-        cp stderr stderr.wanted
-        return
-    fi
-    amount=$(sed -n 's/^paid \([0-9]*\.[0-9][0-9]\)$/\1/p' stdout)
-    printf '%s\npaid %s\nrise %s\n' "$(grep -m 1 -x 'entries [0-9]*' stdout)" "$amount" "$amount" > stdout.wanted
-}
-
-# The status that goes with what is wanted on standard error.
-wanted_status() {
-    if [ -s stderr.wanted ]; then echo 4; else echo 0; fi
 }
 
 for size in 4000 12000 40000 80000 100000 120000 150000 200000 300000 400000 600000 1200000; do

@@ -1,7 +1,7 @@
 #!/usr/bin/env bash
-# Tests of the built program: the scripts of examples/ and programs/scripts/ with their stored screens, then the table of cases.sh, then shows.sh and failures.sh. Each case
-# compares standard output and standard error byte for byte, and the exit status. Stops at the first case that differs,
-# and says where its files are; else the last line counts the cases.
+# Tests of the built program, three parts side by side: the scripts of examples/ and programs/scripts/ with their stored screens, the table of cases.sh
+# and shows.sh; refused.sh; failures.sh. Each case compares standard output and standard error byte for byte, and the exit status. A part stops at the
+# first case that differs, and says where its files are; else the last line counts the cases.
 #
 # TPCC is the program (crates/tpcc/out/tpcc). Words after the command's name pick the cases whose names have one of them. Where tpcc_serial is
 # built too, it serves each script that is for the opening that it has.
@@ -14,7 +14,6 @@ picked=("$@")
 scratch=$(mktemp -d)
 trap 'rm -rf "$scratch"' EXIT
 trap 'exit 1' INT TERM
-cd "$scratch" || exit 1
 run=0
 
 # ---- what cases are written with
@@ -42,12 +41,10 @@ told() {
 }
 
 differs() {
-    trap - EXIT
     echo "programs: '$1' differs in $2; what was wanted and what came lies in $scratch"
     for part in stdout stderr; do
         [ "$part" = "$2" ] && diff <(head -c 4000 "$scratch/$part.wanted") <(head -c 4000 "$scratch/$part") | head -n 20
     done
-    echo "programs: $run passed, 1 failed"
     exit 1
 }
 
@@ -82,26 +79,92 @@ by() {
     compare "$1" "$3"
 }
 
-# ---- the cases
+# A script of one line, with its screen.
+first='payment 1 1 1 1 1 1.00 0\n'
+screen==examples/first_payment
+
+# One of these faults, with status 4.
+is_refused() {
+    local fault
+    for fault in "$@"; do
+        [ "$(cat status)" = 4 ] && [ "$(cat stderr)" = "$fault" ] && return 0
+    done
+    return 1
+}
+
+# What the last run wrote to standard output is a report of equal amounts, and to standard error nothing; or nothing and one of
+# these faults. A request that was refused memory in its turn is not in the journal, so the amounts may be lower than in ample memory.
+wants_report() {
+    local amount
+    : > stderr.wanted
+    : > stdout.wanted
+    if is_refused "$@"; then
+        cp stderr stderr.wanted
+        return
+    fi
+    amount=$(sed -n 's/^paid \([0-9]*\.[0-9][0-9]\)$/\1/p' stdout)
+    printf '%s\npaid %s\nrise %s\n' "$(grep -m 1 -x 'entries [0-9]*' stdout)" "$amount" "$amount" > stdout.wanted
+}
+
+# The status that goes with what is wanted on standard error.
+wanted_status() {
+    if [ -s stderr.wanted ]; then echo 4; else echo 0; fi
+}
+
+# ---- the parts, side by side
+
+# The scripts and the cases.
+part_cases() {
+    local script name words status fault
+    for script in "$top"/examples/*.txt "$top"/programs/scripts/*.txt; do
+        name=${script%.txt}
+        words=script
+        status=0
+        fault=
+        [ -f "$name.args" ] && words="script $(tr '\n' ' ' < "$name.args")"
+        [ -f "$name.status" ] && status=$(cat "$name.status")
+        [ -f "$name.stderr" ] && fault=$(cat "$name.stderr")
+        it "${name#"$top/"}" "$words" "@cat $script" "$status" "$fault" "=${name#"$top/"}"
+        if [ -x "$serial" ] && [ "$words" = script ]; then
+            tpcc=$serial it "${name#"$top/"} on one thread" '' "@cat $script" $((status > 0)) "$fault" "=${name#"$top/"}"
+        fi
+    done
+    . "$top/programs/cases.sh"
+    . "$top/programs/shows.sh"
+}
+
+part_refused() {
+    . "$top/programs/failing.sh"
+    . "$top/programs/refused.sh"
+    echo "programs: $refused_in_all refused allocations and threads"
+}
+
+part_failures() {
+    . "$top/programs/failing.sh"
+    . "$top/programs/failures.sh"
+    echo "programs: $calls_in_all reads and writes that fail or move one byte, $bytes_in_all outputs cut off"
+}
+
+# One part in a folder of its own, where it leaves how many cases passed.
+in_own_folder() {
+    scratch=$scratch/$1
+    mkdir "$scratch"
+    cd "$scratch" || exit 1
+    "part_$1"
+    echo "$run" > passed
+}
 
 begun=$SECONDS
 serial=$top/crates/tpcc_serial/out/tpcc_serial
 [ "${tpcc%.by-rattle}" != "$tpcc" ] && serial=$serial.by-rattle
-for script in "$top"/examples/*.txt "$top"/programs/scripts/*.txt; do
-    name=${script%.txt}
-    words=script
-    status=0
-    fault=
-    [ -f "$name.args" ] && words="script $(tr '\n' ' ' < "$name.args")"
-    [ -f "$name.status" ] && status=$(cat "$name.status")
-    [ -f "$name.stderr" ] && fault=$(cat "$name.stderr")
-    it "${name#"$top/"}" "$words" "@cat $script" "$status" "$fault" "=${name#"$top/"}"
-    if [ -x "$serial" ] && [ "$words" = script ]; then
-        tpcc=$serial it "${name#"$top/"} on one thread" '' "@cat $script" $((status > 0)) "$fault" "=${name#"$top/"}"
-    fi
+parts='cases refused failures'
+for part in $parts; do (in_own_folder $part) > "$scratch/$part.said" 2>&1 & done
+wait
+failed=0
+for part in $parts; do
+    cat "$scratch/$part.said"
+    if [ -f "$scratch/$part/passed" ]; then run=$((run + $(cat "$scratch/$part/passed"))); else failed=$((failed + 1)); fi
 done
-. "$top/programs/cases.sh"
-. "$top/programs/shows.sh"
-. "$top/programs/failures.sh"
-echo "programs: $refused_in_all refused allocations and threads, $calls_in_all reads and writes that fail or move one byte, $bytes_in_all outputs cut off"
-echo "programs: $run passed, 0 failed, in $((SECONDS - begun)) seconds"
+[ $failed -eq 0 ] || trap - EXIT
+echo "programs: $run passed, $failed failed, in $((SECONDS - begun)) seconds"
+exit $((failed > 0))

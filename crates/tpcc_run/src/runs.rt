@@ -16,7 +16,8 @@ use tpcc_book::{Blanks, Naming};
 use tpcc_population::{Opening, Scale};
 use tpcc_screens::Report;
 use tpcc_server::OneTurn;
-use tpcc_threads::{RunContext, RunFault};
+use tpcc_terminal_threads::{RunContext, RunFault};
+use tpcc_threads::RunThreads;
 use tpcc_turns::{Seating, UnnamedTurns};
 
 /// Runs terminals, a delivery runner and the plan's servers on the book of an opening, each in a thread of its own;
@@ -135,15 +136,17 @@ impl<
         ensures settled { IfOk result (λ s. HasTotals turns.opening s.book s.report) }
     {
         let (turns, first) = turns.name::<T>();
-        let context = RunContext {
-            rt: self.rt,
-            alloc: self.alloc,
-            turns: &turns,
-            make: self.make,
-            scale,
-            plan: self.plan,
+        let threads = RunThreads {
+            context: RunContext {
+                rt: self.rt,
+                alloc: self.alloc,
+                turns: &turns,
+                make: self.make,
+                scale,
+                plan: self.plan,
+            },
         };
-        let all = context.run_threads(first);
+        let all = threads.run(first);
         end_run(turns, all)
     }
 }

@@ -1,22 +1,14 @@
-//! The threads of a run: of its terminals, of its delivery runner, and of its servers, if any.
+//! All threads of a run: those that ask, and its servers, if any.
 //!
-//! A `RunContext` is what each of them is lent. `run_threads` starts them, joins each that was started, and gives what came back:
-//! `ThreadResults`, the purses with their terminals' receipts, and the fault that the run is to end with.
+//! `RunThreads::run` makes a mailbox for each that asks and starts the plan's servers, or has each that asks make its own turns; it
+//! joins each thread that was started, and gives what came back.
 //!
-//! The files by the way of a run: `threads` starts and joins all, `server_threads`, `terminal_threads` and `delivery_runner` one kind
-//! each; `routes` makes the routes by which terminals ask; `results` gathers what came back.
+//! The files by the way of a run: `threads` starts and joins all, `server_threads` the servers; `routes` makes the routes by which
+//! terminals ask.
 #![tactic(auto)]
 
-mod context;
-mod delivery_runner;
-mod fault;
-mod promises;
-mod results;
 mod routes;
 mod server_threads;
-mod terminal_threads;
 mod threads;
 
-pub use context::RunContext;
-pub use fault::RunFault;
-pub use results::ThreadResults;
+pub use threads::RunThreads;

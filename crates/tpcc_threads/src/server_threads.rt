@@ -3,13 +3,13 @@ ghost use Rattle.std.specs.Prelude.{◌≡◌, ◌+◌, ◌≤◌, None};
 ghost use Rattle.tpcc_mailbox.specs.Tokens.{identity, serving_origin, serving_hand};
 ghost use Rattle.tpcc_audit.specs.Settlement.{AllSeen, all_receipts};
 
-use crate::context::RunContext;
-use crate::results::ThreadResults;
+use crate::threads::RunThreads;
 use std::alloc::{AllocError, Global};
 use std::sync::Wait;
 use std::thread::{JoinHandle, Scope, Threads};
 use tpcc_book::Naming;
 use tpcc_server::{JobMailboxes, JobServing, OneTurn, OpenGate, serve_until_closed};
+use tpcc_terminal_threads::ThreadResults;
 use tpcc_turns::{SeatedPurse, Seating};
 
 /// The thread of a server, which gives the server's purse back.
@@ -53,7 +53,7 @@ impl<
     C: OneTurn + Send,
     F: Fn(Global) -> Result<C, AllocError> + Sync,
     R: Threads + Wait + Sync,
-> RunContext<'s, N, T, F, R> {
+> RunThreads<'s, N, T, F, R> {
     /// Starts so many servers, each with an empty purse of its own, as many as can be made.
     pub(crate) fn start_servers<E>(
         &'s self,
@@ -68,10 +68,10 @@ impl<
         ensures origin { serving_origin serving.new ≡ identity mailboxes.now }
         ensures room { first.old.purse.room ≤ first.new.purse.room + servers.count }
     {
-        let mut handles = Vec::new(self.alloc);
+        let mut handles = Vec::new(self.context.alloc);
         for number in 0..servers.count {
             let limit = servers.limit(handles.is_empty());
-            let purse = first.split(self.turns, number);
+            let purse = first.split(self.context.turns, number);
             let one = serving.split(mailboxes);
             let started = self.start_server(scope, mailboxes, one, purse, limit);
             keep_started(&mut handles, started);
@@ -94,7 +94,7 @@ impl<
         scope
             .spawn(move || {
                 serve_until_closed(
-                    self.rt, mailboxes, serving, self.turns, OpenGate, limit, purse,
+                    self.context.rt, mailboxes, serving, self.context.turns, OpenGate, limit, purse,
                 )
                 .3
             })

@@ -6,11 +6,8 @@ ghost use Rattle.tpcc_audit.specs.Settlement.{AllSeen, all_receipts};
 ghost use Rattle.tpcc_asked.specs.Plans.{IsService};
 ghost use Rattle.tpcc_asked.specs.declared.plan.TheConstants.{MOST_SERVERS};
 
-use crate::context::RunContext;
-use crate::results::ThreadResults;
 use crate::routes::{by_mailboxes, by_turns};
 use crate::server_threads::{Servers, join_servers};
-use crate::terminal_threads::join_terminals;
 use std::alloc::{AllocError, Global};
 use std::sync::Wait;
 use std::thread;
@@ -20,7 +17,15 @@ use tpcc_book::Naming;
 use tpcc_mailbox::Mailboxes;
 use tpcc_operator::Route;
 use tpcc_server::{Job, JobAnswer, JobIdle, JobMailboxes, JobServing, OneTurn};
+use tpcc_terminal_threads::{RunContext, ThreadResults};
 use tpcc_turns::{SeatedPurse, Seating};
+
+/// All threads of a run, which its plan tells.
+#[derive(Drop)]
+pub struct RunThreads<'r, N: Naming, T: Seating, F, R> {
+    /// What each of them is lent.
+    pub context: RunContext<'r, N, T, F, R>,
+}
 
 impl<
     's,
@@ -29,23 +34,23 @@ impl<
     C: OneTurn + Send,
     F: Fn(Global) -> Result<C, AllocError> + Sync,
     R: Threads + Wait + Sync,
-> RunContext<'s, N, T, F, R> {
+> RunThreads<'s, N, T, F, R> {
     /// Starts all threads, waits for their ends, and gives the purses and receipts that came back. Each receipt stands in one of these
     /// purses. The fault, if any: NoMemory where a growth or a thread was refused, else Missing where a purse did not come back.
-    pub fn run_threads(&self, first: SeatedPurse<N, T>) -> ThreadResults<N, T>
-        requires make { F.IsAlwaysCallable self.now.make.now }
+    pub fn run(&self, first: SeatedPurse<N, T>) -> ThreadResults<N, T>
+        requires make { F.IsAlwaysCallable self.now.context.make.now }
         requires room { first.purse.room ≡ most_purses }
         ensures seen { AllSeen result.purses.items (all_receipts result.receipts.items) }
     {
-        let Some(servers) = servers_of(self.plan.service) else {
+        let Some(servers) = servers_of(self.context.plan.service) else {
             return self.serve_directly(first);
         };
-        let boxes = self.plan.terminals as usize + 1;
-        match Mailboxes::<Job<N, T, C>, JobAnswer<N, T>>::new(self.alloc, boxes) {
+        let boxes = self.context.plan.terminals as usize + 1;
+        match Mailboxes::<Job<N, T, C>, JobAnswer<N, T>>::new(self.context.alloc, boxes) {
             Ok((mailboxes, idles, serving)) => {
                 self.serve_by_servers(&mailboxes, idles, serving, first, servers)
             }
-            Err(_) => ThreadResults::without_memory(self.alloc),
+            Err(_) => ThreadResults::without_memory(self.context.alloc),
         }
     }
 
@@ -60,20 +65,20 @@ impl<
     ) -> ThreadResults<N, T>
         requires idles { All (λ idle. idle_origin idle ≡ identity mailboxes.now) idles.items }
         requires serving { serving_origin serving ≡ identity mailboxes.now }
-        requires room { self.now.plan.terminals + servers.count < first.purse.room }
-        requires make { F.IsAlwaysCallable self.now.make.now }
+        requires room { self.now.context.plan.terminals + servers.count < first.purse.room }
+        requires make { F.IsAlwaysCallable self.now.context.make.now }
         ensures seen { AllSeen result.purses.items (all_receipts result.receipts.items) }
     {
-        let Ok(routes) = by_mailboxes(self.alloc, mailboxes, idles) else {
-            return ThreadResults::without_memory(self.alloc);
+        let Ok(routes) = by_mailboxes(self.context.alloc, mailboxes, idles) else {
+            return ThreadResults::without_memory(self.context.alloc);
         };
         thread::scope(
             thread::scope_env(),
-            self.rt,
+            self.context.rt,
             |scope| -> ThreadResults<N, T>
                 requires serving { serving_origin serving ≡ identity mailboxes.now }
-                requires room { self.now.plan.terminals + servers.count < first.purse.room }
-                requires make { F.IsAlwaysCallable self.now.make.now }
+                requires room { self.now.context.plan.terminals + servers.count < first.purse.room }
+                requires make { F.IsAlwaysCallable self.now.context.make.now }
                 ensures seen { AllSeen result.purses.items (all_receipts result.receipts.items) }
             { self.drive(scope, mailboxes, routes, serving, first, servers) },
         )
@@ -90,8 +95,8 @@ impl<
         servers: Servers,
     ) -> ThreadResults<N, T>
         requires serving { serving_origin serving ≡ identity mailboxes.now }
-        requires room { self.now.plan.terminals + servers.count < first.purse.room }
-        requires make { F.IsAlwaysCallable self.now.make.now }
+        requires room { self.now.context.plan.terminals + servers.count < first.purse.room }
+        requires make { F.IsAlwaysCallable self.now.context.make.now }
         ensures seen { AllSeen result.purses.items (all_receipts result.receipts.items) }
     {
         let mut serving = serving;
@@ -99,56 +104,32 @@ impl<
         let handles = self.start_servers(scope, mailboxes, &mut serving, &mut first, servers);
         let started = handles.len();
         close_unserved(mailboxes, &mut serving, started);
-        let mut all = self.ask_everything(scope, routes, first);
+        let mut all = self.context.ask_everything(scope, routes, first);
         all.note_started(started, servers.count);
         mailboxes.close(&mut serving);
-        join_servers(self.rt, self.alloc, handles, &mut all);
+        join_servers(self.context.rt, self.context.alloc, handles, &mut all);
         all
     }
 
     // Runs all terminals and the delivery runner to their end, each making its own turns.
     fn serve_directly(&self, first: SeatedPurse<N, T>) -> ThreadResults<N, T>
-        requires room { self.now.plan.terminals < first.purse.room }
-        requires make { F.IsAlwaysCallable self.now.make.now }
+        requires room { self.now.context.plan.terminals < first.purse.room }
+        requires make { F.IsAlwaysCallable self.now.context.make.now }
         ensures seen { AllSeen result.purses.items (all_receipts result.receipts.items) }
     {
-        let count = self.plan.terminals as usize + 1;
-        let Ok(routes) = by_turns::<N, T, C>(self.alloc, self.turns, count) else {
-            return ThreadResults::without_memory(self.alloc);
+        let count = self.context.plan.terminals as usize + 1;
+        let Ok(routes) = by_turns::<N, T, C>(self.context.alloc, self.context.turns, count) else {
+            return ThreadResults::without_memory(self.context.alloc);
         };
         thread::scope(
             thread::scope_env(),
-            self.rt,
+            self.context.rt,
             |scope| -> ThreadResults<N, T>
-                requires room { self.now.plan.terminals < first.purse.room }
-                requires make { F.IsAlwaysCallable self.now.make.now }
+                requires room { self.now.context.plan.terminals < first.purse.room }
+                requires make { F.IsAlwaysCallable self.now.context.make.now }
                 ensures seen { AllSeen result.purses.items (all_receipts result.receipts.items) }
-            { self.ask_everything(scope, routes, first) },
+            { self.context.ask_everything(scope, routes, first) },
         )
-    }
-
-    // Starts the threads of all terminals and of the delivery runner, and joins them. What the runner finds queued at
-    // the end it asks for on this thread.
-    fn ask_everything<E>(
-        &'s self,
-        scope: &Scope<'s, E>,
-        routes: Vec<Route<'s, N, T, C>>,
-        first: SeatedPurse<N, T>,
-    ) -> ThreadResults<N, T>
-        requires room { self.now.plan.terminals < first.purse.room }
-        requires make { F.IsAlwaysCallable self.now.make.now }
-        ensures seen { AllSeen result.purses.items (all_receipts result.receipts.items) }
-    {
-        let mut routes = routes;
-        let mut first = first;
-        let mut all = ThreadResults::new(self.alloc);
-        let runner = self.start_runner(scope, routes.pop(), &mut first);
-        let terminals = self.start_terminals(scope, routes, &mut first);
-        all.note_started(terminals.len(), self.plan.terminals);
-        join_terminals(self.rt, terminals, &mut all);
-        self.join_runner(runner, &mut all);
-        all.keep(first, Vec::new(self.alloc));
-        all
     }
 }
 

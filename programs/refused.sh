@@ -1,0 +1,122 @@
+# Allocations and threads that are refused, one in turn, read by run.sh. What may come of a refused allocation is worked out from runs in which
+# nothing fails: the right output; want of memory behind the screens of some first lines; or one request refused for want of memory and the
+# other lines served as if it were not there.
+
+# What the last run came to, in one word.
+outcome() {
+    cat status stderr stdout | cksum | tr ' ' -
+}
+
+# Adds an outcome that is allowed: a status, a line on standard error, and a file with the output.
+allow() {
+    echo "$1" > status
+    if [ -z "$2" ]; then : > stderr; else echo "$2" > stderr; fi
+    cp "$3" stdout
+    allowed[$(outcome)]=1
+}
+
+# The outcomes that are allowed of a script with no fault whose allocations are refused.
+allow_script() {
+    local lines k before words=$2
+    allowed=()
+    lines=$(wc -l < "$1")
+    : > first_part
+    allow 4 'fault 2 NoMemory' first_part
+    for ((k = 0; k <= lines; k++)); do
+        head -n "$k" "$1" | "$tpcc" $words > screens.$k 2> /dev/null
+        allow 4 'fault 7 NoMemory' screens.$k
+    done
+    "$tpcc" $words < "$1" > screens
+    allow 0 '' screens
+    for ((k = 1; k <= lines; k++)); do
+        case "$(sed -n "${k}p" "$1")" in check | results) continue ;; esac
+        sed "${k}d" "$1" | "$tpcc" $words > others
+        before=$(stat -c %s screens.$((k - 1)))
+        { cat screens.$((k - 1)); echo 'refused 16 NoMemory'; tail -c +$((before + 1)) others; } > refused
+        allow 0 '' refused
+    done
+}
+
+declare -A allowed
+refused_in_all=0
+
+# The number of allocations that these words make on no input.
+allocations() {
+    : > stdin
+    failing 'count 0' $1
+    cat hit
+}
+
+# Every so-manieth allocation of a script refused in turn, from one on.
+refuse_script() {
+    local name=$1 words=$2 from=$3 step=$4 call
+    left_out "refused memory: $name" && return
+    allow_script "$top/$name.txt" "$words"
+    cp "$top/$name.txt" stdin
+    for ((call = from; ; call += step)); do
+        failing "alloc $call" $words
+        [ -s hit ] || break
+        if [ -z "${allowed[$(outcome)]:-}" ]; then
+            cp screens stdout.wanted
+            cat stderr
+            differs "refused memory: $name, allocation $call" stdout
+        fi
+        refused_in_all=$((refused_in_all + 1))
+    done
+    run=$((run + 1))
+}
+
+# Of the opening a part; of what comes behind it all, or each third. STEP is the step for all of it.
+behind=$(($(allocations script) + 1))
+refuse_script examples/first_payment script 1 "${STEP:-97}"
+refuse_script examples/first_payment script "$behind" 1
+refuse_script examples/tour script "$behind" 1
+for name in new_order payment order_status delivery stock_level refusals; do
+    refuse_script "examples/$name" script "$behind" "${STEP:-3}"
+done
+refuse_script examples/two_warehouses 'script --warehouses 2' $(($(allocations 'script --warehouses 2') + 1)) "${STEP:-3}"
+
+# A dump whose allocations, or each so-manieth one, are refused in turn: all of it, or want of memory and a first part.
+refuse_dump() {
+    left_out "refused memory: $1" && return
+    local call
+    : > stdin
+    "$tpcc" $1 > whole
+    for ((call = 1; ; call += ${2:-${STEP:-97}})); do
+        failing "alloc $call" $1
+        [ -s hit ] || break
+        : > stderr.wanted
+        cp whole stdout.wanted
+        if [ "$(cat status)" != 0 ]; then
+            echo 'fault 2 NoMemory' > stderr.wanted
+            head -c "$(stat -c %s stdout)" whole > stdout.wanted
+        fi
+        compare "refused memory: $1, allocation $call" "$(wanted_status)"
+        run=$((run - 1))
+        refused_in_all=$((refused_in_all + 1))
+    done
+    run=$((run + 1))
+}
+
+for table in WAREHOUSE DISTRICT CUSTOMER HISTORY ORDER ORDER-LINE NEW-ORDER ITEM STOCK; do refuse_dump "dump $table"; done
+refuse_dump 'dump ITEM --seeded'
+refuse_dump 'requests --cards 24' 1
+
+# A run with such a call: a report of equal amounts, or want of memory and nothing.
+refuse_run() {
+    left_out "$1 refused: $2" && return
+    local call
+    : > stdin
+    for ((call = 1; ; call += $3)); do
+        failing "$1 $call" $2
+        [ -s hit ] || break
+        if [ "$1" = thread ]; then wants_report 'fault 3 NoMemory'; else wants_report 'fault 3 NoMemory' 'fault 2 NoMemory'; fi
+        compare "$1 refused: $2, call $call" "$(wanted_status)"
+        run=$((run - 1))
+        refused_in_all=$((refused_in_all + 1))
+    done
+    run=$((run + 1))
+}
+
+refuse_run alloc 'run --terminals 2 --servers 2 --cards 3' "${STEP:-41}"
+refuse_run thread 'run --terminals 3 --servers 3 --cards 1' 1
