@@ -94,7 +94,13 @@ impl<
         scope
             .spawn(move || {
                 serve_until_closed(
-                    self.context.rt, mailboxes, serving, self.context.turns, OpenGate, limit, purse,
+                    self.context.rt,
+                    mailboxes,
+                    serving,
+                    self.context.turns,
+                    OpenGate,
+                    limit,
+                    purse,
                 )
                 .3
             })
