@@ -1,7 +1,7 @@
 //! The command line as `clap` reads it: its commands, their options, and what help says of each.
 
 use clap::builder::ValueParser;
-use clap::{Arg, ArgAction, Command, value_parser};
+use clap::{Arg, ArgAction, Command};
 use std::alloc::{AllocError, Global};
 use tpcc_asked::{GREATEST_TERMINAL, MOST_CARDS, MOST_SERVERS, MOST_TERMINALS};
 use tpcc_money::Moment;
@@ -24,205 +24,239 @@ const PARTS: &[&str] = &[
     "STOCK",
 ];
 
-// Where the tables begin, which are what `dump` may write.
-const FIRST_TABLE: usize = 5;
+// What `dump` may write.
+const TABLES: &[&str] = &[
+    "WAREHOUSE",
+    "DISTRICT",
+    "CUSTOMER",
+    "HISTORY",
+    "ORDER",
+    "ORDER-LINE",
+    "NEW-ORDER",
+    "ITEM",
+    "STOCK",
+];
 
 // The greatest number that `clap` is to let through, where the number is judged when it is read.
 const ANY: i64 = u32::MAX as i64;
 
-// An option whose value is a number, and what help says of it. Help can't take its range from a constant.
+// An option or an argument, and what help says of it. Help can't take a range from a constant.
 #[derive(Clone, Copy)]
-struct NumberOption {
+struct Word {
     name: &'static str,
-    least: i64,
-    greatest: i64,
+    action: ArgAction,
+    value: ValueParser<'static>,
+    value_name: &'static str,
     help: &'static str,
+    // With two hyphens before its name; else it stands alone and has to be there.
+    is_option: bool,
 }
 
-const WAREHOUSES: NumberOption = NumberOption {
-    name: "warehouses",
-    least: 0,
-    greatest: ANY,
-    help: "Warehouses: 1 to 100, else 1",
+const OPENING: &[Word] = &[
+    Word {
+        name: "warehouses",
+        action: ArgAction::Set,
+        value: ValueParser::Signed(0, ANY),
+        value_name: "N",
+        help: "Warehouses: 1 to 100, else 1",
+        is_option: true,
+    },
+    Word {
+        name: "customers",
+        action: ArgAction::Set,
+        value: ValueParser::Signed(0, ANY),
+        value_name: "N",
+        help: "Customers of each district: 10 to 3000 by tens, else 10",
+        is_option: true,
+    },
+    Word {
+        name: "items",
+        action: ArgAction::Set,
+        value: ValueParser::Signed(0, ANY),
+        value_name: "N",
+        help: "Items: 100 to 100000, else 100",
+        is_option: true,
+    },
+    Word {
+        name: "seed",
+        action: ArgAction::Set,
+        value: ValueParser::Unsigned(0, u64::MAX),
+        value_name: "N",
+        help: "From which all is drawn: 0 to 18446744073709551615, else 1",
+        is_option: true,
+    },
+    Word {
+        name: "moment",
+        action: ArgAction::Set,
+        value: ValueParser::Signed(0, Moment::LAST_SECOND as i64),
+        value_name: "N",
+        help: "Seconds since 1970: 0 to 4102444799, else 0",
+        is_option: true,
+    },
+    Word {
+        name: "seeded",
+        action: ArgAction::SetTrue,
+        value: ValueParser::Bool,
+        value_name: "",
+        help: "Draws the opening from the seed; else it is plain",
+        is_option: true,
+    },
+];
+
+const TIME: Word = Word {
+    name: "time",
+    action: ArgAction::SetTrue,
+    value: ValueParser::Bool,
+    value_name: "",
+    help: "Tells on standard error how long the opening and the requests took",
+    is_option: true,
 };
 
-const CUSTOMERS: NumberOption = NumberOption {
-    name: "customers",
-    least: 0,
-    greatest: ANY,
-    help: "Customers of each district: 10 to 3000 by tens, else 10",
+const SHOW: Word = Word {
+    name: "show",
+    action: ArgAction::Append,
+    value: ValueParser::Names(PARTS),
+    value_name: "PART",
+    help: "What goes to standard output, up to 16 times",
+    is_option: true,
 };
 
-const ITEMS: NumberOption = NumberOption {
-    name: "items",
-    least: 0,
-    greatest: ANY,
-    help: "Items: 100 to 100000, else 100",
-};
-
-const MOMENT: NumberOption = NumberOption {
-    name: "moment",
-    least: 0,
-    greatest: Moment::LAST_SECOND as i64,
-    help: "Seconds since 1970: 0 to 4102444799, else 0",
-};
-
-const TERMINALS: NumberOption = NumberOption {
-    name: "terminals",
-    least: 1,
-    greatest: MOST_TERMINALS as i64,
-    help: "Terminals that ask: 1 to 999, else 2",
-};
-
-const SERVERS: NumberOption = NumberOption {
-    name: "servers",
-    least: 1,
-    greatest: MOST_SERVERS as i64,
-    help: "Threads that serve: 1 to 16, else 1",
-};
-
-const CARDS: NumberOption = NumberOption {
+const CARDS: Word = Word {
     name: "cards",
-    least: 0,
-    greatest: MOST_CARDS as i64,
+    action: ArgAction::Set,
+    value: ValueParser::Signed(0, MOST_CARDS as i64),
+    value_name: "N",
     help: "Requests of each terminal: 0 to 100000, else 23",
+    is_option: true,
 };
 
-const RETIRE: NumberOption = NumberOption {
-    name: "retire",
-    least: 0,
-    greatest: ANY,
-    help: "Jobs of each server but the first: 0 to 100000, else 0, without end",
-};
+const SCRIPT: &[Word] = &[TIME, SHOW];
 
-const TERMINAL: NumberOption = NumberOption {
-    name: "terminal",
-    least: 1,
-    greatest: GREATEST_TERMINAL as i64,
-    help: "The terminal that asks: 1 to 1000, else 1",
-};
+const DUMP: &[Word] = &[Word {
+    name: "table",
+    action: ArgAction::Set,
+    value: ValueParser::Names(TABLES),
+    value_name: "table",
+    help: "The table whose rows are written",
+    is_option: false,
+}];
 
-fn number_option<'a>(alloc: Global, option: NumberOption) -> Arg<'a> {
-    Arg::new(alloc, option.name)
-        .long(option.name)
-        .action(ArgAction::Set)
-        .value_parser(ValueParser::signed(option.least, option.greatest))
-        .value_name("N")
-        .help(option.help)
+const RUN: &[Word] = &[
+    TIME,
+    Word {
+        name: "terminals",
+        action: ArgAction::Set,
+        value: ValueParser::Signed(1, MOST_TERMINALS as i64),
+        value_name: "N",
+        help: "Terminals that ask: 1 to 999, else 2",
+        is_option: true,
+    },
+    Word {
+        name: "servers",
+        action: ArgAction::Set,
+        value: ValueParser::Signed(1, MOST_SERVERS as i64),
+        value_name: "N",
+        help: "Threads that serve: 1 to 16, else 1",
+        is_option: true,
+    },
+    CARDS,
+    Word {
+        name: "retire",
+        action: ArgAction::Set,
+        value: ValueParser::Signed(0, ANY),
+        value_name: "N",
+        help: "Jobs of each server but the first: 0 to 100000, else 0, without end",
+        is_option: true,
+    },
+    Word {
+        name: "direct",
+        action: ArgAction::SetTrue,
+        value: ValueParser::Bool,
+        value_name: "",
+        help: "Lets each terminal make its own turns, with no server",
+        is_option: true,
+    },
+    SHOW,
+];
+
+const REQUESTS: &[Word] = &[
+    Word {
+        name: "terminal",
+        action: ArgAction::Set,
+        value: ValueParser::Signed(1, GREATEST_TERMINAL as i64),
+        value_name: "N",
+        help: "The terminal that asks: 1 to 1000, else 1",
+        is_option: true,
+    },
+    CARDS,
+];
+
+// A command's name and, behind the words of the opening, its own.
+#[derive(Clone, Copy)]
+struct CommandWords {
+    name: &'static str,
+    words: &'static [Word],
 }
 
-fn seed_option<'a>(alloc: Global) -> Arg<'a> {
-    Arg::new(alloc, "seed")
-        .long("seed")
-        .action(ArgAction::Set)
-        .value_parser(value_parser!(u64))
-        .value_name("N")
-        .help("From which all is drawn: 0 to 18446744073709551615, else 1")
+const COMMANDS: &[CommandWords] = &[
+    CommandWords {
+        name: "script",
+        words: SCRIPT,
+    },
+    CommandWords {
+        name: "dump",
+        words: DUMP,
+    },
+    CommandWords {
+        name: "requests",
+        words: REQUESTS,
+    },
+    CommandWords {
+        name: "run",
+        words: RUN,
+    },
+];
+
+fn placed<'a>(arg: Arg<'a>, word: &Word) -> Arg<'a> {
+    if word.is_option {
+        arg.long(word.name)
+    } else {
+        arg.required(true)
+    }
 }
 
-fn seeded_option<'a>(alloc: Global) -> Arg<'a> {
-    Arg::new(alloc, "seeded")
-        .long("seeded")
-        .action(ArgAction::SetTrue)
-        .help("Draws the opening from the seed; else it is plain")
+fn argument<'a>(alloc: Global, word: &Word) -> Arg<'a> {
+    Arg::new(alloc, word.name)
+        .action(word.action)
+        .value_parser(word.value)
+        .value_name(word.value_name)
+        .help(word.help)
 }
 
-fn direct_option<'a>(alloc: Global) -> Arg<'a> {
-    Arg::new(alloc, "direct")
-        .long("direct")
-        .action(ArgAction::SetTrue)
-        .help("Lets each terminal make its own turns, with no server")
-}
-
-fn show_option<'a>(alloc: Global) -> Arg<'a> {
-    Arg::new(alloc, "show")
-        .long("show")
-        .action(ArgAction::Append)
-        .value_parser(PARTS)
-        .value_name("PART")
-        .help("What goes to standard output, up to 16 times")
-}
-
-fn time_option<'a>(alloc: Global) -> Arg<'a> {
-    Arg::new(alloc, "time")
-        .long("time")
-        .action(ArgAction::SetTrue)
-        .help("Tells on standard error how long the opening and the requests took")
-}
-
-fn table_argument<'a>(alloc: Global) -> Arg<'a> {
-    Arg::new(alloc, "table")
-        .required(true)
-        .action(ArgAction::Set)
-        .value_parser(&PARTS[FIRST_TABLE..])
-        .help("The table whose rows are written")
-}
-
-// The command with an option more, where it was made.
-fn with_option<'a>(
-    command: Result<Command<'a>, AllocError>,
-    option: Arg<'a>,
-) -> Result<Command<'a>, AllocError> {
-    command?.arg(option)
-}
-
-fn with_number<'a>(
+fn with_words<'a>(
     alloc: Global,
-    command: Result<Command<'a>, AllocError>,
-    option: NumberOption,
+    command: Command<'a>,
+    words: &[Word],
 ) -> Result<Command<'a>, AllocError> {
-    with_option(command, number_option(alloc, option))
+    let mut command = command;
+    for word in words {
+        command = command.arg(placed(argument(alloc, word), word))?;
+    }
+    Ok(command)
 }
 
-// A command with the options of the opening.
-fn with_opening<'a>(alloc: Global, name: &'static str) -> Result<Command<'a>, AllocError> {
-    let command = with_number(alloc, Ok(Command::new(alloc, name)), WAREHOUSES);
-    let command = with_number(alloc, command, CUSTOMERS);
-    let command = with_number(alloc, command, ITEMS);
-    let command = with_option(command, seed_option(alloc));
-    let command = with_number(alloc, command, MOMENT);
-    with_option(command, seeded_option(alloc))
-}
-
-fn script_command<'a>(alloc: Global) -> Result<Command<'a>, AllocError> {
-    let command = with_option(with_opening(alloc, "script"), time_option(alloc));
-    with_option(command, show_option(alloc))
-}
-
-fn dump_command<'a>(alloc: Global) -> Result<Command<'a>, AllocError> {
-    with_option(with_opening(alloc, "dump"), table_argument(alloc))
-}
-
-fn run_command<'a>(alloc: Global) -> Result<Command<'a>, AllocError> {
-    let command = with_option(with_opening(alloc, "run"), time_option(alloc));
-    let command = with_number(alloc, command, TERMINALS);
-    let command = with_number(alloc, command, SERVERS);
-    let command = with_number(alloc, command, CARDS);
-    let command = with_number(alloc, command, RETIRE);
-    let command = with_option(command, direct_option(alloc));
-    with_option(command, show_option(alloc))
-}
-
-fn requests_command<'a>(alloc: Global) -> Result<Command<'a>, AllocError> {
-    let command = with_number(alloc, with_opening(alloc, "requests"), TERMINAL);
-    with_number(alloc, command, CARDS)
-}
-
-// The program with a command more, where that was made.
-fn with_command<'a>(
-    program: Command<'a>,
-    command: Result<Command<'a>, AllocError>,
-) -> Result<Command<'a>, AllocError> {
-    program.subcommand(command?)
+fn command<'a>(alloc: Global, its: &CommandWords) -> Result<Command<'a>, AllocError> {
+    let command = with_words(alloc, Command::new(alloc, its.name), OPENING)?;
+    with_words(alloc, command, its.words)
 }
 
 /// The program's words, as `clap` reads them.
 pub(crate) fn program<'a>(alloc: Global) -> Result<Command<'a>, AllocError> {
-    let program = Command::new(alloc, "tpcc")
+    let mut program = Command::new(alloc, "tpcc")
         .version("0.1.0")
         .subcommand_required(true);
-    let program = with_command(program, script_command(alloc))?;
-    let program = with_command(program, dump_command(alloc))?;
-    let program = with_command(program, requests_command(alloc))?;
-    with_command(program, run_command(alloc))
+    for its in COMMANDS {
+        program = program.subcommand(command(alloc, its)?)?;
+    }
+    Ok(program)
 }
