@@ -90,9 +90,7 @@ parted b r n ds os ls ns h lt = h.parts (h.opened (omega (arith, lt)))
 pub opening-more : {T : Type 0} (old now new : PartsView T) (ds : List DistrictRow) (n : ℕ) (d : DistrictRow) → IsOpening old now ds n → n < length ds → d ≡ get_or ds n d → new.rows ≡ now.rows → new.room ≡ now.room → KeepsOwners now.owners new.owners → has_owner new.owners (district_key d) ≡ true → IsOpening old new ds (n + 1)
 opening-more old now new ds n d h lt is rows room keeps has =
     record {
-      rows = rows ∙ h.rows;
-      room = room ∙ h.room;
-      kept = λ k e. keeps k (h.kept k e);
+      kept = record { rows = rows ∙ h.kept.rows; room = room ∙ h.kept.room; owners = λ k e. keeps k (h.kept.owners k e) };
       opened =
           ap (is_open new.owners) (take_more ds n d lt ∙ ap (λ x. take n ds ++ x ∷ []) (sym is))
           ∙ list_all-append (λ x. has_owner new.owners (district_key x)) (take n ds) (d ∷ [])

@@ -29,9 +29,13 @@ pub record IsReady (b : Bool) (r : ℕ) (ds : List DistrictRow) (os : PartsView 
   pub opened : 0 < r → b ≡ true
   pub room : 0 < r → HasRoomForOrder r os ls ns
 
--- parts while one is opened for each of the districts up to a place
-pub record IsOpening {T : Type 0} (old new : PartsView T) (ds : List DistrictRow) (n : ℕ) : Type 0 where
+-- parts of which none is lost, with the same rows and room
+pub record IsKept {T : Type 0} (old new : PartsView T) : Type 0 where
   pub rows : new.rows ≡ old.rows
   pub room : new.room ≡ old.room
-  pub kept : (k : List ℕ) → has_owner old.owners k ≡ true → has_owner new.owners k ≡ true
+  pub owners : (k : List ℕ) → has_owner old.owners k ≡ true → has_owner new.owners k ≡ true
+
+-- parts while one is opened for each of the districts up to a place
+pub record IsOpening {T : Type 0} (old new : PartsView T) (ds : List DistrictRow) (n : ℕ) : Type 0 where
+  pub kept : IsKept old new
   pub opened : is_open new.owners (take n ds) ≡ true

@@ -1,18 +1,14 @@
 //! Room for the rows of orders to come.
-ghost use Rattle.std.specs.Prelude.{◌≡◌, ◌≤◌, ℕ, List, OnOk, true};
-ghost use Rattle.tpcc_keyed.specs.Parts.{has_owner};
-ghost use Rattle.tpcc_tables.specs.Ready.{is_open};
+ghost use Rattle.std.specs.Prelude.{◌≡◌, ◌≤◌, OnOk, true};
+ghost use Rattle.tpcc_tables.specs.Ready.{is_open, IsKept, IsOpen};
 
 use tpcc_keyed::{Owned, Parts};
 use tpcc_money::NoMemory;
-use tpcc_rows::{DistrictKey, DistrictRow};
+use tpcc_rows::{DistrictKey, DistrictRow, NewOrderRow, OrderLineRow, OrderRow};
 
-/// A part for each of the districts. A refused growth leaves the rows and their room as they were.
-pub fn open_all<T: Owned>(parts: &mut Parts<T>, districts: &[DistrictRow]) -> Result<(), NoMemory>
-    ensures rows { parts.new.rows ≡ parts.old.rows }
-    ensures room { parts.new.room ≡ parts.old.room }
-    ensures kept { (k : List ℕ)
-        → has_owner parts.old.owners k ≡ true → has_owner parts.new.owners k ≡ true }
+// A part for each of the districts.
+fn open_all<T: Owned>(parts: &mut Parts<T>, districts: &[DistrictRow]) -> Result<(), NoMemory>
+    ensures kept { IsKept parts.old parts.new }
     ensures opened { OnOk result (is_open parts.new.owners districts.now ≡ true) }
 {
     for district in districts {
@@ -22,6 +18,23 @@ pub fn open_all<T: Owned>(parts: &mut Parts<T>, districts: &[DistrictRow]) -> Re
         })?;
     }
     Ok(())
+}
+
+/// A part of each of the three tables for each of the districts. A refused growth leaves the rows and their room as they were.
+pub fn open(
+    orders: &mut Parts<OrderRow>,
+    lines: &mut Parts<OrderLineRow>,
+    news: &mut Parts<NewOrderRow>,
+    districts: &[DistrictRow],
+) -> Result<(), NoMemory>
+    ensures orders { IsKept orders.old orders.new }
+    ensures lines { IsKept lines.old lines.new }
+    ensures news { IsKept news.old news.new }
+    ensures opened { OnOk result (IsOpen districts.now orders.new lines.new news.new) }
+{
+    open_all(orders, districts)?;
+    open_all(lines, districts)?;
+    open_all(news, districts)
 }
 
 /// Room for so many rows more in each part. Where there is less, room is made for many orders at

@@ -34,10 +34,12 @@ impl Tables {
         ensures payments { self.new.payment_room ≡ self.old.payment_room }
     {
         if !self.are_open {
-            let districts = self.districts.as_slice();
-            rooms::open_all(&mut self.orders, districts)?;
-            rooms::open_all(&mut self.order_lines, districts)?;
-            rooms::open_all(&mut self.new_orders, districts)?;
+            rooms::open(
+                &mut self.orders,
+                &mut self.order_lines,
+                &mut self.new_orders,
+                self.districts.as_slice(),
+            )?;
             self.are_open = true;
         }
         rooms::make(&mut self.orders, 1, SPARE_ORDERS)?;
