@@ -3,6 +3,7 @@ mod WorkedAmounts
 mod WorkedOpening
 mod WorkedPayments
 mod WorkedOrders
+mod WorkedWarehouses
 mod WorkedLookups
 mod WorkedDeliveries
 mod WrongBodies

@@ -1,10 +1,8 @@
 -- Orders of the small opening, computed.
 use Rattle.std.proofs.Common.{◌≡◌, refl, ℕ, List, [], ◌∷◌, ◌++◌}
-use Rattle.std.specs.Prelude.{pos, neg_ℤ, Some, None, codes, map, false}
+use Rattle.std.specs.Prelude.{pos, Some, None, codes, map}
 use Rattle.tpcc_money.specs.Amounts.{total}
-use Rattle.tpcc_rows.specs.declared.requests.Line.{Line}
 use Rattle.tpcc_rows.specs.declared.requests.Request.{Request}
-use Rattle.tpcc_rows.specs.declared.requests.Who.TheVariants.{Number}
 use Rattle.tpcc_rows.specs.declared.refusals.Refusal.TheVariants.{LineCount, Quantity, NoSupply, OrderNumbers, Count, Total}
 use Rattle.tpcc_rows.specs.declared.refusals.Field.TheVariants.{StockOrders, StockYtd}
 use Rattle.tpcc_rows.specs.declared.replies.Brand.TheVariants.{Original, Generic}
@@ -15,11 +13,10 @@ use Rattle.tpcc_rows.specs.declared.replies.Reply.TheVariants as tell
 use Rattle.tpcc_rows.specs.declared.rows.StockRow.{StockRow}
 use Rattle.tpcc_rows.specs.declared.rows.DistrictRow.{DistrictRow}
 use Rattle.tpcc_rows.specs.Lists.{updated}
-use Rattle.tpcc_rows.specs.Tables.{Rows, State, is_stock, is_district, warehouse_at, district_at, customer_at, order_at, stock_at, lines_of}
+use Rattle.tpcc_rows.specs.Tables.{State, is_stock, is_district, stock_at, lines_of}
 use Rattle.tpcc_rows.specs.Conditions.{first_broken}
-use Rattle.tpcc_rows.specs.Opening.{plain_rows}
 use Rattle.tpcc_rows.specs.Turn.{refusal, state_after, reply_to}
-use Rattle.tpcc_worked.proofs.Small.{all_definitions, opening, orders, pays, line, times}
+use Rattle.tpcc_worked.proofs.Small.{all_definitions, opening, orders, line, times, of_lines, stock_columns}
 
 abbrev five : Request
 five = orders 1 1 1 0 (line 20 1 10 ∷ line 26 1 8 ∷ line 12 1 10 ∷ line 21 1 5 ∷ line 11 1 10 ∷ [])
@@ -64,9 +61,6 @@ fifteen = orders 1 1 1 0 (times 15 (line 1 1 1))
 abbrev after_fifteen : State
 after_fifteen = state_after opening fifteen
 
-abbrev stock_columns : StockRow → List ℕ
-stock_columns s = s.quantity ∷ s.ytd ∷ s.order_count ∷ s.remote_count ∷ []
-
 fifteen_sold : stock_columns (stock_at after_fifteen.rows 1 1) ≡ 87 ∷ 15 ∷ 15 ∷ 0 ∷ []
 unfolding all_definitions
 fifteen_sold = refl
@@ -89,9 +83,6 @@ unfolding all_definitions
 fifteen_consistent = refl
 
 -- what is refused
-abbrev of_lines : List Line → Request
-of_lines lines = orders 1 1 1 0 lines
-
 four_lines : refusal opening (of_lines (times 4 (line 1 1 1))) ≡ Some LineCount
 unfolding all_definitions
 four_lines = refl
@@ -186,44 +177,3 @@ ytd_over = refl
 ytd_full : refusal (with_stock (λ s. record s { ytd = 99999994 })) (of_lines (times 5 (line 1 1 1))) ≡ None
 unfolding all_definitions
 ytd_full = refl
-
--- two warehouses: a line of the other one
-abbrev two : State
-two = record { rows = plain_rows (record { warehouses = 2; customers = 10; items = 100 }); queue = [] }
-
-abbrev remote : Request
-remote = of_lines (line 1 1 1 ∷ line 2 1 1 ∷ line 3 1 1 ∷ line 4 1 1 ∷ line 5 2 3 ∷ [])
-
-abbrev after_remote : State
-after_remote = state_after two remote
-
-remote_order : (order_at after_remote.rows 1 1 11).all_local ≡ false
-unfolding all_definitions
-remote_order = refl
-
-remote_sum : total (λ l. l.amount) (lines_of after_remote.rows 1 1 11) ≡ pos 718
-unfolding all_definitions
-remote_sum = refl
-
-remote_sold : stock_columns (stock_at after_remote.rows 2 5) ≡ 12 ∷ 3 ∷ 1 ∷ 1 ∷ []
-unfolding all_definitions
-remote_sold = refl
-
-abbrev after_remote_payment : Rows
-after_remote_payment = (state_after after_remote (pays 1 2 2 3 (Number 5) 10000 0)).rows
-
-remote_w_ytd : (warehouse_at after_remote_payment 1).ytd ≡ pos 110000
-unfolding all_definitions
-remote_w_ytd = refl
-
-remote_d_ytd : (district_at after_remote_payment 1 2).ytd ≡ pos 20000
-unfolding all_definitions
-remote_d_ytd = refl
-
-remote_balance : (customer_at after_remote_payment 2 3 5).balance ≡ neg_ℤ (pos 11000)
-unfolding all_definitions
-remote_balance = refl
-
-remote_consistent : first_broken after_remote_payment ≡ None
-unfolding all_definitions
-remote_consistent = refl
