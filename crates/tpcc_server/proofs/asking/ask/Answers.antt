@@ -1,5 +1,6 @@
 use Rattle.std.proofs.Common.{rules, ap, ◌∙◌}
 use Rattle.tpcc_mailbox.specs.Tokens.{waiting_origin, waiting_mailbox, waiting_letter}
+use Rattle.tpcc_server.proofs.asking.ask.Goals.{in-None, in-Some+in-Err+then-seen_closed}
 use Rattle.tpcc_server.proofs.asking.ask.Goals as goal
 
 pub collect-requires : goal.collect-requires
@@ -26,3 +27,21 @@ loop-preserved g c = (
 
 pub returns-clause-closed : goal.returns-clause-closed
 returns-clause-closed g c = search rules
+
+pub returns-clause-letter : goal.returns-clause-letter
+returns-clause-letter g c = elim c.match-next.branch [
+  | in-None w ↦ ap waiting_letter w.waiting-is ∙ c.loop.invariant.2
+  | in-Some+in-Err+then-seen_closed w ↦ ap waiting_letter w.waiting-is ∙ w.seen_closed.ensures.letter ∙ ap waiting_letter w.in-Err.ensures.back ∙ c.loop.invariant.2
+]
+
+pub returns-clause-same : goal.returns-clause-same
+returns-clause-same g c = elim c.match-next.branch [
+  | in-None w ↦ (ap waiting_origin w.waiting-is ∙ c.loop.invariant.0, ap waiting_mailbox w.waiting-is ∙ c.loop.invariant.1)
+  | in-Some+in-Err+then-seen_closed w ↦ (
+    ap waiting_origin w.waiting-is ∙ w.seen_closed.ensures.origin ∙ ap waiting_origin w.in-Err.ensures.back ∙ c.loop.invariant.0,
+    ap waiting_mailbox w.waiting-is ∙ w.seen_closed.ensures.mailbox ∙ ap waiting_mailbox w.in-Err.ensures.back ∙ c.loop.invariant.1,
+  )
+]
+
+pub loop-init : goal.loop-init
+loop-init g c = (c.post-waiting.ensures.origin ∙ c.requires.origin, c.post-waiting.ensures.mailbox, c.post-waiting.ensures.letter)

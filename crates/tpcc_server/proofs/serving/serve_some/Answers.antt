@@ -1,4 +1,6 @@
-use Rattle.std.proofs.Common.{rules, arith, refl, ◌∙◌}
+use Rattle.std.proofs.Common.{rules, arith, refl, ap, ◌∙◌}
+use Rattle.tpcc_mailbox.specs.Tokens.{serving_origin, serving_hand, serving_saw_closed, serving_splits, serving_answered}
+use Rattle.tpcc_server.specs.TurnStates.{keeper_in}
 use Rattle.tpcc_server.proofs.Rounds.{one_answer, goes_on}
 use Rattle.tpcc_server.proofs.serving.serve_some.Goals.{in-Some, in_default}
 use Rattle.tpcc_server.proofs.serving.serve_some.Goals as goal
@@ -14,8 +16,26 @@ answer-requires-clause-origin g c = c.take.ensures.origin ∙ c.loop-k.invariant
 
 pub loop-k-preserved : goal.loop-k-preserved
 loop-k-preserved g c = elim c.match-take.branch [
-  | in-Some w ↦ (search rules, search rules, search rules, search rules, search rules, search rules, search rules, one_answer _ _ _ _ _ c.loop-k.k c.loop-k.invariant.7 (search rules) (search rules))
-  | in_default w ↦ (search rules, search rules, search rules, search rules, search rules, search rules, search rules, goes_on _ _ _ _ _ c.loop-k.k _ c.loop-k.invariant.7 (search rules) (search rules) (omega arith))
+  | in-Some w ↦ (
+    ap serving_origin w.serving-is ∙ w.answer.ensures.origin ∙ c.take.ensures.origin ∙ c.loop-k.invariant.0,
+    ap serving_hand w.serving-is ∙ w.answer.ensures.free,
+    ap serving_saw_closed w.serving-is ∙ w.answer.ensures.closed ∙ c.take.ensures.closed ∙ c.loop-k.invariant.2,
+    ap serving_splits w.serving-is ∙ w.answer.ensures.splits ∙ c.take.ensures.splits ∙ c.loop-k.invariant.3,
+    omega (arith, w.served-is, c.loop-k.invariant.4),
+    omega (arith, w.served-is, c.loop-k.invariant.5, c.if-served-most.false),
+    ap keeper_in w.state-is ∙ w.pass_after-state.ensures.keeper ∙ w.run_held-held.ensures.keeper ∙ w.hold.ensures.keeper ∙ w.pass_before-before.ensures.keeper ∙ c.loop-k.invariant.6,
+    one_answer _ _ _ _ _ c.loop-k.k c.loop-k.invariant.7 (search rules) w.served-is,
+  )
+  | in_default w ↦ (
+    ap serving_origin w.serving-is ∙ c.take.ensures.origin ∙ c.loop-k.invariant.0,
+    search rules,
+    ap serving_saw_closed w.serving-is ∙ c.take.ensures.closed ∙ c.loop-k.invariant.2,
+    ap serving_splits w.serving-is ∙ c.take.ensures.splits ∙ c.loop-k.invariant.3,
+    omega (arith, w.served-is, c.loop-k.invariant.4),
+    omega (arith, w.served-is, c.loop-k.invariant.5),
+    ap keeper_in w.state-is ∙ c.loop-k.invariant.6,
+    goes_on _ _ _ _ _ c.loop-k.k _ c.loop-k.invariant.7 (ap serving_answered w.serving-is ∙ c.take.ensures.answered) w.served-is (omega arith),
+  )
 ]
 
 pub returns-clause-kept : goal.returns-clause-kept
