@@ -2,4 +2,4 @@ use Rattle.std.proofs.Common.{rules}
 use Rattle.tpcc_tables.proofs.tables.Tables.newest_order.Goals as goal
 
 pub returns : goal.returns
-returns c = rw (← c.self.view_is) c.newest_order.ensures
+returns c = search rules
