@@ -1,7 +1,7 @@
--- Where ORIGINAL can't stand.
+-- Where ORIGINAL stands, and where it can't.
 use Rattle.std.proofs.Common.{◌≡◌, ◌∙◌, ℕ, ◌<◌, Bool, true, false, List, [], ◌∷◌, drop, get_or, length, take, take_all, refl, ap, sym, arith}
 use Rattle.std.specs.Prelude.{◌&&◌, ◌||◌, codes, nat_eq}
-use Rattle.std.specs.List.{list_any}
+use Rattle.std.specs.List.{list_any, starts_with}
 use Rattle.std.specs.Cmp.Lexicographic.{pointwise}
 use Rattle.std.proofs.lemmas.Bool.Decides.{nat_tests}
 use Rattle.tpcc_rows.specs.Lists.{has_text}
@@ -15,6 +15,10 @@ here b q e = λ i. e i && q
 
 next : (b q r : Bool) → b ≡ false → q ≡ r → (b || q) ≡ r
 next b q r e f = (λ i. e i || q) ∙ f
+
+pub at_front : (text xs : List ℕ) → starts_with nat_eq xs text ≡ true → has_text text xs ≡ true
+at_front text [] e = e
+at_front text (x ∷ xs) e = ap (λ b. b || has_text text xs) e
 
 too_few : (text xs : List ℕ) → length xs < length text → pointwise nat_eq text xs ≡ false
 too_few [] xs lt = absurd (omega arith)

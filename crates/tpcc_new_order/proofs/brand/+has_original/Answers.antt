@@ -1,8 +1,10 @@
-use Rattle.std.proofs.Common.{◌∙◌, ◌<◌, ap, length, sym, arith, codes, rules}
+use Rattle.std.proofs.Common.{◌∙◌, ◌<◌, ap, length, sym, arith, codes}
+use Rattle.std.specs.Prelude.{nat_eq}
+use Rattle.std.specs.List.{starts_with}
 use Rattle.std.proofs.lemmas.Bool.Decides.{nat_tests}
 use Rattle.std.proofs.lemmas.List.{take_rest}
 use Rattle.tpcc_rows.specs.Lists.{has_text}
-use Rattle.tpcc_new_order.proofs.Brands.{too_short, later}
+use Rattle.tpcc_new_order.proofs.Brands.{at_front, too_short, later}
 use Rattle.tpcc_new_order.proofs.brand.+has_original.Goals as goal
 
 pub returns-in_default : goal.returns-in_default
@@ -19,4 +21,6 @@ returns-then-not-is_of_original t c =
     ∙ sym (later bytes c.in-Some.eighth.now long c.in-Some.ensures.lookup.1 (sym c.is_of_original.ensures ∙ c.if-not-is_of_original.true))
 
 pub returns-then-starts_with : goal.returns-then-starts_with
-returns-then-starts_with t c = search (rules, c.starts_with.ensures, c.if-starts_with.true)
+returns-then-starts_with t c =
+    let bytes = c.args.bytes.now in
+    sym (at_front (codes "ORIGINAL") bytes (ap (starts_with nat_eq bytes) (sym c.as_slice.ensures) ∙ sym c.starts_with.ensures.value ∙ c.if-starts_with.true))

@@ -6,3 +6,6 @@ returns-in_err-sums c = search rules
 
 pub returns : goal.returns
 returns c = search rules
+
+pub enter_all-requires-clause-before : goal.enter_all-requires-clause-before
+enter_all-requires-clause-before c = c.pay_all.ensures
