@@ -1,4 +1,3 @@
-use Rattle.std.proofs.Common.{◌∙◌, sym}
 use Rattle.tpcc_core.specs.Seats.{is_posted}
 use Rattle.tpcc_core.specs.Hands.{is_empty}
 use Rattle.tpcc_core.proofs.Places.{read_at, test_at_place}
