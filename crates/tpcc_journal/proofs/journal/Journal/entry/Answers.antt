@@ -10,7 +10,7 @@ returns c =
     let j = c.self.inside in
     let kept = c.in_ok-kept.kept.now in
     let found : slice_get j.entries.items c.args.place ≡ Some kept =
-        ap (λ xs. slice_get xs c.args.place) (sym c.deref.ensures.value) ∙ slice_get_read c.deref.result.now _ c.args.place kept refl c.in_ok-kept.ensures.lookup.3.0 c.in_ok-kept.ensures.lookup.1
+    ap (λ xs. slice_get xs c.args.place) (sym c.deref.ensures.value) ∙ slice_get_read c.deref.result.now _ c.args.place kept refl c.in_ok-kept.ensures.lookup.3.0 c.in_ok-kept.ensures.lookup.1
     in
     record {
       entry = (λ i. Some (record { terminal = kept.terminal; number = kept.number; request = kept.request; reply = c.reply.ensures i }))
