@@ -1,15 +1,19 @@
 -- What has a number.
 use Rattle.std.proofs.Common.{◌≡◌, ◌∙◌, sym, ap, refl, ℕ, zero, suc, ◌<◌, List, [], ◌∷◌, length, slice_set, get_or}
-use Rattle.std.specs.Prelude.{Bool, false, Option, Some, None, option_map, unwrap_or, slice_get}
+use Rattle.std.specs.Prelude.{Bool, false, Option, Some, slice_get}
 use Rattle.std.proofs.lemmas.Option.{slice_get_read}
-use Rattle.tpcc_core.specs.Desks.{place_of}
-use Rattle.tpcc_core.specs.Events.{tests_in, tests_at, IsChangedAt}
+use Rattle.tpcc_core.specs.Desks.{place_of, item_in, item, map_or}
+use Rattle.tpcc_core.specs.Events.{tests_at, IsChangedAt}
 
--- it is tested at its place
+-- it is told of and tested at its place
+pub told_at_place : {X Y : Type 0} (none : Y) (f : X → Y) (xs : List X) (number place : ℕ) (was : X)
+    → place_of number (length xs) ≡ Some place → slice_get xs place ≡ Some was → map_or none f (item xs number) ≡ f was
+told_at_place none f xs number place was numbered found =
+    ap (λ o. map_or none f (item_in xs o)) numbered ∙ ap (map_or none f) found
+
 pub test_at_place : {X : Type 0} (test : X → Bool) (xs : List X) (number place : ℕ) (was : X)
     → place_of number (length xs) ≡ Some place → slice_get xs place ≡ Some was → tests_at test xs number ≡ test was
-test_at_place test xs number place was numbered found =
-    ap (tests_in test xs) numbered ∙ ap (λ o. unwrap_or (option_map test o) false) found
+test_at_place = told_at_place false
 
 -- another in its place
 pub change_at_place : {X : Type 0} (xs : List X) (number place : ℕ) (was is new : X)

@@ -9,13 +9,53 @@ use Rattle.tpcc_book.specs.Purses.{PurseView}
 use Rattle.tpcc_core.specs.declared.mailbox.Hand.{Hand}
 use Rattle.tpcc_core.specs.declared.mailbox.Hand.TheVariants as hand
 use Rattle.tpcc_core.specs.declared.mailbox.Mailbox.TheVariants as box
-use Rattle.tpcc_core.specs.Seats.{SeatNow, is_free, is_taken, is_answered}
+use Rattle.tpcc_core.specs.Seats.{SeatNow, is_free, is_posted, is_taken, is_answered}
 use Rattle.tpcc_core.specs.SeatSteps.{mailbox_after_post, seat_after_collect}
-use Rattle.tpcc_core.specs.Hands.{Serves, answer_for}
-use Rattle.tpcc_core.specs.Exchanges.{IsReturned}
+use Rattle.tpcc_core.specs.Hands.{Serves, is_empty, answer_for}
+use Rattle.tpcc_core.specs.Exchanges.{IsHanded, IsReturned}
 use Rattle.tpcc_core.specs.Desks.{DeskNow, place_of}
-use Rattle.tpcc_core.specs.Events.{tests_in, place_in, answer_place, can_answer, IsPostedAt, IsServedBy, IsAnsweredBy, IsCollectedAt}
+use Rattle.tpcc_core.specs.Events.{tests_in, place_in, answer_place, can_answer, IsPostedAt, IsTakenAt, IsServedBy, IsAnsweredBy, IsCollectedAt}
 use Rattle.tpcc_core.proofs.Places.{change_at_place, test_at_place, same_at_place}
+
+-- a letter that is in its mailbox
+pub posted_at : {T E : Type 0} (d : DeskNow) (t place : ℕ) (request : Request) (seat after : SeatNow PurseView) (r : Result T E)
+    → place_of t (length d.seats) ≡ Some place → slice_get d.seats place ≡ Some seat
+    → OnOk r (is_free seat.mailbox ≡ true) → OnOk r (after ≡ record seat { mailbox = mailbox_after_post seat.mailbox request })
+    → OnOk r (IsPostedAt d t request (record d { seats = slice_set d.seats place after }))
+posted_at d t place request seat after (Ok v) numbered found ready is =
+    record { seat = seat; seats = change_at_place d.seats t place seat _ after numbered found is; ready = ready; rest = refl }
+posted_at d t place request seat after (Err e) numbered found ready is = ready
+
+-- an answer that was collected
+pub collected_at : {T E : Type 0} (d : DeskNow) (t place : ℕ) (seat after : SeatNow PurseView) (r : Result T E)
+    → place_of t (length d.seats) ≡ Some place → slice_get d.seats place ≡ Some seat
+    → is_ok r ≡ is_answered seat.mailbox → OnOk r (after ≡ seat_after_collect seat)
+    → OnOk r (IsCollectedAt d t (record d { seats = slice_set d.seats place after }))
+collected_at d t place seat after (Ok v) numbered found ready is =
+    record { seat = seat; ready = sym ready; seats = change_at_place d.seats t place seat _ after numbered found is; rest = refl }
+collected_at d t place seat after (Err e) numbered found ready is = is
+
+empty-hand : (h : Hand PurseView) (b : Bool) → true ≡ is_empty h && b → h ≡ hand.Empty
+empty-hand hand.Empty b h = refl
+empty-hand (hand.Holds terminal letter) b h = absurd cc
+empty-hand (hand.Served terminal answer) b h = absurd cc
+
+-- a letter that is in a hand
+pub taken_at : {T E : Type 0} (d : DeskNow) (s t at place : ℕ) (seat after : SeatNow PurseView) (held holds : Hand PurseView) (r : Result T E)
+    → place_of s (length d.hands) ≡ Some at → slice_get d.hands at ≡ Some held
+    → place_of t (length d.seats) ≡ Some place → slice_get d.seats place ≡ Some seat
+    → is_ok r ≡ is_empty held && is_posted seat.mailbox → OnOk r (IsHanded seat held s t after holds)
+    → OnOk r (IsTakenAt d s t (record d { seats = slice_set d.seats place after; hands = slice_set d.hands at holds }))
+taken_at d s t at place seat after held holds (Ok v) handed held_is numbered found ready is =
+    record {
+      seat = seat;
+      letter = is.letter;
+      ready = is.taken.was;
+      seats = change_at_place d.seats t place seat _ after numbered found is.taken.is;
+      hands = change_at_place d.hands s at hand.Empty _ holds handed (held_is ∙ ap (λ h. Some h) (empty-hand held (is_posted seat.mailbox) ready)) is.held_is;
+      rest = refl;
+    }
+taken_at d s t at place seat after held holds (Err e) handed held_is numbered found ready is = is
 
 -- a served letter
 pub served_by : {T E : Type 0} (d : DeskNow) (s place : ℕ) (held holds : Hand PurseView) (after : Past) (r : Result T E)
@@ -61,6 +101,11 @@ answer_ready d s at place seat held done handed held_is numbered found ready =
     ready ∙ ap (λ b. b && is_taken seat.mailbox) (answer-for held d.seats place numbered) ∙ sym (one ∙ two ∙ three)
 
 -- after an error nothing has changed
+pub seat_same : {T E : Type 0} (d : DeskNow) (place : ℕ) (seat after : SeatNow PurseView) (r : Result T E)
+    → slice_get d.seats place ≡ Some seat → OnErr r (after ≡ seat) → OnErr r (record d { seats = slice_set d.seats place after } ≡ d)
+seat_same d place seat after (Ok v) found same = same
+seat_same d place seat after (Err e) found same = ap (λ ss. record d { seats = ss }) (same_at_place d.seats place seat after found same)
+
 pub served_none : {T E : Type 0} (d : DeskNow) (at : ℕ) (held holds : Hand PurseView) (after : Past) (r : Result T E)
     → slice_get d.hands at ≡ Some held → OnErr r (holds ≡ held) → OnErr r (after ≡ d.book)
     → OnErr r (record d { book = after; hands = slice_set d.hands at holds } ≡ d)
