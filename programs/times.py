@@ -6,6 +6,7 @@ greatest memory of one process in megabytes; then come the forty dearest edits. 
 second of each is not seen. Only the command's own descendants count.
 """
 import collections
+import functools
 import glob
 import os
 import re
@@ -37,10 +38,12 @@ def edit_of(crate, folder):
     """The name of the edit that was made in a copy of the crate, or 'base' of a copy without one."""
     for edit in sorted(glob.glob(f"crates/{crate}/must-fail/*.edit")):
         with open(edit, encoding="utf-8") as it:
-            found = re.search(r"file: (.*)\nold: (.*)\nnew: ?(.*)", it.read())
+            text = it.read()
+        file, changes = re.search(r"file: (.*)", text)[1], re.findall(r"old: (.*)\nnew: ?(.*)", text)
         try:
-            with open(f"crates/{crate}/{found[1]}", encoding="utf-8") as own, open(f"{folder}/{found[1]}", encoding="utf-8") as it:
-                if own.read().replace(found[2], found[3]) == it.read():
+            with open(f"crates/{crate}/{file}", encoding="utf-8") as own, open(f"{folder}/{file}", encoding="utf-8") as it:
+                changed = functools.reduce(lambda it, change: it.replace(*change), changes, own.read())
+                if changed == it.read():
                     return os.path.basename(edit)[: -len(".edit")]
         except OSError:
             return "?"
