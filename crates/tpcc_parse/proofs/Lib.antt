@@ -6,3 +6,4 @@ mod NumeralLaws
 mod PartLaws
 mod WordLaws
 pub mod RequestLaws
+pub mod Faults
