@@ -1,5 +1,5 @@
 use Rattle.std.proofs.Common.{◌≡◌, ◌∙◌, refl, sym, ap, suc, ℕ, ◌+◌, ◌<◌, ◌≤◌, List, [], ◌∷◌, ◌++◌, append_assoc, append-nil, add-one, length, get_or, drop, drop-cons, map, Some, None}
-use Rattle.std.specs.Prelude.{Option, Result, Ok, Err, Bool, true, false, is_ok, is_err, if◌then◌else◌}
+use Rattle.std.specs.Prelude.{Option, Result, Ok, Err, Bool, false, is_ok, is_err, if◌then◌else◌}
 use Rattle.std.proofs.lemmas.List.{drop_all}
 use Rattle.tpcc_rows.specs.declared.requests.Line.{Line}
 use Rattle.tpcc_parse.specs.Reading.{Fails}

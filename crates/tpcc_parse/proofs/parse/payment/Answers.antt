@@ -1,4 +1,4 @@
-use Rattle.std.proofs.Common.{◌≡◌, ◌∙◌, ap, None}
+use Rattle.std.proofs.Common.{◌∙◌, ap}
 use Rattle.tpcc_parse.specs.Script.{payment_of}
 use Rattle.tpcc_parse.proofs.Faults.{passed_up}
 use Rattle.tpcc_parse.proofs.PaymentWords.{seven, payment_read, no_warehouse, no_district, no_customer_warehouse, no_customer_district, no_who, no_amount, no_moment}
