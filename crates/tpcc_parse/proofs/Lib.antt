@@ -1,8 +1,11 @@
 pub mod Parting
+pub mod OrderWords
 pub mod PaymentWords
+pub mod ThreeWords
 pub mod Ordering
 pub mod Names
 mod NumeralLaws
 mod PartLaws
 mod WordLaws
 pub mod RequestLaws
+pub mod Faults

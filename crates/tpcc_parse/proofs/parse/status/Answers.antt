@@ -1,0 +1,25 @@
+use Rattle.std.proofs.Common.{◌∙◌, ap}
+use Rattle.tpcc_parse.specs.Script.{status_of}
+use Rattle.tpcc_parse.proofs.Faults.{passed_up}
+use Rattle.tpcc_parse.proofs.ThreeWords.{three, status_no_warehouse, status_no_district, status_no_who, status_read}
+use Rattle.tpcc_parse.proofs.parse.status.Goals as goal
+
+pub returns-in_err-warehouse : goal.returns-in_err-warehouse
+returns-in_err-warehouse c =
+    passed_up c.from_residual.result c.in_err-warehouse.field-0.0 _ _ c.from_residual.ensures.1 c.in_err-warehouse.ensures.read
+    (λ none. ap status_of (three (λ w. w.now) c.args.words.now _ c.in-len3.len_at_least c.in-len3.len_below) ∙ status_no_warehouse _ _ _ none)
+
+pub returns-in_err-district : goal.returns-in_err-district
+returns-in_err-district c =
+    passed_up c.from_residual-in_err-district.result c.in_err-district.field-0.0 _ _ c.from_residual-in_err-district.ensures.1 c.in_err-district.ensures.read
+    (λ none. ap status_of (three (λ w. w.now) c.args.words.now _ c.in-len3.len_at_least c.in-len3.len_below) ∙ status_no_district _ _ _ c.in_ok-warehouse.warehouse c.in_ok-warehouse.ensures.read none)
+
+pub returns-in_err-who : goal.returns-in_err-who
+returns-in_err-who c =
+    passed_up c.from_residual-in_err-who.result c.in_err-who.field-0.0 _ _ c.from_residual-in_err-who.ensures.1 c.in_err-who.ensures
+    (λ none. ap status_of (three (λ w. w.now) c.args.words.now _ c.in-len3.len_at_least c.in-len3.len_below) ∙ status_no_who _ _ _ c.in_ok-warehouse.warehouse c.in_ok-district.district c.in_ok-warehouse.ensures.read c.in_ok-district.ensures.read none)
+
+pub returns : goal.returns
+returns c =
+    ap status_of (three (λ w. w.now) c.args.words.now _ c.in-len3.len_at_least c.in-len3.len_below)
+    ∙ status_read _ _ _ c.in_ok-warehouse.warehouse c.in_ok-district.district c.in_ok-who.who c.in_ok-warehouse.ensures.read c.in_ok-district.ensures.read c.in_ok-who.ensures
