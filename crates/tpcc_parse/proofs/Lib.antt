@@ -1,7 +1,6 @@
 pub mod Parting
 pub mod OrderWords
 pub mod PaymentWords
-pub mod ThreeWords
 pub mod Ordering
 pub mod Names
 mod NumeralLaws
