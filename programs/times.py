@@ -18,14 +18,14 @@ TICKS = os.sysconf("SC_CLK_TCK")
 
 
 def look(pid):
-    """A process's parent, processor ticks with those of its ended children, peak megabytes, words and folder."""
+    """A process's parent, processor ticks with those of its ended children, when it began, peak megabytes, words and folder."""
     with open(f"/proc/{pid}/stat", encoding="utf-8", errors="replace") as it:
         fields = it.read().rsplit(") ", 1)[1].split()
     with open(f"/proc/{pid}/cmdline", encoding="utf-8", errors="replace") as it:
         words = it.read().split("\0")
     with open(f"/proc/{pid}/status", encoding="utf-8", errors="replace") as it:
         peak = next((int(line.split()[1]) // 1024 for line in it if line.startswith("VmHWM")), 0)
-    return int(fields[1]), sum(int(it) for it in fields[11:15]), peak, words, os.readlink(f"/proc/{pid}/cwd")
+    return int(fields[1]), sum(int(it) for it in fields[11:15]), int(fields[19]), peak, words, os.readlink(f"/proc/{pid}/cwd")
 
 
 def kind_of(words, folder):
@@ -61,18 +61,19 @@ def sample(top, seen, edits):
     for _ in range(8):
         below |= {pid for pid, it in found.items() if it[0] in below}
     for pid in below & found.keys():
-        parent, ticks, peak, words, folder = found[pid]
+        parent, ticks, begun, peak, words, folder = found[pid]
         is_checker = os.path.basename(words[0]) == "rattle" and "--crate-name" in words
-        parent_words = found.get(parent, (0, 0, 0, [""], ""))[3]
+        parent_words = found.get(parent, (0, 0, 0, 0, [""], ""))[4]
         if not is_checker or os.path.basename(parent_words[0]) == "rattle":
             continue
         # What its living children have used comes to it once they end.
         ticks += sum(it[1] for it in found.values() if it[0] == pid)
         crate = words[words.index("--crate-name") + 1]
-        if "/rt-edit" in folder and pid not in edits:
-            edits[pid] = edit_of(crate, folder)
-        old = seen.get(pid, (0, 0, 0, 0))
-        seen[pid] = crate, kind_of(words, folder), max(ticks, old[2]), max(peak, old[3])
+        one = pid, begun  # A number comes again within the hour.
+        if "/rt-edit" in folder and one not in edits:
+            edits[one] = edit_of(crate, folder)
+        old = seen.get(one, (0, 0, 0, 0))
+        seen[one] = crate, kind_of(words, folder), max(ticks, old[2]), max(peak, old[3])
 
 
 def main():
@@ -89,9 +90,9 @@ def main():
         row["peak"] = max(row["peak"], peak)
     for crate, row in rows.items():
         print(f"{crate} proof {row['proof']:.0f} tests {row['tests']:.0f} edits {row['edits']:.0f} tried {row['tried']:.0f} peak {row['peak']:.0f}")
-    for pid in sorted(edits, key=lambda it: -seen[it][2])[:40]:
-        print(f"edit {seen[pid][0]}/{edits[pid]} {seen[pid][2] / TICKS:.0f}")
-    tried = [seen[pid][2] / TICKS for pid, name in edits.items() if name not in ("base", "?")]
+    for one in sorted(edits, key=lambda it: -seen[it][2])[:40]:
+        print(f"edit {seen[one][0]}/{edits[one]} {seen[one][2] / TICKS:.0f}")
+    tried = [seen[one][2] / TICKS for one, name in edits.items() if name not in ("base", "?")]
     print(f"edits: {len(tried)} tried, {sum(tried) / max(len(tried), 1):.1f} each on average")
     used = sum(row[kind] for row in rows.values() for kind in ("proof", "tests", "edits"))
     print(f"all: {time.monotonic() - begun:.0f} seconds, {used:.0f} of processors")
