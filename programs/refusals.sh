@@ -1,13 +1,13 @@
 #!/usr/bin/env bash
-# Each allocation refused in turn under the tests of refused.rt in tpcc_table_tests and tpcc_tests, each of which makes a call, looks that a refused one has
+# Each allocation refused in turn under the tests of refused.rt in three crates of tests, each of which makes a call, looks that a refused one has
 # changed nothing, and makes it again. Prints test by test how many allocations were refused within its call; those before it end the test, and say
 # so. Stops at the first that differs.
 #
-# TESTS are the programs of tests (out/ of the two crates, where `rt ci` leaves them), with spaces between; STEP (1) tries each STEP-th
+# TESTS are the programs of tests (out/ of the three crates, where `rt ci` leaves them), with spaces between; STEP (1) tries each STEP-th
 # allocation alone.
 set -u -o pipefail
 top=$(cd "$(dirname "$0")/.." && pwd)
-programs=("$top/crates/tpcc_table_tests/out/tpcc_table_tests_tests" "$top/crates/tpcc_tests/out/tpcc_tests_tests")
+programs=("$top/crates/tpcc_table_tests/out/tpcc_table_tests_tests" "$top/crates/tpcc_mailbox_tests/out/tpcc_mailbox_tests_tests" "$top/crates/tpcc_tests/out/tpcc_tests_tests")
 [ -z "${TESTS:-}" ] || read -r -a programs <<< "$TESTS"
 for tests in "${!programs[@]}"; do
     [ -x "${programs[tests]}" ] || { echo "refusals: there is no program at ${programs[tests]}; rt test in its crate's folder builds it"; exit 1; }

@@ -9,8 +9,6 @@ mod books;
 #[cfg(test)]
 mod desk;
 #[cfg(test)]
-mod mailboxes;
-#[cfg(test)]
 mod printed;
 #[cfg(test)]
 mod refused;

@@ -1,7 +1,6 @@
 //! Calls whose memory is refused: each answers so, leaves all as it was, and does the same again with memory as it should.
 //! `programs/refusals.sh` runs each of these tests with every allocation refused in turn; as they stand they have ample memory.
 use crate::asked::BEFORE;
-use crate::mailboxes::come_back;
 use crate::terminals::{ask_alike, make_terminal};
 use crate::{books, desk, turns};
 
@@ -39,9 +38,4 @@ fn all_purses_are_settled_and_the_first_counts_among_them(rt: HostRuntime) {
     assert!(rt;
         turns::tell(&rt, rt.alloc(), story).is_ok() || turns::tell(&rt, rt.alloc(), story).is_ok()
     );
-}
-
-#[test]
-fn letters_and_answers_come_back_with_no_server_handed_in(rt: HostRuntime) {
-    come_back(&rt, rt.alloc())
 }

@@ -3,7 +3,6 @@
 ghost use Rattle.std.specs.Prelude.{◌≡◌, All, None};
 ghost use Rattle.tpcc_mailbox.specs.Tokens.{identity, idle_origin, client_origin, serving_origin, serving_hand};
 
-use crate::asked::BEFORE;
 use std::alloc::Global;
 use std::process::Abort;
 use std::sync::atomic::{AtomicBool, Ordering};
@@ -11,6 +10,9 @@ use std::sync::{Arc, Wait};
 use std::thread;
 use std::time::{Clock, Duration};
 use tpcc_mailbox::{Answers, Client, Idle, Kept, Left, Mailboxes, Serving, Taken};
+
+/// Why a test ends that has no memory for what it begins with.
+pub const BEFORE: &str = "memory to begin with";
 
 /// The answer of a number names the number and the server that answered it.
 #[derive(Drop)]
