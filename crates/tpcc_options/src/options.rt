@@ -24,18 +24,8 @@ const PARTS: &[&str] = &[
     "STOCK",
 ];
 
-// What `dump` may write.
-const TABLES: &[&str] = &[
-    "WAREHOUSE",
-    "DISTRICT",
-    "CUSTOMER",
-    "HISTORY",
-    "ORDER",
-    "ORDER-LINE",
-    "NEW-ORDER",
-    "ITEM",
-    "STOCK",
-];
+// Where the tables begin, which are what `dump` may write.
+const FIRST_TABLE: usize = 5;
 
 // The greatest number that `clap` is to let through, where the number is judged when it is read.
 const ANY: i64 = u32::MAX as i64;
@@ -135,7 +125,7 @@ const SCRIPT: &[Word] = &[TIME, SHOW];
 const DUMP: &[Word] = &[Word {
     name: "table",
     action: ArgAction::Set,
-    value: ValueParser::Names(TABLES),
+    value: ValueParser::Names(PARTS),
     value_name: "table",
     help: "The table whose rows are written",
     is_option: false,
@@ -217,11 +207,12 @@ const COMMANDS: &[CommandWords] = &[
     },
 ];
 
+// The one argument is the table of `dump`. A constant can't name a part of another, so what it may be is told here.
 fn placed<'a>(arg: Arg<'a>, word: &Word) -> Arg<'a> {
     if word.is_option {
         arg.long(word.name)
     } else {
-        arg.required(true)
+        arg.required(true).value_parser(&PARTS[FIRST_TABLE..])
     }
 }
 
