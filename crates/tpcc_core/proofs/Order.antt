@@ -1,5 +1,5 @@
 -- A letter or its answer is in one place alone, whatever happens.
-use Rattle.std.proofs.Common.{◌≡◌, ◌∙◌, sym, ap, refl, subst, ℕ, zero, suc, Bool, true, false, ⊎_elim, List, [], ◌∷◌, ◌++◌, length}
+use Rattle.std.proofs.Common.{◌≡◌, ◌∙◌, sym, ap, refl, subst, ℕ, zero, suc, true, false, ⊎_elim, List, [], ◌∷◌, ◌++◌, length}
 use Rattle.std.specs.Prelude.{Option, Some, None, slice_get, ◌↔◌}
 use Rattle.tpcc_rows.specs.declared.requests.Request.{Request}
 use Rattle.tpcc_population.specs.declared.opening.Opening.{Opening}
@@ -14,10 +14,9 @@ use Rattle.tpcc_core.specs.Seats.{SeatNow, is_taken}
 use Rattle.tpcc_core.specs.SeatSteps.{mailbox_after_post, mailbox_after_collect}
 use Rattle.tpcc_core.specs.Desks.{DeskNow, place_of, item_in, item, map_or}
 use Rattle.tpcc_core.specs.Hands.{holds_answer}
-use Rattle.tpcc_core.specs.Events.{tests_in, tests_at, answer_place, can_answer, is_ready, Steps, IsPostedAt, IsTakenAt, IsServedBy, IsAnsweredBy, IsCollectedAt}
+use Rattle.tpcc_core.specs.Events.{tests_in, tests_at, answer_place, can_answer, Steps, IsPostedAt, IsTakenAt, IsServedBy, IsAnsweredBy, IsCollectedAt}
 use Rattle.tpcc_core.specs.Flights.{held_for, taken_by, IsOrdered}
 use Rattle.tpcc_core.specs.OpeningDesk.{seats_of, hands_of, seat_of, opening_desk}
-use Rattle.tpcc_core.specs.Runs.{MovesBy, Passes}
 use Rattle.tpcc_core.proofs.Places.{same-item}
 use Rattle.tpcc_core.proofs.Items.{same_number, was_at, is_at, else_at, map_or_found, map_or_kept}
 

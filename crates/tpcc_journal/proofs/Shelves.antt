@@ -1,5 +1,5 @@
 -- Replies kept by kind, and one more.
-use Rattle.std.proofs.Common.{◌≡◌, ◌∙◌, sym, ap, refl, ℕ, zero, suc, ◌+◌, ◌-◌, ◌<◌, Bool, true, false, List, [], ◌∷◌, ◌++◌, length, map, arith, Option, Some, slice_get}
+use Rattle.std.proofs.Common.{◌≡◌, ◌∙◌, ap, refl, ℕ, zero, suc, ◌+◌, ◌-◌, Bool, true, List, [], ◌∷◌, ◌++◌, length, map, arith, Some, slice_get}
 use Rattle.std.specs.Prelude.{nat_lt, option_map, unwrap_or, count_by, ◌==◌, if◌then◌else◌}
 use Rattle.std.specs.List.{list_all}
 use Rattle.std.proofs.lemmas.Bool.Decides.{nat_tests}
@@ -11,10 +11,9 @@ use Rattle.tpcc_rows.specs.declared.replies.Reply.TheVariants as tell
 use Rattle.tpcc_rows.specs.declared.replies.Entered.TheVariants as entered
 use Rattle.tpcc_rows.specs.declared.replies.Delivery.TheVariants.{NoneQueued}
 use Rattle.tpcc_rows.specs.Replay.{count_of}
-use Rattle.tpcc_journal.specs.declared.kept.KeptReply.{KeptReply}
 use Rattle.tpcc_journal.specs.declared.kept.KeptReply.TheVariants as kept
 use Rattle.tpcc_journal.specs.declared.kept.KeptEntry.{KeptEntry}
-use Rattle.tpcc_journal.specs.Kept.{Kinds, Keeps, is_in, reply_at, reply_in, entry_in}
+use Rattle.tpcc_journal.specs.Kept.{Kinds, Keeps, is_in, reply_at, entry_in}
 
 -- ---- a list, and one that has more behind the same elements
 

@@ -1,26 +1,13 @@
 -- Rows changed one after another, taken out, and put in.
-use Rattle.std.proofs.Common.{◌≡◌, ℕ, zero, suc, ◌+◌, ◌<◌, Bool, true, false, List, [], ◌∷◌, ◌++◌, length, take, drop, get_or, set, refl, sym, ap, ◌∙◌, arith, cond}
-use Rattle.std.specs.Prelude.{find, filter, if◌then◌else◌, not, remove, position, is_some, Some, None, IsOk, OnOk}
-use Rattle.std.specs.declared.result.Result.{Result}
-use Rattle.std.specs.declared.result.Result.TheVariants.{Ok, Err}
-use Rattle.std.specs.List.{list_all, list_any}
+use Rattle.std.proofs.Common.{◌≡◌, ℕ, zero, suc, ◌+◌, ◌<◌, Bool, true, false, List, [], ◌∷◌, ◌++◌, length, take, drop, get_or, refl, sym, ap, ◌∙◌, arith, cond}
+use Rattle.std.specs.Prelude.{find, filter, if◌then◌else◌, not, remove, position, is_some, Some, None}
+use Rattle.std.specs.List.{list_any}
 use Rattle.std.proofs.lemmas.Bool.Decides.{nat_tests}
 use Rattle.std.proofs.lemmas.List.Quantifiers.{position-Some}
 use Rattle.tpcc_rows.specs.Lists.{updated, inserted, inserted_all, is_ascending, key_before}
 use Rattle.tpcc_laws.proofs.List.{has_one, one_of_key, updated_absent, else_taken}
 use Rattle.tpcc_keyed.specs.Searches.{is_same_key}
-use Rattle.tpcc_keyed.proofs.Place.{found_there, none_before}
-
-updated_next : {X : Type 0} (passes : X → Bool) (change : X → X) (xs : List X) (i : ℕ) (x : X) → i < length xs → x ≡ get_or (updated passes change (take i xs) ++ drop i xs) i x → set (updated passes change (take i xs) ++ drop i xs) i (if passes x then change x else x) ≡ updated passes change (take (suc i) xs) ++ drop (suc i) xs
-updated_next passes change [] i x lt e = absurd (omega arith)
-updated_next passes change (y ∷ xs) zero x lt e = ap (λ z. (if passes z then change z else z) ∷ xs) e
-updated_next passes change (y ∷ xs) (suc i) x lt e = ap (λ zs. (if passes y then change y else y) ∷ zs) (updated_next passes change xs i x (omega arith) e)
-
--- the rows up to a place changed, and one more
-pub updated_more : {X : Type 0} (passes : X → Bool) (change : X → X) (xs : List X) (i : ℕ) (x : X) → i < length xs → x ≡ get_or (updated passes change (take i xs) ++ drop i xs) i x → set (updated passes change (take i xs) ++ drop i xs) i (if passes x then change x else x) ≡ updated passes change (take (i + 1) xs) ++ drop (i + 1) xs
-updated_more passes change xs i x lt e =
-    let next : suc i ≡ i + 1 = omega arith in
-    updated_next passes change xs i x lt e ∙ (λ j. updated passes change (take (next j) xs) ++ drop (next j) xs)
+use Rattle.tpcc_keyed.proofs.Place.{found_there}
 
 -- the one row of a key removed
 pub kept_all : {X : Type 0} (passes : X → Bool) (xs : List X) → list_any passes xs ≡ false → filter (λ x. not (passes x)) xs ≡ xs
@@ -42,23 +29,10 @@ removed_row key passes apart xs i d keyed e =
     let at = position-Some passes xs i d e in
     remove_is_filter passes xs i d at.0 at.1 (one_of_key key passes apart xs keyed (ap is_some (found_there passes xs i d e)))
 
-pub unremoved : {X : Type 0} (passes : X → Bool) (xs : List X) → position passes xs ≡ None → xs ≡ filter (λ x. not (passes x)) xs
-unremoved passes xs e = sym (kept_all passes xs (none_before passes xs (list_any passes xs) refl e))
-
 -- new rows put at their places, and one more
 pub one_more_inserted : {X : Type 0} (before : X → X → Bool) (news : List X) (new : X) (xs : List X) → inserted before new (inserted_all before news xs) ≡ inserted_all before (news ++ new ∷ []) xs
 one_more_inserted before [] new xs = refl
 one_more_inserted before (n ∷ news) new xs = one_more_inserted before news new (inserted before n xs)
-
-pub on_ok : {X E P : Type 0} (r : Result X E) → IsOk r → OnOk r P → P
-on_ok (Ok x) is h = h
-on_ok (Err e) is h = cc
-
-pub length_part : {X : Type 0} (passes : X → Bool) (change : X → X) (xs : List X) (i : ℕ) → length (updated passes change (take i xs) ++ drop i xs) ≡ length xs
-length_part passes change [] zero = refl
-length_part passes change [] (suc i) = refl
-length_part passes change (y ∷ xs) zero = refl
-length_part passes change (y ∷ xs) (suc i) = ap suc (length_part passes change xs i)
 
 -- ---- tests that are the same
 
@@ -110,17 +84,3 @@ unfound_updated passes change (x ∷ xs) e =
     let other : passes x ≡ false = grind arith in
     let rest : find passes xs ≡ None = grind arith in
     λ i. sym (else_taken (passes x) (change x) x other) i ∷ unfound_updated passes change xs rest i
-
--- ---- filters of ascending rows
-
-pub filter_within : {X : Type 0} (p q : X → Bool) → ((x : X) → q x ≡ true → p x ≡ true) → (xs : List X) → filter q (filter p xs) ≡ filter q xs
-filter_within p q within [] = refl
-filter_within p q within (x ∷ xs) = grind (arith, within x, filter_within p q within xs)
-
-all-filter : {X : Type 0} (test q : X → Bool) (xs : List X) → list_all test xs ≡ true → list_all test (filter q xs) ≡ true
-all-filter test q [] h = refl
-all-filter test q (x ∷ xs) h = grind (arith, all-filter test q xs)
-
-pub ascending-filter : {X : Type 0} (key : X → List ℕ) (q : X → Bool) (xs : List X) → is_ascending key xs ≡ true → is_ascending key (filter q xs) ≡ true
-ascending-filter key q [] h = refl
-ascending-filter key q (x ∷ xs) h = grind (arith, all-filter (λ later. key_before (key x) (key later)) q xs, ascending-filter key q xs)

@@ -58,18 +58,3 @@ district_later w d (x ∷ u ∷ a) (y ∷ v ∷ b) is h e =
     let f : x ≡ w = cc in
     let g : u ≡ d = cc in
     grind (arith, nat_tests, f, g)
-
--- what stands between two keys of a district is of it too
-pub district_between : (w d : ℕ) (a b c : List ℕ) → take 2 a ≡ w ∷ d ∷ [] → key_before a b ≡ true → key_before b c ≡ true → is_same_key (take 2 c) (w ∷ d ∷ []) ≡ true → is_same_key (take 2 b) (w ∷ d ∷ []) ≡ true
-district_between w d [] b c is h k e = cc
-district_between w d (x ∷ []) b c is h k e = cc
-district_between w d (x ∷ u ∷ a) [] c is h k e = cc
-district_between w d (x ∷ u ∷ a) (y ∷ b) [] is h k e = cc
-district_between w d (x ∷ u ∷ a) (y ∷ b) (z ∷ []) is h k e = grind (arith, nat_tests)
-district_between w d (x ∷ u ∷ a) (y ∷ []) (z ∷ t ∷ c) is h k e =
-    let f : x ≡ w = cc in
-    grind (arith, nat_tests, f)
-district_between w d (x ∷ u ∷ a) (y ∷ v ∷ b) (z ∷ t ∷ c) is h k e =
-    let f : x ≡ w = cc in
-    let g : u ≡ d = cc in
-    grind (arith, nat_tests, f, g)

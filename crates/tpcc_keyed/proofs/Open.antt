@@ -4,7 +4,7 @@ use Rattle.std.specs.Prelude.{All, None, ◌&&◌, ◌||◌, flat_map, if◌then
 use Rattle.std.specs.List.{list_all, list_any}
 use Rattle.std.proofs.lemmas.Bool.Decides.{nat_tests}
 use Rattle.std.proofs.Math.Seq.{map-set_same}
-use Rattle.std.proofs.lemmas.List.Elements.{All-set, AllWithin-kept, AllWithin-more_set, AllWithin-none}
+use Rattle.std.proofs.lemmas.List.Elements.{All-set, AllWithin-kept, AllWithin-more_set}
 use Rattle.std.proofs.lemmas.List.Folds.{flat_map-map}
 use Rattle.tpcc_rows.specs.declared.keys.DistrictKey.{DistrictKey}
 use Rattle.tpcc_rows.specs.Lists.{by_key, inserted, is_ascending}
@@ -109,9 +109,6 @@ module _ {T : Type 0} (old new : List (DistrictPart T)) (same : map owner_and_ro
         roomy = roomy;
         bound = fits;
       }
-
-pub grown_none : {T : Type 0} (room : ℕ) (parts : List (DistrictPart T)) → IsGrown room 0 parts parts
-grown_none room parts = record { same = refl; kept = λ less h. h; first = AllWithin-none (HasRoom room) parts 0 }
 
 module _ {T : Type 0} (room n : ℕ) (old now : List (DistrictPart T)) (grown : IsGrown room n old now) (part changed : DistrictPart T) (lt : n < length now) (here : part ≡ get_or now n part) (owner : changed.owner ≡ part.owner) (rows : changed.rows.items ≡ part.rows.items) (capacity : part.rows.capacity ≤ changed.rows.capacity) where
   still_shown : map owner_and_rows (set now n changed) ≡ map owner_and_rows old

@@ -173,11 +173,3 @@ payment_in_range rows p hm e keyed h =
       items = h.items;
       stocks = h.stocks;
     }
-
--- the note of a payment that nothing refuses
-pub paying_note : (rows : Rows) (p : Payment) → IsKeyed rows → IsInRange rows → payment_refusal rows p ≡ None → are_printable (payment_note p (paying_customer rows p)) ≡ true
-paying_note rows p keyed h e =
-    let f = payment_facts rows p keyed.customers e in
-    let d = found_passes (is_district p.warehouse p.district) is_district_row rows.districts f.district f.district_is h.districts in
-    let c = found_passes (is_customer f.customer.warehouse f.customer.district f.customer.id) is_customer_row rows.customers f.customer f.customer_is h.customers in
-    (λ i. are_printable (payment_note p (f.payer i))) ∙ note_of p f.district f.customer d.0 d.1 c.1 f.amount

@@ -7,10 +7,10 @@ use Rattle.tpcc_rows.specs.declared.requests.Request.TheVariants as ask
 use Rattle.tpcc_rows.specs.Moments.{has_moment_in_range}
 use Rattle.tpcc_rows.specs.Ranges.{is_moment}
 use Rattle.tpcc_rows.specs.Tables.{Rows, State}
-use Rattle.tpcc_rows.specs.WellKeyed.{IsWellKeyed, IsInRange, IsQueueInRange}
+use Rattle.tpcc_rows.specs.WellKeyed.{IsInRange, IsQueueInRange}
 use Rattle.tpcc_rows.specs.NewOrder.{is_rolled_back, order_refusal, after_order}
 use Rattle.tpcc_rows.specs.Turn.{refusal, state_after}
-use Rattle.tpcc_laws.proofs.TurnKeys.{IsSound, turn_is_sound}
+use Rattle.tpcc_laws.proofs.TurnKeys.{IsSound}
 use Rattle.tpcc_laws.proofs.PaymentRanges.{payment_in_range}
 use Rattle.tpcc_laws.proofs.OrderInRange.{order_in_range}
 use Rattle.tpcc_laws.proofs.DeliveryRanges.{run_in_range, ticket_in_range}
@@ -27,8 +27,3 @@ turn_in_range s (ask.Status query) hm e sound h q = (h, q)
 turn_in_range s (ask.Stock query) hm e sound h q = (h, q)
 turn_in_range s (ask.Delivery ticket) hm e sound h q = (h, ticket_in_range s.rows s.queue ticket hm e q)
 turn_in_range s (ask.Deliver at) hm e sound h q = run_in_range s.rows s.queue at hm e sound.keyed h q
-
--- so well-keyed tables stay well-keyed
-pub turn_is_well_keyed : (s : State) (request : Request) → has_moment_in_range request ≡ true → refusal s request ≡ None → IsSound s.rows → IsInRange s.rows → IsQueueInRange s.queue → IsWellKeyed (state_after s request).rows
-turn_is_well_keyed s request hm e sound h q =
-    let k = turn_is_sound s request e sound in record { keyed = k.keyed; parents = k.parents; ranges = (turn_in_range s request hm e sound h q).0 }

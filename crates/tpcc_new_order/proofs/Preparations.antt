@@ -1,17 +1,15 @@
 -- What is prepared of the rows of an order is what the order does and shows.
 use Rattle.std.proofs.Common.{◌≡◌, ◌≤◌, ◌+◌, ℕ, Bool, true, false, List, [], ◌∷◌, length, map, refl, sym, ap, ◌∙◌, arith, None, Option}
-use Rattle.std.specs.Prelude.{◌&&◌, not, is_some, is_none, unwrap_or, if◌then◌else◌}
+use Rattle.std.specs.Prelude.{◌&&◌, not, is_some, is_none, unwrap_or}
 use Rattle.std.specs.List.{list_all, list_any, enumerate_from}
-use Rattle.std.specs.Option.{option_or}
 use Rattle.tpcc_money.specs.Amounts.{order_total, total}
 use Rattle.tpcc_rows.specs.declared.requests.Line.{Line}
 use Rattle.tpcc_rows.specs.declared.requests.Order.{Order}
 use Rattle.tpcc_rows.specs.declared.replies.AcceptedOrder.{AcceptedOrder}
-use Rattle.tpcc_rows.specs.declared.replies.Entered.TheVariants.{Accepted, RolledBack}
 use Rattle.tpcc_rows.specs.Ranges.{is_within, is_district_row, is_moment}
 use Rattle.tpcc_rows.specs.Tables.{Rows, is_district, find_item, find_stock, no_warehouse, no_district, no_customer}
 use Rattle.tpcc_rows.specs.WellKeyed.{IsInRange, IsStocked}
-use Rattle.tpcc_rows.specs.NewOrder.{is_rolled_back, order_refusal, order_refusal_by_input, order_refusal_by_range, order_input_tests, accepted_order, rolled_back_order, amount_of, entered_line, order_reply, rows_after_order, after_order, order_number, order_row, order_line_row, order_line_rows}
+use Rattle.tpcc_rows.specs.NewOrder.{is_rolled_back, order_refusal, order_refusal_by_input, order_input_tests, accepted_order, rolled_back_order, amount_of, entered_line, order_number, order_row, order_line_row, order_line_rows}
 use Rattle.tpcc_laws.proofs.List.{list_all_both}
 use Rattle.tpcc_laws.proofs.Remove.{found_passes}
 use Rattle.tpcc_laws.proofs.PaymentRanges.{district_tells, district_key_is}
@@ -90,9 +88,6 @@ few_lines rows o none =
     (within 5 15 (length o.lines) (not_false (is_within 5 15 (length o.lines)) t.1.1.1.0)).1
 
 -- ---- what an order does
-
-pub entered_rows : (rows : Rows) (o : Order) → is_rolled_back rows o ≡ false → after_order rows o ≡ rows_after_order rows o
-entered_rows rows o b = sym (λ i. if b i then rows else after_order rows o)
 
 pub lines_length : (rows : Rows) (o : Order) (n : ℕ) (ls : List Line) → length (map (λ line. order_line_row rows o line.0 line.1) (enumerate_from n ls)) ≡ length ls
 lines_length rows o n [] = refl

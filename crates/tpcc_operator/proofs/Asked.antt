@@ -1,5 +1,5 @@
 -- Requests that were asked one after another.
-use Rattle.std.proofs.Common.{◌≡◌, ◌∙◌, ℕ, suc, ◌+◌, sym, subst, arith, Bool, true, false}
+use Rattle.std.proofs.Common.{◌≡◌, ℕ, suc, ◌+◌, subst, arith, Bool, true, false}
 use Rattle.tpcc_turns.specs.Seats.{SeatedView}
 use Rattle.tpcc_rows.specs.declared.requests.Request.{Request}
 use Rattle.tpcc_operator.specs.Posts.{Post}

@@ -1,6 +1,6 @@
 -- What a prepared payment is, and what is made of the rows that it names.
 use Rattle.tpcc_rows.specs.declared.limits.TheConstants.{LEAST_PAYMENT, GREATEST_PAYMENT}
-use Rattle.std.specs.Prelude.{◌≡◌, ◌+◌, ◌+ℤ◌, ◌-ℤ◌, ℤ, pos, Bool, not, [], ◌∷◌, List, ℕ, ◌++◌, take, Option, Some, None, if◌then◌else◌, codes, option_map}
+use Rattle.std.specs.Prelude.{◌≡◌, ◌+◌, ◌+ℤ◌, ◌-ℤ◌, ℤ, Bool, not, [], ◌∷◌, List, ℕ, ◌++◌, take, Option, Some, None, if◌then◌else◌, codes, option_map}
 use Rattle.tpcc_rows.specs.declared.rows.HistoryRow.{HistoryRow}
 use Rattle.tpcc_rows.specs.declared.replies.Paid.{Paid}
 use Rattle.tpcc_rows.specs.declared.rows.WarehouseRow.{WarehouseRow}

@@ -1,6 +1,6 @@
 -- 2.5: Payment.
 use Rattle.tpcc_rows.specs.declared.limits.TheConstants.{LEAST_PAYMENT, GREATEST_PAYMENT}
-use Rattle.std.specs.Prelude.{ℕ, ◌+◌, Bool, not, ◌||◌, List, [], ◌∷◌, ◌++◌, take, pos, ◌+ℤ◌, ◌-ℤ◌, is_none, Option, Some, None, unwrap_or, if◌then◌else◌, codes, decimal}
+use Rattle.std.specs.Prelude.{ℕ, ◌+◌, Bool, not, ◌||◌, List, [], ◌∷◌, ◌++◌, take, ◌+ℤ◌, ◌-ℤ◌, is_none, Option, Some, None, unwrap_or, if◌then◌else◌, codes, decimal}
 use Rattle.std.specs.Str.{bytes_eq}
 use Rattle.tpcc_money.specs.Texts.{amount_text}
 use Rattle.tpcc_rows.specs.declared.rows.WarehouseRow.{WarehouseRow}

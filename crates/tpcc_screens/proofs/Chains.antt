@@ -1,14 +1,11 @@
 -- Texts put one behind another.
-use Rattle.std.proofs.Common.{◌≡◌, ◌∙◌, ap, sym, subst, ℕ, List, [], ◌++◌, append_assoc, append-nil}
+use Rattle.std.proofs.Common.{◌≡◌, ◌∙◌, ap, subst, ℕ, List, ◌++◌, append_assoc}
 use Rattle.std.specs.Prelude.{Result, Ok, Err, OnOk}
 use Rattle.tpcc_screens.specs.Adding.{Adds}
 
 -- a text, and a tail behind it
 pub behind : {old mid new text tail : List ℕ} → Adds old mid text → Adds mid new tail → Adds old new (text ++ tail)
 behind {old = old} {text = text} {tail = tail} e f = record { whole = f.whole ∙ ap (λ z. z ++ tail) e.whole ∙ append_assoc old text tail }
-
-pub nothing : (old : List ℕ) → Adds old old []
-nothing old = record { whole = sym (append-nil old) }
 
 -- the same text in other words
 pub told : {E : Type 0} (old new text said : List ℕ) (r : Result (Unit {0}) E) → text ≡ said → OnOk r (Adds old new text) → OnOk r (Adds old new said)

@@ -13,9 +13,8 @@ use Rattle.tpcc_parse.specs.declared.fault.ScriptFault.TheVariants.{Bad, Cut, Lo
 use Rattle.tpcc_script.specs.ScriptBook.{ScriptBook}
 use Rattle.tpcc_script.specs.Run.{Shows, HasServed}
 use Rattle.tpcc_parse.specs.Script.{parts_of, with_byte, lines_say, rest_says, then_says, call_of, ends, fails}
-use Rattle.tpcc_script.specs.Steps.{says, IsLine, IsRead, IsLineServed, IsAnswered, IsStopped, IsFault}
+use Rattle.tpcc_script.specs.Steps.{says, IsLine, IsRead, IsLineServed, IsStopped, IsFault}
 use Rattle.std.specs.Io.KnownBytes.{Appends}
-use Rattle.tpcc_blocks.specs.Part.{AppendsPart}
 
 -- bytes put before the first part
 abbrev pub onto_all : List ℕ → List (List ℕ) → List (List ℕ)
@@ -178,10 +177,6 @@ pub unshown_line : (number : ℕ) (bytes line seen : List ℕ) (left : Option (L
     → IsStopped number bytes old new left NoMemory
 unshown_line number bytes line seen left call old new h same e served =
     inr (record { screen = served.screen; served = served_line number bytes line seen left call old new served.screen h same e served.shows })
-
-pub broken_line : (number : ℕ) (bytes screen : List ℕ) (o : Option (List ℕ)) (old new : ScriptBook) (left held now : Option (List ℕ)) (waits : List ℕ) → o ≡ Some screen
-    → IsAnswered number bytes old new left (Ok o) → AppendsPart held now (waits ++ screen) → IsFault number bytes old new left held now waits Write
-broken_line number bytes screen o old new left held now waits e h part = inr (record { screen = screen; served = rw e at h; part = part })
 
 -- no screen is given, and all that waited is written
 pub stopped_line : (number : ℕ) (bytes : List ℕ) (old new : ScriptBook) (left held now : Option (List ℕ)) (waits : List ℕ) (fault : ScriptFault)

@@ -1,10 +1,10 @@
 -- Texts that were put into blocks one after another.
-use Rattle.std.proofs.Common.{◌≡◌, ◌∙◌, sym, refl, ap, subst, codes, ℕ, ◌+◌, ◌<◌, suc, List, [], ◌∷◌, ◌++◌, append_assoc, append-nil, length, get_or, take, drop, arith}
+use Rattle.std.proofs.Common.{◌≡◌, ◌∙◌, sym, ap, subst, codes, ℕ, ◌+◌, suc, List, [], ◌∷◌, ◌++◌, append_assoc, append-nil, take, drop, arith}
 use Rattle.std.specs.Prelude.{Option, Some, Result, OnOk, OnErr, flat_map, slice_get}
 use Rattle.std.proofs.Math.Seq.{take-suc}
 use Rattle.std.proofs.lemmas.List.{take-append-drop}
 use Rattle.std.proofs.lemmas.List.Concat.{flat_map-append}
-use Rattle.std.proofs.lemmas.Option.{slice_get_within, slice_get_read, get_or_from_slice_get}
+use Rattle.std.proofs.lemmas.Option.{slice_get_within, get_or_from_slice_get}
 use Rattle.tpcc_blocks.specs.Part.{AppendsPart, PassesBytes}
 use Rattle.tpcc_blocks.proofs.Parts.{in_turn, cut_first, cut_later, both, both_cut}
 
@@ -14,10 +14,6 @@ one_more xs k x e =
     let z = get_or_from_slice_get xs k x x e in
     let more = rw z at (take-suc xs k x (slice_get_within xs k x e)) in
     rw n more
-
--- what a loop has at a place
-pub at_place : {X : Type 0} (xs : List X) (k : ℕ) (x : X) → k < length xs → x ≡ get_or xs k x → slice_get xs k ≡ Some x
-at_place xs k x less is = slice_get_read xs (length xs) k x refl less is
 
 next_text : {X : Type 0} (f : X → List ℕ) (xs : List X) (k : ℕ) (x : X) → slice_get xs k ≡ Some x
     → flat_map f (take k xs) ++ f x ≡ flat_map f (take (k + 1) xs)

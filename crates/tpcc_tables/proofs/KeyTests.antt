@@ -60,6 +60,3 @@ customers_apart w d k a b ea eb = grind (arith, nat_tests)
 
 pub orders_apart : (w d o : ℕ) (a b : OrderRow) → is_order w d o a ≡ true → is_order w d o b ≡ true → key_before (order_key a) (order_key b) ≡ false
 orders_apart w d o a b ea eb = grind (arith, nat_tests)
-
-pub new_orders_apart : (w d o : ℕ) (a b : NewOrderRow) → is_new_order w d o a ≡ true → is_new_order w d o b ≡ true → key_before (new_order_key a) (new_order_key b) ≡ false
-new_orders_apart w d o a b ea eb = grind (arith, nat_tests)

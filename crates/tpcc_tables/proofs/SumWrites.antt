@@ -79,9 +79,6 @@ delivered_rows rows w d o carrier at s are =
 lines_apart : (w d o x y z u v n : ℕ) → ((x == w) && (y == d) && (z == o)) ≡ false → ((u == w) && (v == d) && (n == o)) ≡ true → ((u == x) && (v == y) && (n == z)) ≡ false
 lines_apart w d o x y z u v n other here = grind (arith, nat_tests)
 
-lines_same : (w d o x y z u v n : ℕ) → ((x == w) && (y == d) && (z == o)) ≡ true → ((u == w) && (v == d) && (n == o)) ≡ true → ((u == x) && (v == y) && (n == z)) ≡ true
-lines_same w d o x y z u v n this here = grind (arith, nat_tests)
-
 -- the lines that are delivered, and those that are not
 either_way : (a b : Bool) (v t s u : ℤ) → t ≡ s +ℤ u → (if a then v +ℤ t else t) ≡ (if a && b then v +ℤ s else s) +ℤ (if a && beq b false then v +ℤ u else u)
 either_way true true v t s u e = omega (arith, ints)

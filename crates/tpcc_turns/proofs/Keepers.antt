@@ -1,5 +1,5 @@
 -- The steps of a held turn, put together.
-use Rattle.std.proofs.Common.{◌≡◌, ℕ, ◌+◌, ◌%◌, ◌^◌, ◌<◌, List, [], ◌∷◌, refl, sym, ap, ◌∙◌, subst, Some, arith}
+use Rattle.std.proofs.Common.{◌≡◌, ℕ, ◌%◌, ◌^◌, ◌<◌, List, [], ◌∷◌, refl, sym, ap, ◌∙◌, subst, Some, arith}
 use Rattle.std.specs.Prelude.{Option, None, Result}
 use mathlib.Core.Option.{some}
 use mathlib.Core.List.{IsPrefix}
@@ -15,10 +15,10 @@ use Rattle.tpcc_book.specs.Purses.{PurseView}
 use Rattle.tpcc_book.specs.AnswerView.{AnswerView}
 use Rattle.tpcc_book.specs.Serve.{IsServed}
 use Rattle.tpcc_turns.specs.Seats.{SeatedView, view_of, number_of, turn_holder, IsTurned}
-use Rattle.tpcc_turns.specs.Shares.{heard_of, both_of, last_parts, back_of}
+use Rattle.tpcc_turns.specs.Shares.{heard_of, both_of, back_of}
 use Rattle.tpcc_turns.specs.TurnRule.{knows, IsHeard, HasGrown}
 use Rattle.tpcc_turns.specs.TurnSteps.{CanGive, CanShow, CanGrow, HasShown}
-use Rattle.tpcc_turns.specs.Knows.{Knows, Idle, Holds}
+use Rattle.tpcc_turns.specs.Knows.{Knows, Holds}
 use Rattle.tpcc_turns.proofs.Seats.{prefix_self}
 use Rattle.tpcc_turns.proofs.Serves.{own_of, entries_grow, head_same}
 use Rattle.tpcc_turns.proofs.Grows.{base_of}
@@ -90,18 +90,6 @@ growing_of me one w parts old new keeps part is longer =
       longer = longer;
       some_part = omega (arith, part, ap (λ (m : Mine). m.0.parts) is, ap (λ (m : Mine). m.0.parts) keeps);
     }
-
-last_is : (me one two : Mine) (w : Knows) (new : Past) → one ≡ (both_of me.0 w, me.1) → HasShown one new two → last_parts two.0.told ≡ w.parts
-last_is me one two w new is shown =
-    ap (λ (m : Mine). last_parts m.0.told) shown.now_is ∙ ap (λ (m : Mine). last_parts m.0.told) is
-
--- what the other seat knows when it is split off
-pub back : (me one two four : Mine) (w : Knows) (new : Past) (room : ℕ) → one ≡ (both_of me.0 w, me.1) → HasShown one new two → four ≡ (back_of two.0, []) → w.parts ≡ room + 1
-    → four ≡ (knows four.0.start four.0.front (room + 1) Idle [], [])
-back me one two four w new room is shown gone count =
-    let last = last_is me one two w new is shown ∙ count in
-    let here : four ≡ (knows two.0.start two.0.front (room + 1) Idle [], []) = gone ∙ (λ i. (knows two.0.start two.0.front (last i) Idle [], [])) in
-    here ∙ (λ i. (knows (sym here i).0.start (sym here i).0.front (room + 1) Idle [], []))
 
 pub longer_of : (old new : Past) (request : Request) (held : PurseView) (answer : AnswerView PurseView) → IsServed old request held answer new → IsPrefix old.entries new.entries
 longer_of old new request held answer served =

@@ -1,4 +1,5 @@
 use Rattle.std.proofs.Common.{◌∙◌}
+use Rattle.tpcc_population.proofs.Joined.{joined}
 use Rattle.tpcc_population.proofs.filled.plain_lists.Goals as goal
 
 pub returns : goal.returns
@@ -6,16 +7,4 @@ returns c =
     let orders = c.in_ok-orders.ensures in
     let homes = c.in_ok-homes.ensures in
     let goods = c.in_ok-goods.ensures in
-    record {
-      rows = c.join.ensures ∙ (λ i. record {
-        warehouses = homes.warehouses i;
-        districts = homes.districts i;
-        customers = homes.customers i;
-        histories = homes.histories i;
-        orders = orders.orders i;
-        order_lines = orders.lines i;
-        new_orders = orders.new i;
-        items = goods.items i;
-        stocks = goods.stocks i;
-      });
-    }
+    record { rows = c.join.ensures ∙ joined homes.warehouses homes.districts homes.customers homes.histories orders.orders orders.lines orders.new goods.items goods.stocks }
