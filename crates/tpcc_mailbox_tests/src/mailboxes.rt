@@ -12,7 +12,7 @@ use std::time::{Clock, Duration};
 use tpcc_mailbox::{Answers, Client, Idle, Kept, Left, Mailboxes, Serving, Taken};
 
 /// Why a test ends that has no memory for what it begins with.
-pub const BEFORE: &str = "memory to begin with";
+const BEFORE: &str = "memory to begin with";
 
 /// The answer of a number names the number and the server that answered it.
 #[derive(Drop)]
