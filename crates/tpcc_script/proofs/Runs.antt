@@ -203,7 +203,10 @@ goes_at start now new bytes left left_new held sink sink_new waits waits_new num
     goes_on start now new bytes left left_new held sink sink_new waits waits_new number so k
 
 -- before the first line
+pub not_begun : (start : ScriptBook) (script : Script) (sink : Option (List ℕ)) → IsRun start script sink sink start (Err NoMemory)
+not_begun start script None = inl (record { done = []; rest = script.calls; calls_are = refl; wrote = record { text = []; prints = (refl, refl); added = tt } })
+not_begun start script (Some held) =
+    inl (record { done = []; rest = script.calls; calls_are = refl; wrote = record { text = []; prints = (refl, refl); added = sym (append-nil held) } })
+
 pub not_started : (start : ScriptBook) (script : Script) (sink : Option (List ℕ)) → HasRun start script sink sink (Err NoMemory)
-not_started start script None = (start, inl (record { done = []; rest = script.calls; calls_are = refl; wrote = record { text = []; prints = (refl, refl); added = tt } }))
-not_started start script (Some held) =
-    (start, inl (record { done = []; rest = script.calls; calls_are = refl; wrote = record { text = []; prints = (refl, refl); added = sym (append-nil held) } }))
+not_started start script sink = (start, not_begun start script sink)

@@ -117,10 +117,10 @@ fn serve_script<E: Engine, R: Read, W: Write>(
         → IsRun (E.book engine.old) (script_of bytes) (W.contents out.old) (W.contents out.new)
         (E.book engine.new) result }
 {
-    match BufReader::new(alloc, input) {
-        Ok(mut ahead) => serve_lines(alloc, engine, &mut ahead, out, watch),
-        Err(_) => Err(ScriptFault::NoMemory),
-    }
+    let Ok(mut ahead) = BufReader::new(alloc, input) else {
+        return Err(ScriptFault::NoMemory);
+    };
+    serve_lines(alloc, engine, &mut ahead, out, watch)
 }
 
 // Serves all lines of a script.
