@@ -50,7 +50,7 @@ place_is_prefix p (x ∷ xs) (suc i) le h =
 
 -- ---- keys
 
-apart_before : (a b : List ℕ) → key_before a b ≡ true → is_same_key a b ≡ false
+pub apart_before : (a b : List ℕ) → key_before a b ≡ true → is_same_key a b ≡ false
 apart_before [] b h = cc
 apart_before (k ∷ ks) [] h = cc
 apart_before (k ∷ ks) (l ∷ ls) h = grind (arith, nat_tests, apart_before ks ls)
@@ -64,7 +64,7 @@ apart_after (x ∷ a) (y ∷ b) (z ∷ k) h e = grind (arith, nat_tests, apart_a
 -- ---- the row of a key is the first that does not stand before it
 
 -- the row at a place
-at_place : {X : Type 0} (d : X) (xs : List X) (i : ℕ) (o : X) → slice_get xs i ≡ Some o → (i < length xs) × (o ≡ get_or xs i d)
+pub at_place : {X : Type 0} (d : X) (xs : List X) (i : ℕ) (o : X) → slice_get xs i ≡ Some o → (i < length xs) × (o ≡ get_or xs i d)
 at_place d [] i o e = cc
 at_place d (x ∷ xs) zero o e = (omega arith, cc)
 at_place d (x ∷ xs) (suc i) o e = let rest = at_place d xs i o e in (omega (arith, rest.0), rest.1)
@@ -222,10 +222,3 @@ ascending-so_far key (suc n) (new ∷ news) xs h = ascending-so_far key n news (
 pub same_find : {X : Type 0} (p q : X → Bool) → ((x : X) → p x ≡ q x) → (xs : List X) → find p xs ≡ find q xs
 same_find p q same [] = refl
 same_find p q same (x ∷ xs) = λ i. cond (same x i) (Some x) (same_find p q same xs i)
-
-same_prefix : {X : Type 0} (p q : X → Bool) → ((x : X) → p x ≡ q x) → (xs : List X) → position_or_len p xs ≡ position_or_len q xs
-same_prefix p q same [] = refl
-same_prefix p q same (x ∷ xs) = λ i. cond (not (same x i)) (1 + same_prefix p q same xs i) 0
-
-pub same_position : {X : Type 0} (p q : X → Bool) → ((x : X) → p x ≡ q x) → (xs : List X) → position p xs ≡ position q xs
-same_position p q same xs = λ i. cond (nat_lt (same_prefix p q same xs i) (length xs)) (Some (same_prefix p q same xs i)) None

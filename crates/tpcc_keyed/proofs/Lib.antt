@@ -17,3 +17,5 @@ pub mod Run
 pub mod Order
 pub mod Name
 pub mod NameLaws
+pub mod UnderKeys
+pub mod Entered

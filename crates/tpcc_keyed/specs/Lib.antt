@@ -6,3 +6,6 @@ pub mod PartWords
 pub mod PartsView
 pub mod Names
 pub mod Runs
+pub mod MapKeys
+pub mod KeyedRows
+pub mod KeyedRowsView

@@ -5,6 +5,7 @@ ghost use Rattle.tpcc_keyed.specs.Searches.{is_same_key};
 ghost use Rattle.tpcc_keyed.specs.Parts.{district_numbers};
 
 use crate::places;
+use std::hash::Hash;
 use tpcc_rows::{
     CustomerKey, CustomerRow, DistrictKey, DistrictRow, ItemKey, ItemRow, NewOrderKey, NewOrderRow,
     OrderKey, OrderLineKey, OrderLineRow, OrderRow, StockKey, StockRow, WarehouseKey, WarehouseRow,
@@ -15,7 +16,7 @@ pub trait Keyed: Copy {
     ghost use Rattle.std.specs.Prelude.{ℕ, List};
 
     /// The columns of the key alone.
-    type Key;
+    type Key: Copy + Eq + Hash;
 
     /// The key of a row, as the list of its numbers.
     ghost key: { Self → List ℕ };

@@ -3,13 +3,19 @@
 
 pub mod insertion;
 mod keyed;
+mod keyed_rows;
+mod mapped;
 mod names;
 mod order_lines;
 mod parts;
 pub mod places;
+mod row_change;
 mod runs;
 pub mod search;
 
 pub use keyed::{Keyed, Owned};
+pub use keyed_rows::KeyedRows;
+pub use mapped::Mapped;
 pub use names::{CustomerName, Names};
 pub use parts::Parts;
+pub use row_change::RowChange;

@@ -2,7 +2,7 @@
 ghost use Rattle.std.specs.Prelude.{◌≡◌};
 ghost use Rattle.tpcc_tables.specs.Listed.{listed};
 
-use tpcc_keyed::Parts;
+use tpcc_keyed::{KeyedRows, Parts};
 use tpcc_rows::{
     CustomerRow, DistrictRow, HistoryRow, ItemRow, NewOrderRow, OrderLineRow, OrderRow, StockRow,
     WarehouseRow,
@@ -13,11 +13,11 @@ use tpcc_tables::Lists;
 #[derive(Drop)]
 pub(crate) struct HomeLists {
     /// By W_ID.
-    pub warehouses: Vec<WarehouseRow>,
+    pub warehouses: KeyedRows<WarehouseRow>,
     /// By D_W_ID and D_ID: 10 of each warehouse.
-    pub districts: Vec<DistrictRow>,
+    pub districts: KeyedRows<DistrictRow>,
     /// By C_W_ID, C_D_ID and C_ID.
-    pub customers: Vec<CustomerRow>,
+    pub customers: KeyedRows<CustomerRow>,
     /// One of each customer, in the customers' order.
     pub histories: Vec<HistoryRow>,
 }
@@ -37,9 +37,9 @@ pub(crate) struct OrderLists {
 #[derive(Drop)]
 pub(crate) struct GoodsLists {
     /// By I_ID.
-    pub items: Vec<ItemRow>,
+    pub items: KeyedRows<ItemRow>,
     /// By S_W_ID and S_I_ID: one of each item in each warehouse.
-    pub stocks: Vec<StockRow>,
+    pub stocks: KeyedRows<StockRow>,
 }
 
 /// All nine.

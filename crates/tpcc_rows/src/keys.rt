@@ -4,14 +4,14 @@
 //! then the row's own number.
 
 /// W_ID.
-#[derive(Clone, Copy)]
+#[derive(Clone, Copy, PartialEq, Eq, Hash)]
 pub struct WarehouseKey {
     /// W_ID.
     pub warehouse: u32,
 }
 
 /// (D_W_ID, D_ID).
-#[derive(Clone, Copy)]
+#[derive(Clone, Copy, PartialEq, Eq, Hash)]
 pub struct DistrictKey {
     /// D_W_ID.
     pub warehouse: u32,
@@ -20,7 +20,7 @@ pub struct DistrictKey {
 }
 
 /// (C_W_ID, C_D_ID, C_ID).
-#[derive(Clone, Copy)]
+#[derive(Clone, Copy, PartialEq, Eq, Hash)]
 pub struct CustomerKey {
     /// C_W_ID.
     pub warehouse: u32,
@@ -31,7 +31,7 @@ pub struct CustomerKey {
 }
 
 /// (NO_W_ID, NO_D_ID, NO_O_ID).
-#[derive(Clone, Copy)]
+#[derive(Clone, Copy, PartialEq, Eq, Hash)]
 pub struct NewOrderKey {
     /// NO_W_ID.
     pub warehouse: u32,
@@ -42,7 +42,7 @@ pub struct NewOrderKey {
 }
 
 /// (O_W_ID, O_D_ID, O_ID).
-#[derive(Clone, Copy)]
+#[derive(Clone, Copy, PartialEq, Eq, Hash)]
 pub struct OrderKey {
     /// O_W_ID.
     pub warehouse: u32,
@@ -53,7 +53,7 @@ pub struct OrderKey {
 }
 
 /// (OL_W_ID, OL_D_ID, OL_O_ID, OL_NUMBER).
-#[derive(Clone, Copy)]
+#[derive(Clone, Copy, PartialEq, Eq, Hash)]
 pub struct OrderLineKey {
     /// OL_W_ID.
     pub warehouse: u32,
@@ -66,14 +66,14 @@ pub struct OrderLineKey {
 }
 
 /// I_ID.
-#[derive(Clone, Copy)]
+#[derive(Clone, Copy, PartialEq, Eq, Hash)]
 pub struct ItemKey {
     /// I_ID.
     pub item: u32,
 }
 
 /// (S_W_ID, S_I_ID).
-#[derive(Clone, Copy)]
+#[derive(Clone, Copy, PartialEq, Eq, Hash)]
 pub struct StockKey {
     /// S_W_ID.
     pub warehouse: u32,

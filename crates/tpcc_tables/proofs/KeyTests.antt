@@ -49,14 +49,5 @@ new_order_test w d o x = and_three (x.warehouse == w) (x.district == d) (x.order
 pub order_line_test : (w d o n : ℕ) (x : OrderLineRow) → is_it order_line_key (w ∷ d ∷ o ∷ n ∷ []) x ≡ is_order_line w d o n x
 order_line_test w d o n x = and_four (x.warehouse == w) (x.district == d) (x.order == o) (x.number == n)
 
-pub warehouses_apart : (id : ℕ) (a b : WarehouseRow) → is_warehouse id a ≡ true → is_warehouse id b ≡ true → key_before (warehouse_key a) (warehouse_key b) ≡ false
-warehouses_apart id a b ea eb = grind (arith, nat_tests)
-
-pub districts_apart : (w d : ℕ) (a b : DistrictRow) → is_district w d a ≡ true → is_district w d b ≡ true → key_before (district_key a) (district_key b) ≡ false
-districts_apart w d a b ea eb = grind (arith, nat_tests)
-
-pub customers_apart : (w d k : ℕ) (a b : CustomerRow) → is_customer w d k a ≡ true → is_customer w d k b ≡ true → key_before (customer_key a) (customer_key b) ≡ false
-customers_apart w d k a b ea eb = grind (arith, nat_tests)
-
 pub orders_apart : (w d o : ℕ) (a b : OrderRow) → is_order w d o a ≡ true → is_order w d o b ≡ true → key_before (order_key a) (order_key b) ≡ false
 orders_apart w d o a b ea eb = grind (arith, nat_tests)

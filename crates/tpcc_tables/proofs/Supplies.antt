@@ -7,7 +7,7 @@ use Rattle.std.proofs.lemmas.List.Folds.{fold-map}
 use Rattle.tpcc_rows.specs.declared.rows.StockRow.{StockRow}
 use Rattle.tpcc_rows.specs.declared.rows.OrderLineRow.{OrderLineRow}
 use Rattle.tpcc_rows.specs.declared.requests.Line.{Line}
-use Rattle.tpcc_rows.specs.Lists.{updated, key_before, is_ascending}
+use Rattle.tpcc_rows.specs.Lists.{updated, is_ascending}
 use Rattle.tpcc_rows.specs.Ranges.{is_within, is_stock_row, is_text, is_exact_text, greatest_count, greatest_stock_ytd}
 use Rattle.tpcc_rows.specs.Tables.{stock_key}
 use Rattle.tpcc_rows.specs.NewOrder.{quantity_after, stock_after_line, stock_after}
@@ -15,11 +15,13 @@ use Rattle.tpcc_laws.proofs.List.{ascending-updated, list_all-updated, list_all-
 use Rattle.tpcc_laws.proofs.Body.{lines_one_by_one}
 use Rattle.tpcc_rows.proofs.Booleans.{split, both_true}
 use Rattle.tpcc_laws.proofs.Numbers.{within}
+use Rattle.tpcc_keyed.specs.Searches.{is_same_key}
 use Rattle.tpcc_tables.specs.Writes.{line_of}
 use Rattle.tpcc_tables.specs.Supplies.{is_supplied_by, HasRoomFor, is_near}
 
-pub stocks_apart : (l : Line) (a b : StockRow) → is_supplied_by l a ≡ true → is_supplied_by l b ≡ true → key_before (stock_key a) (stock_key b) ≡ false
-stocks_apart l a b ea eb = grind (arith, nat_tests)
+-- the STOCK row of a line has its key
+pub supply_test : (l : Line) (s : StockRow) → is_same_key (stock_key s) (l.supply ∷ l.item ∷ []) ≡ is_supplied_by l s
+supply_test l s = grind (arith, nat_tests)
 
 -- the STOCK rows after one line
 abbrev pub after_line : ℕ → List StockRow → Line → List StockRow

@@ -15,6 +15,11 @@ pub record HasRoomFor (quantity : ℕ) (s : StockRow) : Type 0 where
   pub orders : s.order_count + 1 < 2 ^ 32
   pub remotes : s.remote_count + 1 < 2 ^ 32
 
+-- a line of that quantity, which is small, can be taken
+pub record IsSuppliable (quantity : ℕ) (s : StockRow) : Type 0 where
+  pub small : quantity ≤ 10
+  pub room : HasRoomFor quantity s
+
 -- in range after so many lines, however many of them were its own
 abbrev pub is_near : ℕ → StockRow → Bool
 is_near taken s =

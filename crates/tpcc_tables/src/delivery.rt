@@ -1,5 +1,5 @@
 //! What the delivery of one order changes (2.7.4.2).
-ghost use Rattle.std.specs.Prelude.{unwrap_or, ◌≡◌, ◌+◌, ◌<◌, ◌≤◌, ◌^◌, ◌+ℤ◌, ℕ, ℤ, pos, FitsSigned, find, filter, is_some, if◌then◌else◌, length, not, take, true, Some};
+ghost use Rattle.std.specs.Prelude.{unwrap_or, ◌≡◌, ◌+◌, ◌<◌, ◌≤◌, ◌^◌, ◌+ℤ◌, ℕ, ℤ, pos, FitsSigned, find, filter, is_some, if◌then◌else◌, length, not, take, true, Some, refl};
 ghost use Rattle.std.specs.Bool.{beq};
 ghost use Rattle.std.specs.List.{list_all};
 ghost use Rattle.std.specs.Int.{w64};
@@ -10,12 +10,14 @@ ghost use Rattle.tpcc_rows.specs.Tables.{is_customer, is_new_order, is_order, no
 ghost use Rattle.tpcc_rows.specs.Ranges.{is_order_line_row};
 ghost use Rattle.tpcc_rows.specs.Delivery.{delivered_customer};
 ghost use Rattle.tpcc_tables.specs.Sums.{is_order_amount};
+ghost use Rattle.tpcc_tables.specs.Writes.{IsCreditable};
 
 use crate::find;
-use crate::places::place_of_customer;
-use tpcc_keyed::Parts;
+use tpcc_keyed::{KeyedRows, Parts, RowChange};
 use tpcc_money::Cents;
-use tpcc_rows::{CustomerRow, NewOrderKey, NewOrderRow, OrderKey, OrderLineRow, OrderRow};
+use tpcc_rows::{
+    CustomerKey, CustomerRow, NewOrderKey, NewOrderRow, OrderKey, OrderLineRow, OrderRow,
+};
 
 /// The customer of an order, or 0, which no customer has, where there is no such order.
 pub fn customer_of(rows: &Parts<OrderRow>, warehouse: u32, district: u32, order: u32) -> u32
@@ -102,33 +104,44 @@ pub fn carry(rows: &mut Parts<OrderRow>, warehouse: u32, district: u32, order: u
     }
 }
 
-fn credit(row: &mut CustomerRow, amount: Cents)
-    requires balance { FitsSigned w64 (row.old.balance +ℤ amount) }
-    requires count { row.old.delivery_count + 1 < 2 ^ 32 }
-    ensures { row.new ≡ delivered_customer amount row.old }
-{
-    let balance = row.balance.plus(amount);
-    row.balance = balance;
-    row.delivery_count += 1;
+/// What a delivered order adds to its customer's balance.
+#[derive(Drop)]
+struct Credit {
+    amount: Cents,
+}
+
+impl RowChange<CustomerRow> for Credit {
+    ghost changed = { λ credit. delivered_customer credit.amount };
+
+    ghost fits = { λ credit. IsCreditable credit.amount };
+
+    ghost keeps_key = { λ credit c. refl };
+
+    fn apply(&self, row: &mut CustomerRow) {
+        let balance = row.balance.plus(self.amount);
+        row.balance = balance;
+        row.delivery_count += 1;
+    }
 }
 
 /// The balance of an order's customer raised by its amount, and C_DELIVERY_CNT by 1.
 pub fn charge(
-    rows: &mut Vec<CustomerRow>,
+    rows: &mut KeyedRows<CustomerRow>,
     warehouse: u32,
     district: u32,
     customer: u32,
     amount: Cents,
 )
     requires keyed { is_ascending customer_key rows.old.items ≡ true }
-    requires balance { (c : CustomerRow) → find (is_customer warehouse district customer)
-        rows.old.items ≡ Some c → FitsSigned w64 (c.balance +ℤ amount) }
-    requires count { (c : CustomerRow) → find (is_customer warehouse district customer)
-        rows.old.items ≡ Some c → c.delivery_count + 1 < 2 ^ 32 }
+    requires fits { (c : CustomerRow) → find (is_customer warehouse district customer)
+        rows.old.items ≡ Some c → IsCreditable amount c }
     ensures { rows.new.items ≡ updated
         (is_customer warehouse district customer) (delivered_customer amount) rows.old.items }
 {
-    if let Some(place) = place_of_customer(rows.as_slice(), warehouse, district, customer) {
-        credit(&mut rows[place], amount);
-    }
+    let key = CustomerKey {
+        warehouse,
+        district,
+        customer,
+    };
+    rows.change(&key, &Credit { amount });
 }

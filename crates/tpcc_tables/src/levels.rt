@@ -5,13 +5,14 @@ ghost use Rattle.tpcc_rows.specs.Lists.{distinct, is_ascending};
 ghost use Rattle.tpcc_rows.specs.Tables.{is_stock, stock_key};
 
 use crate::find;
+use tpcc_keyed::KeyedRows;
 use tpcc_rows::{OrderLineRow, StockRow};
 
 /// Whether an item's stock in a warehouse is below a threshold.
-fn is_short(stocks: &[StockRow], warehouse: u32, threshold: u32, item: u32) -> bool
-    requires keyed { is_ascending stock_key stocks.now ≡ true }
-    ensures { result
-        ≡ list_any (λ s. is_stock warehouse item s && nat_lt s.quantity threshold) stocks.now }
+fn is_short(stocks: &KeyedRows<StockRow>, warehouse: u32, threshold: u32, item: u32) -> bool
+    requires keyed { is_ascending stock_key stocks.now.items ≡ true }
+    ensures { result ≡ list_any (λ s. is_stock warehouse item s
+        && nat_lt s.quantity threshold) stocks.now.items }
 {
     match find::stock(stocks, warehouse, item) {
         Some(row) => row.quantity < threshold,
@@ -37,30 +38,30 @@ fn behind(lines: &[OrderLineRow], position: usize) -> &[OrderLineRow]
 /// Whether an item is below the threshold, and none of the later lines orders it too.
 // Few items are low, so that the later lines are looked at for these alone.
 fn is_counted(
-    stocks: &[StockRow],
+    stocks: &KeyedRows<StockRow>,
     warehouse: u32,
     threshold: u32,
     item: u32,
     later: &[OrderLineRow],
 ) -> bool
-    requires keyed { is_ascending stock_key stocks.now ≡ true }
+    requires keyed { is_ascending stock_key stocks.now.items ≡ true }
     ensures { result ≡ list_any (λ s. is_stock warehouse item s && nat_lt s.quantity threshold)
-        stocks.now && not (list_any (λ l. l.item == item) later.now) }
+        stocks.now.items && not (list_any (λ l. l.item == item) later.now) }
 {
     is_short(stocks, warehouse, threshold, item) && !has_item(later, item)
 }
 
 /// How many distinct items of the lines are below the threshold in the warehouse.
 pub fn count_short(
-    stocks: &[StockRow],
+    stocks: &KeyedRows<StockRow>,
     warehouse: u32,
     threshold: u32,
     lines: &[OrderLineRow],
 ) -> u32
-    requires keyed { is_ascending stock_key stocks.now ≡ true }
+    requires keyed { is_ascending stock_key stocks.now.items ≡ true }
     requires few { length lines.now ≤ 300 }
     ensures { result ≡ length (filter (λ item. list_any (λ s. is_stock warehouse item s
-        && nat_lt s.quantity threshold) stocks.now) (distinct (map (λ l. l.item) lines.now))) }
+        && nat_lt s.quantity threshold) stocks.now.items) (distinct (map (λ l. l.item) lines.now))) }
 {
     let mut count = 0;
     for position in 0..lines.len() {

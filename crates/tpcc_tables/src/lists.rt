@@ -1,6 +1,6 @@
 //! Nine lists of rows that stand ready to be tables.
 
-use tpcc_keyed::Parts;
+use tpcc_keyed::{KeyedRows, Parts};
 use tpcc_rows::{
     CustomerRow, DistrictRow, HistoryRow, ItemRow, NewOrderRow, OrderLineRow, OrderRow, StockRow,
     WarehouseRow,
@@ -10,11 +10,11 @@ use tpcc_rows::{
 #[derive(Drop)]
 pub struct Lists {
     /// WAREHOUSE.
-    pub warehouses: Vec<WarehouseRow>,
+    pub warehouses: KeyedRows<WarehouseRow>,
     /// DISTRICT.
-    pub districts: Vec<DistrictRow>,
+    pub districts: KeyedRows<DistrictRow>,
     /// CUSTOMER.
-    pub customers: Vec<CustomerRow>,
+    pub customers: KeyedRows<CustomerRow>,
     /// HISTORY, whose rows have no key: in the order of appending.
     pub histories: Vec<HistoryRow>,
     /// ORDER.
@@ -24,7 +24,7 @@ pub struct Lists {
     /// NEW-ORDER.
     pub new_orders: Parts<NewOrderRow>,
     /// ITEM.
-    pub items: Vec<ItemRow>,
+    pub items: KeyedRows<ItemRow>,
     /// STOCK.
-    pub stocks: Vec<StockRow>,
+    pub stocks: KeyedRows<StockRow>,
 }

@@ -1,29 +1,40 @@
 //! The number of a district's next order.
-ghost use Rattle.std.specs.Prelude.{◌≡◌, ◌+◌, ◌<◌, ◌^◌, find, true, Some};
+ghost use Rattle.std.specs.Prelude.{◌≡◌, ◌+◌, ◌<◌, ◌^◌, find, true, Some, refl};
 ghost use Rattle.tpcc_rows.specs.declared.rows.DistrictRow.{DistrictRow};
 ghost use Rattle.tpcc_rows.specs.Lists.{updated, is_ascending};
 ghost use Rattle.tpcc_rows.specs.Tables.{is_district, district_key};
 ghost use Rattle.tpcc_rows.specs.NewOrder.{with_next_order};
 
-use crate::places::place_of_district;
-use tpcc_rows::DistrictRow;
+use tpcc_keyed::{KeyedRows, RowChange};
+use tpcc_rows::{DistrictKey, DistrictRow};
 
-fn raise(row: &mut DistrictRow)
-    requires { row.old.next_order + 1 < 2 ^ 32 }
-    ensures { row.new ≡ with_next_order row.old }
-{
-    row.next_order += 1;
+/// D_NEXT_O_ID raised by one.
+#[derive(Drop)]
+struct Rise;
+
+impl RowChange<DistrictRow> for Rise {
+    ghost changed = { λ rise. with_next_order };
+
+    ghost fits = { λ rise d. d.next_order + 1 < 2 ^ 32 };
+
+    ghost keeps_key = { λ rise d. refl };
+
+    fn apply(&self, row: &mut DistrictRow) {
+        row.next_order += 1;
+    }
 }
 
 /// The next order number of a district raised by one.
-pub fn raise_next_order(rows: &mut Vec<DistrictRow>, warehouse: u32, district: u32)
+pub fn raise_next_order(rows: &mut KeyedRows<DistrictRow>, warehouse: u32, district: u32)
     requires keyed { is_ascending district_key rows.old.items ≡ true }
     requires fits { (d : DistrictRow) → find (is_district warehouse district) rows.old.items
         ≡ Some d → d.next_order + 1 < 2 ^ 32 }
     ensures { rows.new.items
         ≡ updated (is_district warehouse district) with_next_order rows.old.items }
 {
-    if let Some(place) = place_of_district(rows.as_slice(), warehouse, district) {
-        raise(&mut rows[place]);
-    }
+    let key = DistrictKey {
+        warehouse,
+        district,
+    };
+    rows.change(&key, &Rise);
 }

@@ -1,5 +1,5 @@
 //! What the lines of an order take from their STOCK rows (2.4.2.2).
-ghost use Rattle.std.specs.Prelude.{◌≡◌, ◌+◌, ◌<◌, ◌≤◌, ◌^◌, find, position, map, length, true, Some};
+ghost use Rattle.std.specs.Prelude.{◌≡◌, ◌+◌, ◌<◌, ◌≤◌, ◌^◌, find, map, length, true, Some, refl};
 ghost use Rattle.std.specs.List.{list_all};
 ghost use Rattle.tpcc_rows.specs.declared.rows.StockRow.{StockRow};
 ghost use Rattle.tpcc_rows.specs.Lists.{updated, is_ascending};
@@ -7,9 +7,9 @@ ghost use Rattle.tpcc_rows.specs.Ranges.{is_within};
 ghost use Rattle.tpcc_rows.specs.Tables.{stock_key};
 ghost use Rattle.tpcc_rows.specs.NewOrder.{quantity_after, stock_after_line, stock_after};
 ghost use Rattle.tpcc_tables.specs.Writes.{line_of};
-ghost use Rattle.tpcc_tables.specs.Supplies.{is_supplied_by, HasRoomFor, is_near};
+ghost use Rattle.tpcc_tables.specs.Supplies.{is_supplied_by, IsSuppliable, HasRoomFor, is_near};
 
-use tpcc_keyed::search;
+use tpcc_keyed::{KeyedRows, RowChange};
 use tpcc_rows::{OrderLineRow, StockKey, StockRow};
 
 /// S_QUANTITY after a line: 91 more where fewer than 10 would be left.
@@ -25,33 +25,33 @@ fn quantity_after(stock: u32, quantity: u32) -> u32
     }
 }
 
-fn take_line(row: &mut StockRow, home: u32, line: &OrderLineRow)
-    requires quantity { line.now.quantity ≤ 10 }
-    requires room { HasRoomFor line.now.quantity row.old }
-    ensures { row.new ≡ stock_after_line home row.old (line_of line.now) }
-{
-    let quantity = quantity_after(row.quantity, line.quantity);
-    row.quantity = quantity;
-    row.ytd += line.quantity;
-    row.order_count += 1;
-    if row.warehouse != home {
-        row.remote_count += 1;
+/// What a line of an order of the home warehouse takes from its STOCK row.
+#[derive(Drop)]
+struct Demand<'a> {
+    home: u32,
+    line: &'a OrderLineRow,
+}
+
+impl<'a> RowChange<StockRow> for Demand<'a> {
+    ghost changed = { λ demand s. stock_after_line demand.home s (line_of demand.line.now) };
+
+    ghost fits = { λ demand. IsSuppliable demand.line.now.quantity };
+
+    ghost keeps_key = { λ demand s. refl };
+
+    fn apply(&self, row: &mut StockRow) {
+        let quantity = quantity_after(row.quantity, self.line.quantity);
+        row.quantity = quantity;
+        row.ytd += self.line.quantity;
+        row.order_count += 1;
+        if row.warehouse != self.home {
+            row.remote_count += 1;
+        }
     }
 }
 
-fn place_of_supply(rows: &[StockRow], line: &OrderLineRow) -> Option<usize>
-    requires keyed { is_ascending stock_key rows.now ≡ true }
-    ensures { result ≡ position (is_supplied_by (line_of line.now)) rows.now }
-{
-    let key = StockKey {
-        warehouse: line.supply,
-        item: line.item,
-    };
-    search::place_of(rows, &key)
-}
-
 /// One line, taken from its STOCK row.
-fn supply_line(rows: &mut Vec<StockRow>, home: u32, line: &OrderLineRow)
+fn supply_line(rows: &mut KeyedRows<StockRow>, home: u32, line: &OrderLineRow)
     requires keyed { is_ascending stock_key rows.old.items ≡ true }
     requires quantity { line.now.quantity ≤ 10 }
     requires room { (s : StockRow) → find (is_supplied_by (line_of line.now)) rows.old.items
@@ -59,13 +59,15 @@ fn supply_line(rows: &mut Vec<StockRow>, home: u32, line: &OrderLineRow)
     ensures { rows.new.items ≡ updated (is_supplied_by (line_of line.now))
         (λ s. stock_after_line home s (line_of line.now)) rows.old.items }
 {
-    if let Some(place) = place_of_supply(rows.as_slice(), line) {
-        take_line(&mut rows[place], home, line);
-    }
+    let key = StockKey {
+        warehouse: line.supply,
+        item: line.item,
+    };
+    rows.change(&key, &Demand { home, line });
 }
 
 /// All lines of an order, one after another.
-pub fn supply(rows: &mut Vec<StockRow>, home: u32, lines: &[OrderLineRow])
+pub fn supply(rows: &mut KeyedRows<StockRow>, home: u32, lines: &[OrderLineRow])
     requires keyed { is_ascending stock_key rows.old.items ≡ true }
     requires near { list_all (is_near 0) rows.old.items ≡ true }
     requires few { length lines.now ≤ 15 }

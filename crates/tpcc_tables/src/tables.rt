@@ -21,7 +21,7 @@ use crate::sums::Sums;
 use crate::{delivery, districts, find, levels};
 use std::alloc::Global;
 use std::marker::Model;
-use tpcc_keyed::{Names, Parts};
+use tpcc_keyed::{KeyedRows, Names, Parts};
 use tpcc_money::Cents;
 use tpcc_rows::{
     CustomerRow, DistrictRow, Few, HistoryRow, ItemRow, NewOrderRow, OrderLineRow, OrderRow,
@@ -31,12 +31,12 @@ use tpcc_rows::{
 /// The nine tables (1.3), whose rows are always well-keyed: keys ascend, parents exist, and all columns are in their
 /// ranges. It is seen as its rows, and the room that was made for one more payment and one more order.
 pub struct Tables {
-    /// WAREHOUSE, by ascending key.
-    warehouses: Vec<WarehouseRow>,
-    /// DISTRICT, by ascending key.
-    districts: Vec<DistrictRow>,
-    /// CUSTOMER, by ascending key.
-    customers: Vec<CustomerRow>,
+    /// WAREHOUSE.
+    warehouses: KeyedRows<WarehouseRow>,
+    /// DISTRICT.
+    districts: KeyedRows<DistrictRow>,
+    /// CUSTOMER.
+    customers: KeyedRows<CustomerRow>,
     /// The customers' names in order.
     names: Names,
     /// HISTORY, the oldest first.
@@ -47,10 +47,10 @@ pub struct Tables {
     order_lines: Parts<OrderLineRow>,
     /// NEW-ORDER, a part for each district.
     new_orders: Parts<NewOrderRow>,
-    /// ITEM, by ascending key.
-    items: Vec<ItemRow>,
-    /// STOCK, by ascending key.
-    stocks: Vec<StockRow>,
+    /// ITEM.
+    items: KeyedRows<ItemRow>,
+    /// STOCK.
+    stocks: KeyedRows<StockRow>,
     /// What the consistency conditions add up, of each WAREHOUSE, DISTRICT and CUSTOMER row.
     sums: Sums,
     /// Whether each district has a part in the three tables of orders.
@@ -111,16 +111,16 @@ impl Tables {
         } }
     {
         Tables {
-            warehouses: Vec::new(alloc),
-            districts: Vec::new(alloc),
-            customers: Vec::new(alloc),
+            warehouses: KeyedRows::new(alloc),
+            districts: KeyedRows::new(alloc),
+            customers: KeyedRows::new(alloc),
             names: Names::new(alloc),
             histories: Vec::new(alloc),
             orders: Parts::new(alloc),
             order_lines: Parts::new(alloc),
             new_orders: Parts::new(alloc),
-            items: Vec::new(alloc),
-            stocks: Vec::new(alloc),
+            items: KeyedRows::new(alloc),
+            stocks: KeyedRows::new(alloc),
             sums: Sums::empty(alloc),
             are_open: false,
             order_room: 0,
@@ -139,21 +139,21 @@ impl Tables {
     pub fn warehouse(&self, warehouse: u32) -> Option<&WarehouseRow>
         ensures { option_copied result ≡ find_warehouse self.now.rows warehouse }
     {
-        find::warehouse(self.warehouses.as_slice(), warehouse)
+        find::warehouse(&self.warehouses, warehouse)
     }
 
     /// The DISTRICT row of a key.
     pub fn district(&self, warehouse: u32, district: u32) -> Option<&DistrictRow>
         ensures { option_copied result ≡ find_district self.now.rows warehouse district }
     {
-        find::district(self.districts.as_slice(), warehouse, district)
+        find::district(&self.districts, warehouse, district)
     }
 
     /// The CUSTOMER row of a key.
     pub fn customer(&self, warehouse: u32, district: u32, customer: u32) -> Option<&CustomerRow>
         ensures { option_copied result ≡ find_customer self.now.rows warehouse district customer }
     {
-        find::customer(self.customers.as_slice(), warehouse, district, customer)
+        find::customer(&self.customers, warehouse, district, customer)
     }
 
     /// The customer who is chosen by a last name (2.5.2.2, 2.6.2.2): of n customers of that name in the district, by
@@ -220,7 +220,7 @@ impl Tables {
         let lines = self
             .order_lines
             .lines_between(warehouse, district, first, next);
-        levels::count_short(self.stocks.as_slice(), warehouse, threshold, lines)
+        levels::count_short(&self.stocks, warehouse, threshold, lines)
     }
 
     /// The NEW-ORDER row of a key.
@@ -248,13 +248,13 @@ impl Tables {
     pub fn item(&self, item: u32) -> Option<&ItemRow>
         ensures { option_copied result ≡ find_item self.now.rows item }
     {
-        find::item(self.items.as_slice(), item)
+        find::item(&self.items, item)
     }
 
     /// The STOCK row of a key: of an item in a warehouse.
     pub fn stock(&self, warehouse: u32, item: u32) -> Option<&StockRow>
         ensures { option_copied result ≡ find_stock self.now.rows warehouse item }
     {
-        find::stock(self.stocks.as_slice(), warehouse, item)
+        find::stock(&self.stocks, warehouse, item)
     }
 }

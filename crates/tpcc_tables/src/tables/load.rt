@@ -66,7 +66,7 @@ impl Tables {
         if self.sums.warehouses.reserve(1).is_err() {
             return Err(LoadFault::NoMemory);
         }
-        if let Err(NoMemory) = insertion::insert(&mut self.warehouses, row) {
+        if let Err(NoMemory) = self.warehouses.insert(row) {
             return Err(LoadFault::NoMemory);
         }
         let entry = WarehouseSums::none(row.id);
@@ -87,7 +87,7 @@ impl Tables {
         if self.sums.districts.reserve(1).is_err() {
             return Err(LoadFault::NoMemory);
         }
-        if let Err(NoMemory) = insertion::insert(&mut self.districts, row) {
+        if let Err(NoMemory) = self.districts.insert(row) {
             return Err(LoadFault::NoMemory);
         }
         let entry = DistrictSums::none(row.warehouse, row.id);
@@ -107,7 +107,7 @@ impl Tables {
         if let Some(fault) = faults::of_customer(self, &row) {
             return Err(fault);
         }
-        if self.customers.reserve(1).is_err() {
+        if self.customers.reserve_one().is_err() {
             return Err(LoadFault::NoMemory);
         }
         if self.sums.customers.reserve(1).is_err() {
@@ -116,7 +116,7 @@ impl Tables {
         if let Err(NoMemory) = self.names.load(&row) {
             return Err(LoadFault::NoMemory);
         }
-        insertion::insert_one(&mut self.customers, row);
+        self.customers.insert_in_room(row);
         let entry = CustomerSums::none(row.warehouse, row.district, row.id);
         insertion::insert_one(&mut self.sums.customers, entry);
         Ok(())
@@ -206,7 +206,7 @@ impl Tables {
         if let Some(fault) = faults::of_item(self, &row) {
             return Err(fault);
         }
-        if let Err(NoMemory) = insertion::insert(&mut self.items, row) {
+        if let Err(NoMemory) = self.items.insert(row) {
             return Err(LoadFault::NoMemory);
         }
         Ok(())
@@ -222,7 +222,7 @@ impl Tables {
         if let Some(fault) = faults::of_stock(self, &row) {
             return Err(fault);
         }
-        if let Err(NoMemory) = insertion::insert(&mut self.stocks, row) {
+        if let Err(NoMemory) = self.stocks.insert(row) {
             return Err(LoadFault::NoMemory);
         }
         Ok(())

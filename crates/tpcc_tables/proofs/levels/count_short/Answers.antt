@@ -5,7 +5,7 @@ use Rattle.tpcc_tables.proofs.levels.count_short.Goals as goal
 
 pub loop-position-preserved : goal.loop-position-preserved
 loop-position-preserved c =
-    let low = is_below c.args.stocks.now c.args.warehouse c.args.threshold in
+    let low = is_below c.args.stocks.now.items c.args.warehouse c.args.threshold in
     let count = c.loop-position.count in
     let lines = c.args.lines.now in
     let item_line = get_or lines c.loop-position.position c.index-lines-position.result in

@@ -8,10 +8,10 @@ use Rattle.tpcc_tables.proofs.levels.is_short.Goals as goal
 
 pub returns-in-Some : goal.returns-in-Some
 returns-in-Some c =
-    sym (low_is c.args.stocks.now c.args.warehouse c.args.threshold c.args.item c.requires.keyed
+    sym (low_is c.args.stocks.now.items c.args.warehouse c.args.threshold c.args.item c.requires.keyed
     ∙ ap (found_passes (λ (s : StockRow). nat_lt s.quantity c.args.threshold)) (sym c.stock.ensures ∙ ap option_copied c.in-Some.is))
 
 pub returns-in-None : goal.returns-in-None
 returns-in-None c =
-    sym (low_is c.args.stocks.now c.args.warehouse c.args.threshold c.args.item c.requires.keyed
+    sym (low_is c.args.stocks.now.items c.args.warehouse c.args.threshold c.args.item c.requires.keyed
     ∙ ap (found_passes (λ (s : StockRow). nat_lt s.quantity c.args.threshold)) (sym c.stock.ensures ∙ ap option_copied c.in-None.is))

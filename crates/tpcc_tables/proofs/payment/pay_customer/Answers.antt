@@ -1,27 +1,15 @@
-use Rattle.std.proofs.Common.{sym, ap, ◌∙◌}
-use Rattle.std.specs.Prelude.{position}
+use Rattle.std.proofs.Common.{◌∙◌, sym, [], ◌∷◌}
 use Rattle.tpcc_rows.specs.Tables.{is_customer, customer_key}
 use Rattle.tpcc_tables.specs.Writes.{charged_customer}
-use Rattle.tpcc_keyed.proofs.Place.{found_row, written_row, unwritten}
-use Rattle.tpcc_tables.proofs.KeyTests.{customers_apart}
+use Rattle.tpcc_keyed.specs.Searches.{is_same_key}
+use Rattle.tpcc_keyed.proofs.Halves.{same_find}
+use Rattle.tpcc_keyed.proofs.Change.{same_updated}
+use Rattle.tpcc_tables.proofs.KeyTests.{customer_test}
 use Rattle.tpcc_tables.proofs.payment.pay_customer.Goals as goal
 
-pub charge-requires-clause-balance : goal.charge-requires-clause-balance
-charge-requires-clause-balance c =
-    c.requires.balance _ (found_row (is_customer c.args.warehouse c.args.district c.args.customer) c.args.rows.now.items c.in-Some.place c.index_mut.result.now (ap (position (is_customer c.args.warehouse c.args.district c.args.customer)) (sym c.as_slice.ensures.value) ∙ sym c.place_of_customer.ensures ∙ c.in-Some.is) c.index_mut.ensures.value)
+pub change-requires-clause-fits : goal.change-requires-clause-fits
+change-requires-clause-fits c =
+    λ row found. c.requires.fits row (sym (same_find (λ row. is_same_key (customer_key row) (c.args.warehouse ∷ c.args.district ∷ c.args.customer ∷ [])) (is_customer c.args.warehouse c.args.district c.args.customer) (customer_test c.args.warehouse c.args.district c.args.customer) c.args.rows.now.items) ∙ found)
 
-pub charge-requires-clause-paid : goal.charge-requires-clause-paid
-charge-requires-clause-paid c =
-    c.requires.paid _ (found_row (is_customer c.args.warehouse c.args.district c.args.customer) c.args.rows.now.items c.in-Some.place c.index_mut.result.now (ap (position (is_customer c.args.warehouse c.args.district c.args.customer)) (sym c.as_slice.ensures.value) ∙ sym c.place_of_customer.ensures ∙ c.in-Some.is) c.index_mut.ensures.value)
-
-pub charge-requires-clause-count : goal.charge-requires-clause-count
-charge-requires-clause-count c =
-    c.requires.count _ (found_row (is_customer c.args.warehouse c.args.district c.args.customer) c.args.rows.now.items c.in-Some.place c.index_mut.result.now (ap (position (is_customer c.args.warehouse c.args.district c.args.customer)) (sym c.as_slice.ensures.value) ∙ sym c.place_of_customer.ensures ∙ c.in-Some.is) c.index_mut.ensures.value)
-
-pub returns-in-Some : goal.returns-in-Some
-returns-in-Some c =
-    rw c.charge.ensures
-    (written_row customer_key (is_customer c.args.warehouse c.args.district c.args.customer) (customers_apart c.args.warehouse c.args.district c.args.customer) (charged_customer c.args.amount c.args.information) c.args.rows.now.items c.in-Some.place c.index_mut.result.now c.requires.keyed (ap (position (is_customer c.args.warehouse c.args.district c.args.customer)) (sym c.as_slice.ensures.value) ∙ sym c.place_of_customer.ensures ∙ c.in-Some.is) c.index_mut.ensures.value)
-
-pub returns-in_default : goal.returns-in_default
-returns-in_default c = unwritten (is_customer c.args.warehouse c.args.district c.args.customer) (charged_customer c.args.amount c.args.information) c.args.rows.now.items (ap (position (is_customer c.args.warehouse c.args.district c.args.customer)) (sym c.as_slice.ensures.value) ∙ sym c.place_of_customer.ensures ∙ c.in_default.is)
+pub returns : goal.returns
+returns c = c.change.ensures ∙ same_updated (λ row. is_same_key (customer_key row) (c.args.warehouse ∷ c.args.district ∷ c.args.customer ∷ [])) (is_customer c.args.warehouse c.args.district c.args.customer) (charged_customer c.args.amount c.args.information) (customer_test c.args.warehouse c.args.district c.args.customer) c.args.rows.now.items

@@ -1,19 +1,15 @@
-use Rattle.std.proofs.Common.{sym, ap, ◌∙◌}
-use Rattle.std.specs.Prelude.{position}
+use Rattle.std.proofs.Common.{◌∙◌, sym, [], ◌∷◌}
 use Rattle.tpcc_rows.specs.Tables.{is_warehouse, warehouse_key}
 use Rattle.tpcc_tables.specs.Writes.{richer_warehouse}
-use Rattle.tpcc_keyed.proofs.Place.{found_row, written_row, unwritten}
-use Rattle.tpcc_tables.proofs.KeyTests.{warehouses_apart}
+use Rattle.tpcc_keyed.specs.Searches.{is_same_key}
+use Rattle.tpcc_keyed.proofs.Halves.{same_find}
+use Rattle.tpcc_keyed.proofs.Change.{same_updated}
+use Rattle.tpcc_tables.proofs.KeyTests.{warehouse_test}
 use Rattle.tpcc_tables.proofs.payment.pay_warehouse.Goals as goal
 
-pub plus-row-requires : goal.plus-row-requires
-plus-row-requires c =
-    c.requires.fits _ (found_row (is_warehouse c.args.warehouse) c.args.rows.now.items c.in-Some.place c.index_mut-row.result.now (ap (position (is_warehouse c.args.warehouse)) (sym c.as_slice.ensures.value) ∙ sym c.place_of_warehouse.ensures ∙ c.in-Some.is) c.index_mut-row.ensures.value)
+pub change-requires-clause-fits : goal.change-requires-clause-fits
+change-requires-clause-fits c =
+    λ row found. c.requires.fits row (sym (same_find (λ row. is_same_key (warehouse_key row) (c.args.warehouse ∷ [])) (is_warehouse c.args.warehouse) (warehouse_test c.args.warehouse) c.args.rows.now.items) ∙ found)
 
-pub returns-in-Some : goal.returns-in-Some
-returns-in-Some c =
-    rw c.plus-row.ensures
-    (written_row warehouse_key (is_warehouse c.args.warehouse) (warehouses_apart c.args.warehouse) (richer_warehouse c.args.amount) c.args.rows.now.items c.in-Some.place c.index_mut-row.result.now c.requires.keyed (ap (position (is_warehouse c.args.warehouse)) (sym c.as_slice.ensures.value) ∙ sym c.place_of_warehouse.ensures ∙ c.in-Some.is) c.index_mut-row.ensures.value)
-
-pub returns-in_default : goal.returns-in_default
-returns-in_default c = unwritten (is_warehouse c.args.warehouse) (richer_warehouse c.args.amount) c.args.rows.now.items (ap (position (is_warehouse c.args.warehouse)) (sym c.as_slice.ensures.value) ∙ sym c.place_of_warehouse.ensures ∙ c.in_default.is)
+pub returns : goal.returns
+returns c = c.change.ensures ∙ same_updated (λ row. is_same_key (warehouse_key row) (c.args.warehouse ∷ [])) (is_warehouse c.args.warehouse) (richer_warehouse c.args.amount) (warehouse_test c.args.warehouse) c.args.rows.now.items

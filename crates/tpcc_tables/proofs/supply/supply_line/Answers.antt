@@ -1,22 +1,23 @@
-use Rattle.std.proofs.Common.{sym, ap, ◌∙◌}
-use Rattle.std.specs.Prelude.{position}
+use Rattle.std.proofs.Common.{◌∙◌, sym, [], ◌∷◌}
 use Rattle.tpcc_rows.specs.declared.rows.StockRow.{StockRow}
 use Rattle.tpcc_rows.specs.Tables.{stock_key}
 use Rattle.tpcc_rows.specs.NewOrder.{stock_after_line}
+use Rattle.tpcc_keyed.specs.Searches.{is_same_key}
+use Rattle.tpcc_keyed.proofs.Halves.{same_find}
+use Rattle.tpcc_keyed.proofs.Change.{same_updated}
 use Rattle.tpcc_tables.specs.Writes.{line_of}
 use Rattle.tpcc_tables.specs.Supplies.{is_supplied_by}
-use Rattle.tpcc_keyed.proofs.Place.{found_row, written_row, unwritten}
-use Rattle.tpcc_tables.proofs.Supplies.{stocks_apart}
+use Rattle.tpcc_tables.proofs.Supplies.{supply_test}
 use Rattle.tpcc_tables.proofs.supply.supply_line.Goals as goal
 
-pub take_line-requires-clause-room : goal.take_line-requires-clause-room
-take_line-requires-clause-room c =
-    c.requires.room _ (found_row (is_supplied_by (line_of c.args.line.now)) c.args.rows.now.items c.in-Some.place c.index_mut.result.now (ap (position (is_supplied_by (line_of c.args.line.now))) (sym c.as_slice.ensures.value) ∙ sym c.place_of_supply.ensures ∙ c.in-Some.is) c.index_mut.ensures.value)
+pub change-requires-clause-fits : goal.change-requires-clause-fits
+change-requires-clause-fits c =
+    λ row found. record {
+      small = c.requires.quantity;
+      room = c.requires.room row (sym (same_find (λ row. is_same_key (stock_key row) (c.args.line.now.supply ∷ c.args.line.now.item ∷ [])) (is_supplied_by (line_of c.args.line.now)) (supply_test (line_of c.args.line.now)) c.args.rows.now.items) ∙ found);
+    }
 
-pub returns-in-Some : goal.returns-in-Some
-returns-in-Some c =
-    rw c.take_line.ensures
-    (written_row stock_key (is_supplied_by (line_of c.args.line.now)) (stocks_apart (line_of c.args.line.now)) (λ (s : StockRow). stock_after_line c.args.home s (line_of c.args.line.now)) c.args.rows.now.items c.in-Some.place c.index_mut.result.now c.requires.keyed (ap (position (is_supplied_by (line_of c.args.line.now))) (sym c.as_slice.ensures.value) ∙ sym c.place_of_supply.ensures ∙ c.in-Some.is) c.index_mut.ensures.value)
-
-pub returns-in_default : goal.returns-in_default
-returns-in_default c = unwritten (is_supplied_by (line_of c.args.line.now)) (λ (s : StockRow). stock_after_line c.args.home s (line_of c.args.line.now)) c.args.rows.now.items (ap (position (is_supplied_by (line_of c.args.line.now))) (sym c.as_slice.ensures.value) ∙ sym c.place_of_supply.ensures ∙ c.in_default.is)
+pub returns : goal.returns
+returns c =
+    c.change.ensures
+    ∙ same_updated (λ row. is_same_key (stock_key row) (c.args.line.now.supply ∷ c.args.line.now.item ∷ [])) (is_supplied_by (line_of c.args.line.now)) (λ (s : StockRow). stock_after_line c.args.home s (line_of c.args.line.now)) (supply_test (line_of c.args.line.now)) c.args.rows.now.items

@@ -23,18 +23,17 @@ amount-amount-requires c =
     let known = deliverable (rows_of c.self.inside) c.args.warehouse c.args.district c.args.order c.self.invariant.well_keyed.ranges (subst (λ (t : Held). district_refusal t.rows c.args.warehouse c.args.district (Some c.args.order) ≡ None) (sym c.self.view_is) c.requires.accepted) in
     record { fits = λ k. subst (λ (ls : List OrderLineRow). FitsSigned w64 (total (λ l. l.amount) (take k ls))) (sym c.lines_of-lines.ensures) (known.parts k) }
 
-pub charge-requires-clause-balance : goal.charge-requires-clause-balance
-charge-requires-clause-balance c =
+pub charge-requires-clause-fits : goal.charge-requires-clause-fits
+charge-requires-clause-fits c =
     let known = deliverable (rows_of c.self.inside) c.args.warehouse c.args.district c.args.order c.self.invariant.well_keyed.ranges (subst (λ (t : Held). district_refusal t.rows c.args.warehouse c.args.district (Some c.args.order) ≡ None) (sym c.self.view_is) c.requires.accepted) in
     let amount = (c.amount-amount.ensures ∙ ap (total (λ l. l.amount)) c.lines_of-lines.ensures) in
     let customer = c.customer_of-customer.ensures in
-    λ x e. subst (λ (a : ℤ). FitsSigned w64 (x.balance +ℤ a)) (sym amount) (known.balance x ((λ i. find (is_customer c.args.warehouse c.args.district (sym customer i)) c.self.inside.customers.items) ∙ e))
-
-pub charge-requires-clause-count : goal.charge-requires-clause-count
-charge-requires-clause-count c =
-    let known = deliverable (rows_of c.self.inside) c.args.warehouse c.args.district c.args.order c.self.invariant.well_keyed.ranges (subst (λ (t : Held). district_refusal t.rows c.args.warehouse c.args.district (Some c.args.order) ≡ None) (sym c.self.view_is) c.requires.accepted) in
-    let customer = c.customer_of-customer.ensures in
-    λ x e. known.count x ((λ i. find (is_customer c.args.warehouse c.args.district (sym customer i)) c.self.inside.customers.items) ∙ e)
+    λ x e.
+    let found = (λ i. find (is_customer c.args.warehouse c.args.district (sym customer i)) c.self.inside.customers.items) ∙ e in
+    record {
+      balance = subst (λ (a : ℤ). FitsSigned w64 (x.balance +ℤ a)) (sym amount) (known.balance x found);
+      count = known.count x found;
+    }
 
 pub invariant_of-self : goal.invariant_of-self
 invariant_of-self c =

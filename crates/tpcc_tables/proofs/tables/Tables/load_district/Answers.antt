@@ -5,6 +5,7 @@ use Rattle.tpcc_tables.specs.View.{rows_of}
 use Rattle.tpcc_tables.specs.Loads.{district_fault}
 use Rattle.tpcc_rows.specs.Lists.{by_key, inserted}
 use Rattle.tpcc_tables.specs.Sums.{district_sums_key}
+use Rattle.tpcc_tables.proofs.Fresh.{fresh_district}
 use Rattle.tpcc_tables.proofs.Load.{loaded_district}
 use Rattle.tpcc_tables.proofs.SumRanges.{held_grow}
 use Rattle.tpcc_tables.proofs.SumEntries.{new_district, new_district_key}
@@ -21,9 +22,13 @@ invariant_of-self-2 c =
         districts = new_district (rows_of c.self.inside) c.self.invariant.well_keyed.parents c.self.inside.sums c.args.row _ (new_district_key (rows_of c.self.inside) c.args.row fault) c.self.invariant.sums (c.insert_one.ensures ∙ (λ i. inserted (by_key district_sums_key) (c.none-entry.ensures i) (c.reserve.ensures.items i)));
         customers = c.self.invariant.sums.customers;
       });
-      ready = ready-none c.insert.new.rows.items c.self.inside.orders c.self.inside.order_lines c.self.inside.new_orders;
+      ready = ready-none c.insert.new.self.items c.self.inside.orders c.self.inside.order_lines c.self.inside.new_orders;
       payments = c.self.invariant.payments;
     }
 
 pub insert_one-requires-clause-keyed : goal.insert_one-requires-clause-keyed
 insert_one-requires-clause-keyed c = rw c.reserve.ensures.items (held_grow c.self.inside c.self.invariant).districts
+
+pub insert-requires-clause-fresh : goal.insert-requires-clause-fresh
+insert-requires-clause-fresh c =
+    fresh_district (rows_of c.self.inside) c.args.row (subst (λ (t : Held). district_fault t.rows c.args.row ≡ None) (sym c.self.view_is) (sym c.of_district.ensures ∙ c.in_default.is))

@@ -2,6 +2,7 @@ use Rattle.std.proofs.Common.{sym, subst, ◌∙◌, ◌≡◌, None}
 use Rattle.tpcc_tables.specs.Held.{Held}
 use Rattle.tpcc_tables.specs.View.{rows_of}
 use Rattle.tpcc_tables.specs.Loads.{item_fault}
+use Rattle.tpcc_tables.proofs.Fresh.{fresh_item}
 use Rattle.tpcc_tables.proofs.Load.{loaded_item}
 use Rattle.tpcc_tables.proofs.tables.Tables.load_item.Goals as goal
 
@@ -19,3 +20,7 @@ invariant_of-self-2 c =
       ready = c.self.invariant.ready;
       payments = c.self.invariant.payments;
     }
+
+pub insert-requires-clause-fresh : goal.insert-requires-clause-fresh
+insert-requires-clause-fresh c =
+    fresh_item (rows_of c.self.inside) c.args.row (subst (λ (t : Held). item_fault t.rows c.args.row ≡ None) (sym c.self.view_is) (sym c.of_item.ensures ∙ c.in_default.is))

@@ -4,6 +4,7 @@ use Rattle.tpcc_tables.specs.View.{rows_of}
 use Rattle.tpcc_tables.specs.Loads.{warehouse_fault}
 use Rattle.tpcc_rows.specs.Lists.{by_key, inserted}
 use Rattle.tpcc_tables.specs.Sums.{warehouse_sums_key}
+use Rattle.tpcc_tables.proofs.Fresh.{fresh_warehouse}
 use Rattle.tpcc_tables.proofs.Load.{loaded_warehouse}
 use Rattle.tpcc_tables.proofs.SumRanges.{held_grow}
 use Rattle.tpcc_tables.proofs.SumEntries.{new_warehouse, new_warehouse_key}
@@ -26,3 +27,7 @@ invariant_of-self-2 c =
 
 pub insert_one-requires-clause-keyed : goal.insert_one-requires-clause-keyed
 insert_one-requires-clause-keyed c = rw c.reserve.ensures.items (held_grow c.self.inside c.self.invariant).warehouses
+
+pub insert-requires-clause-fresh : goal.insert-requires-clause-fresh
+insert-requires-clause-fresh c =
+    fresh_warehouse (rows_of c.self.inside) c.args.row (subst (λ (t : Held). warehouse_fault t.rows c.args.row ≡ None) (sym c.self.view_is) (sym c.of_warehouse.ensures ∙ c.in_default.is))

@@ -28,6 +28,6 @@ returns c =
     let chosen : c.lines_between-lines.result.now ≡ lines_between rows w d (next - 20) next = c.lines_between-lines.ensures ∙ (λ i. filter (is_line_between w d (c.saturating_sub-first.ensures i) next) rows.order_lines) ∙ between_chosen rows w d (next - 20) next in
     record {
       count = c.count_short.ensures
-          ∙ (λ i. length (filter (λ item. list_any (λ s. is_stock w item s && nat_lt s.quantity c.args.threshold) (c.as_slice.ensures.value i)) (distinct (map (λ l. l.item) (chosen i)))))
+          ∙ (λ i. length (filter (λ item. list_any (λ s. is_stock w item s && nat_lt s.quantity c.args.threshold) rows.stocks) (distinct (map (λ l. l.item) (chosen i)))))
           ∙ ap (λ (t : Held). length (filter (is_low t.rows w c.args.threshold) (distinct (map (λ l. l.item) (lines_between t.rows w d (next - 20) next))))) c.self.view_is;
     }

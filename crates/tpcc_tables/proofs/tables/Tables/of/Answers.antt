@@ -12,4 +12,4 @@ pub returns : goal.returns
 returns c = search rules
 
 pub invariant_of-result : goal.invariant_of-result
-invariant_of-result c = record { well_keyed = c.requires.keyed; names = rw c.as_slice.ensures.value at c.in_ok-names.ensures; sums = c.in_ok-sums.ensures; ready = ready-none _ _ _ _; payments = search rules }
+invariant_of-result c = record { well_keyed = c.requires.keyed; names = rw c.as_slice.ensures at c.in_ok-names.ensures; sums = c.in_ok-sums.ensures; ready = ready-none _ _ _ _; payments = search rules }

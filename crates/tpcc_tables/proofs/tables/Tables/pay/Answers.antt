@@ -21,20 +21,15 @@ pay_district-requires-clause-fits c =
     let k = subst (λ (t : Held). IsPayment t.rows c.args.history c.args.information) (sym c.self.view_is) c.requires.payment in
     (payable (rows_of c.self.inside) c.args.history c.args.information c.self.invariant.well_keyed.keyed k).district
 
-pub pay_customer-requires-clause-balance : goal.pay_customer-requires-clause-balance
-pay_customer-requires-clause-balance c =
+pub pay_customer-requires-clause-fits : goal.pay_customer-requires-clause-fits
+pay_customer-requires-clause-fits c =
     let k = subst (λ (t : Held). IsPayment t.rows c.args.history c.args.information) (sym c.self.view_is) c.requires.payment in
-    (payable (rows_of c.self.inside) c.args.history c.args.information c.self.invariant.well_keyed.keyed k).balance
-
-pub pay_customer-requires-clause-paid : goal.pay_customer-requires-clause-paid
-pay_customer-requires-clause-paid c =
-    let k = subst (λ (t : Held). IsPayment t.rows c.args.history c.args.information) (sym c.self.view_is) c.requires.payment in
-    (payable (rows_of c.self.inside) c.args.history c.args.information c.self.invariant.well_keyed.keyed k).paid
-
-pub pay_customer-requires-clause-count : goal.pay_customer-requires-clause-count
-pay_customer-requires-clause-count c =
-    let k = subst (λ (t : Held). IsPayment t.rows c.args.history c.args.information) (sym c.self.view_is) c.requires.payment in
-    (payable (rows_of c.self.inside) c.args.history c.args.information c.self.invariant.well_keyed.keyed k).count
+    let known = payable (rows_of c.self.inside) c.args.history c.args.information c.self.invariant.well_keyed.keyed k in
+    λ customer found. record {
+      balance = known.balance customer found;
+      paid = known.paid customer found;
+      count = known.count customer found;
+    }
 
 pub invariant_of-self : goal.invariant_of-self
 unfolding with_payment

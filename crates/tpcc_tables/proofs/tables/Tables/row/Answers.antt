@@ -13,13 +13,13 @@ read wrap lent xs i x e lt at = rw (← e) (ap (option_map wrap) (sym (slice_get
 pub returns : goal.returns
 unfolding row_at
 returns c = elim c.match-table.branch [
-  | in-Warehouse+in_ok-get-in-Warehouse w ↦ rw (w.result-is, w.in-Warehouse.is, ← c.self.view_is) (read row.Warehouse w.deref.result.now c.self.inside.warehouses.items c.args.position w.in_ok-get-in-Warehouse.field-0.now w.deref.ensures.value w.in_ok-get-in-Warehouse.ensures.lookup.3.0 w.in_ok-get-in-Warehouse.ensures.lookup.1)
-  | in-District+in_ok-get-in-District w ↦ rw (w.result-is, w.in-District.is, ← c.self.view_is) (read row.District w.deref-in-District.result.now c.self.inside.districts.items c.args.position w.in_ok-get-in-District.field-0.now w.deref-in-District.ensures.value w.in_ok-get-in-District.ensures.lookup.3.0 w.in_ok-get-in-District.ensures.lookup.1)
-  | in-Customer+in_ok-get-in-Customer w ↦ rw (w.result-is, w.in-Customer.is, ← c.self.view_is) (read row.Customer w.deref-in-Customer.result.now c.self.inside.customers.items c.args.position w.in_ok-get-in-Customer.field-0.now w.deref-in-Customer.ensures.value w.in_ok-get-in-Customer.ensures.lookup.3.0 w.in_ok-get-in-Customer.ensures.lookup.1)
-  | in-History+in_ok-get-in-History w ↦ rw (w.result-is, w.in-History.is, ← c.self.view_is) (read row.History w.deref-in-History.result.now c.self.inside.histories.items c.args.position w.in_ok-get-in-History.field-0.now w.deref-in-History.ensures.value w.in_ok-get-in-History.ensures.lookup.3.0 w.in_ok-get-in-History.ensures.lookup.1)
+  | in-Warehouse+in_ok-get-in-Warehouse w ↦ rw (w.result-is, w.in-Warehouse.is, ← c.self.view_is) (ap (option_map row.Warehouse) w.in_ok-get-in-Warehouse.ensures)
+  | in-District+in_ok-get-in-District w ↦ rw (w.result-is, w.in-District.is, ← c.self.view_is) (ap (option_map row.District) w.in_ok-get-in-District.ensures)
+  | in-Customer+in_ok-get-in-Customer w ↦ rw (w.result-is, w.in-Customer.is, ← c.self.view_is) (ap (option_map row.Customer) w.in_ok-get-in-Customer.ensures)
+  | in-History+in_ok-get-in-History w ↦ rw (w.result-is, w.in-History.is, ← c.self.view_is) (read row.History w.deref.result.now c.self.inside.histories.items c.args.position w.in_ok-get-in-History.field-0.now w.deref.ensures.value w.in_ok-get-in-History.ensures.lookup.3.0 w.in_ok-get-in-History.ensures.lookup.1)
   | in-Order+in_ok-get-in-Order w ↦ rw (w.result-is, w.in-Order.is, ← c.self.view_is) (ap (option_map row.Order) w.in_ok-get-in-Order.ensures)
   | in-OrderLine+in_ok-get-in-OrderLine w ↦ rw (w.result-is, w.in-OrderLine.is, ← c.self.view_is) (ap (option_map row.OrderLine) w.in_ok-get-in-OrderLine.ensures)
   | in-NewOrder+in_ok-get-in-NewOrder w ↦ rw (w.result-is, w.in-NewOrder.is, ← c.self.view_is) (ap (option_map row.NewOrder) w.in_ok-get-in-NewOrder.ensures)
-  | in-Item+in_ok-get-in-Item w ↦ rw (w.result-is, w.in-Item.is, ← c.self.view_is) (read row.Item w.deref-in-Item.result.now c.self.inside.items.items c.args.position w.in_ok-get-in-Item.field-0.now w.deref-in-Item.ensures.value w.in_ok-get-in-Item.ensures.lookup.3.0 w.in_ok-get-in-Item.ensures.lookup.1)
-  | in-Stock+in_ok-get-in-Stock w ↦ rw (w.result-is, w.in-Stock.is, ← c.self.view_is) (read row.Stock w.deref-in-Stock.result.now c.self.inside.stocks.items c.args.position w.in_ok-get-in-Stock.field-0.now w.deref-in-Stock.ensures.value w.in_ok-get-in-Stock.ensures.lookup.3.0 w.in_ok-get-in-Stock.ensures.lookup.1)
+  | in-Item+in_ok-get-in-Item w ↦ rw (w.result-is, w.in-Item.is, ← c.self.view_is) (ap (option_map row.Item) w.in_ok-get-in-Item.ensures)
+  | in-Stock+in_ok-get-in-Stock w ↦ rw (w.result-is, w.in-Stock.is, ← c.self.view_is) (ap (option_map row.Stock) w.in_ok-get-in-Stock.ensures)
 ]

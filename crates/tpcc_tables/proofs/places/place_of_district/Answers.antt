@@ -1,9 +1,0 @@
-use Rattle.std.proofs.Common.{◌∙◌, [], ◌∷◌}
-use Rattle.tpcc_rows.specs.Tables.{is_district, district_key}
-use Rattle.tpcc_keyed.specs.Searches.{is_same_key}
-use Rattle.tpcc_keyed.proofs.Halves.{same_position}
-use Rattle.tpcc_tables.proofs.KeyTests.{district_test}
-use Rattle.tpcc_tables.proofs.places.place_of_district.Goals as goal
-
-pub returns : goal.returns
-returns c = c.place_of.ensures ∙ same_position (λ row. is_same_key (district_key row) (c.args.warehouse ∷ c.args.district ∷ [])) (is_district c.args.warehouse c.args.district) (district_test c.args.warehouse c.args.district) c.args.rows.now
