@@ -10,7 +10,7 @@ use Rattle.tpcc_rows.specs.declared.keys.DistrictKey.{DistrictKey}
 use Rattle.tpcc_rows.specs.Lists.{by_key, inserted, is_ascending}
 use Rattle.tpcc_laws.proofs.Insert.{list_all-inserted}
 use Rattle.tpcc_laws.proofs.OrderKeys.{apart, ascending-inserted}
-use Rattle.tpcc_keyed.specs.declared.parts.part.DistrictPart.{DistrictPart}
+use Rattle.tpcc_keyed.specs.DistrictRows.{DistrictRows}
 use Rattle.tpcc_keyed.specs.Searches.{is_same_key}
 use Rattle.tpcc_keyed.specs.Parts.{district_numbers, is_of, has_owner}
 use Rattle.tpcc_keyed.specs.PartWords.{rows_in, owner_of, part_numbers, is_part, owns, owner_and_rows, HasRoom, IsGrown, IsOpened, AreParts}
@@ -48,7 +48,7 @@ no_more_rows f before new (e ∷ es) none = by (before new e) (no_more_rows f be
 two_apart : (a b x y : ℕ) → is_same_key (x ∷ y ∷ []) (a ∷ b ∷ []) ≡ false → apart (a ∷ b ∷ []) (x ∷ y ∷ []) ≡ true
 two_apart a b x y e = grind (arith, nat_tests)
 
-all_apart : {T : Type 0} (owner : DistrictKey) (parts : List (DistrictPart T)) → list_any (is_part (district_numbers owner)) parts ≡ false → list_all (λ part. apart (district_numbers owner) (part_numbers part)) parts ≡ true
+all_apart : {T : Type 0} (owner : DistrictKey) (parts : List (DistrictRows T)) → list_any (is_part (district_numbers owner)) parts ≡ false → list_all (λ part. apart (district_numbers owner) (part_numbers part)) parts ≡ true
 all_apart owner [] none = refl
 all_apart owner (part ∷ parts) none =
     let here : is_part (district_numbers owner) part ≡ false = grind arith in
@@ -56,7 +56,7 @@ all_apart owner (part ∷ parts) none =
     let far : apart (district_numbers owner) (part_numbers part) ≡ true = two_apart owner.warehouse owner.district part.owner.warehouse part.owner.district here in
     λ i. far i && all_apart owner parts rest i
 
-module _ {T : Type 0} (owner : DistrictKey) (room : ℕ) (old new : List (DistrictPart T)) (opened : IsOpened owner room old new) where
+module _ {T : Type 0} (owner : DistrictKey) (room : ℕ) (old new : List (DistrictRows T)) (opened : IsOpened owner room old new) where
   pub rows_opened : flat_map rows_in new ≡ flat_map rows_in old
   rows_opened = ap (flat_map rows_in) opened.put ∙ no_more_rows rows_in (by_key part_numbers) opened.part old opened.empty
 
@@ -90,10 +90,10 @@ module _ {T : Type 0} (owner : DistrictKey) (room : ℕ) (old new : List (Distri
 
 -- ---- parts with more room
 
-module _ {T : Type 0} (old new : List (DistrictPart T)) (same : map owner_and_rows new ≡ map owner_and_rows old) where
+module _ {T : Type 0} (old new : List (DistrictRows T)) (same : map owner_and_rows new ≡ map owner_and_rows old) where
   pub rows_shown : flat_map rows_in new ≡ flat_map rows_in old
   rows_shown =
-      let by_rows = λ (parts : List (DistrictPart T)). flat_map-map (λ (s : DistrictKey × List T). s.1) owner_and_rows parts in
+      let by_rows = λ (parts : List (DistrictRows T)). flat_map-map (λ (s : DistrictKey × List T). s.1) owner_and_rows parts in
       sym (by_rows new) ∙ ap (flat_map (λ (s : DistrictKey × List T). s.1)) same ∙ by_rows old
 
   pub owners_shown : map owner_of new ≡ map owner_of old
@@ -110,7 +110,7 @@ module _ {T : Type 0} (old new : List (DistrictPart T)) (same : map owner_and_ro
         bound = fits;
       }
 
-module _ {T : Type 0} (room n : ℕ) (old now : List (DistrictPart T)) (grown : IsGrown room n old now) (part changed : DistrictPart T) (lt : n < length now) (here : part ≡ get_or now n part) (owner : changed.owner ≡ part.owner) (rows : changed.rows.items ≡ part.rows.items) (capacity : part.rows.capacity ≤ changed.rows.capacity) where
+module _ {T : Type 0} (room n : ℕ) (old now : List (DistrictRows T)) (grown : IsGrown room n old now) (part changed : DistrictRows T) (lt : n < length now) (here : part ≡ get_or now n part) (owner : changed.owner ≡ part.owner) (rows : changed.rows.items ≡ part.rows.items) (capacity : part.rows.capacity ≤ changed.rows.capacity) where
   still_shown : map owner_and_rows (set now n changed) ≡ map owner_and_rows old
   still_shown = map-set_same owner_and_rows now n changed part ((λ i. (owner i, rows i)) ∙ ap owner_and_rows here) ∙ grown.same
 

@@ -5,14 +5,14 @@ use Rattle.std.specs.declared.result.Result.{Result}
 use Rattle.std.specs.declared.result.Result.TheVariants.{Ok, Err}
 use Rattle.std.specs.List.{list_any}
 use Rattle.tpcc_rows.specs.declared.keys.DistrictKey.{DistrictKey}
-use Rattle.tpcc_keyed.specs.declared.parts.part.DistrictPart.{DistrictPart}
+use Rattle.tpcc_keyed.specs.DistrictRows.{DistrictRows}
 use Rattle.tpcc_keyed.specs.Parts.{district_numbers, has_owner}
 use Rattle.tpcc_keyed.specs.PartWords.{owner_of, part_numbers, is_part}
 use Rattle.tpcc_keyed.proofs.Keys.{same_swapped}
 use Rattle.tpcc_keyed.proofs.Place.{found_row, found_there, none_before}
 
 -- a district has a part exactly where the search finds one
-pub owner_is_part : {T : Type 0} (parts : List (DistrictPart T)) (key : List ℕ) → has_owner (map owner_of parts) key ≡ list_any (is_part (take 2 key)) parts
+pub owner_is_part : {T : Type 0} (parts : List (DistrictRows T)) (key : List ℕ) → has_owner (map owner_of parts) key ≡ list_any (is_part (take 2 key)) parts
 owner_is_part [] key = refl
 owner_is_part (part ∷ parts) key = λ i. same_swapped (take 2 key) (part_numbers part) i || owner_is_part parts key i
 
@@ -38,7 +38,7 @@ same_there p xs i a b at one other =
     cc
 
 -- where a district's key is the row's own, its part is found
-pub part_placed : {T : Type 0} (parts : List (DistrictPart T)) (owners : List DistrictKey) (owner : DistrictKey) (key : List ℕ) (seen : List (DistrictPart T)) (o : Option ℕ) → map owner_of parts ≡ owners → has_owner owners key ≡ true → district_numbers owner ≡ take 2 key → seen ≡ parts → o ≡ position (is_part (district_numbers owner)) seen → is_some o ≡ true
+pub part_placed : {T : Type 0} (parts : List (DistrictRows T)) (owners : List DistrictKey) (owner : DistrictKey) (key : List ℕ) (seen : List (DistrictRows T)) (o : Option ℕ) → map owner_of parts ≡ owners → has_owner owners key ≡ true → district_numbers owner ≡ take 2 key → seen ≡ parts → o ≡ position (is_part (district_numbers owner)) seen → is_some o ≡ true
 part_placed parts owners owner key seen o are has own same is =
     any_placed (is_part (district_numbers owner)) parts o (is ∙ ap (position (is_part (district_numbers owner))) same)
     (ap (λ k. list_any (is_part k) parts) own ∙ sym (owner_is_part parts key) ∙ ap (λ os. has_owner os key) are ∙ has)

@@ -6,7 +6,7 @@ use Rattle.tpcc_rows.specs.declared.keys.DistrictKey.{DistrictKey}
 use Rattle.tpcc_rows.specs.Lists.{key_before, updated}
 use Rattle.tpcc_laws.proofs.List.{has_one, list_all-mono, one_of_key}
 use Rattle.tpcc_laws.proofs.Remove.{found_passes}
-use Rattle.tpcc_keyed.specs.declared.parts.part.DistrictPart.{DistrictPart}
+use Rattle.tpcc_keyed.specs.DistrictRows.{DistrictRows}
 use Rattle.tpcc_keyed.specs.Searches.{is_same_key}
 use Rattle.tpcc_keyed.specs.Parts.{district_numbers, is_of}
 use Rattle.tpcc_keyed.specs.PartWords.{rows_in, part_numbers, is_part, owns, AreParts}
@@ -15,7 +15,7 @@ use Rattle.tpcc_keyed.proofs.Place.{found_row, none_before, written_row}
 use Rattle.tpcc_keyed.proofs.Halves.{none_found}
 use Rattle.tpcc_keyed.proofs.Flat.{no_strangers, none_passes, find-flat, filter-flat, updated-flat, removed-flat}
 
-pub part_apart : {T : Type 0} (k : List ℕ) (x y : DistrictPart T) → is_part k x ≡ true → is_part k y ≡ true → key_before (part_numbers x) (part_numbers y) ≡ false
+pub part_apart : {T : Type 0} (k : List ℕ) (x y : DistrictRows T) → is_part k x ≡ true → is_part k y ≡ true → key_before (part_numbers x) (part_numbers y) ≡ false
 part_apart k x y a b =
     (λ i. key_before (same_keys (part_numbers x) k a i) (same_keys (part_numbers y) k b i)) ∙ not_before_itself k
 
@@ -41,14 +41,14 @@ none_other key k q asks owner (row ∷ rows) other own =
     let here : q row ≡ false = other_district key k q asks owner row other mine in
     grind (arith, here, none_other key k q asks owner rows other rest)
 
-stranger_free : {T : Type 0} (key : T → List ℕ) (k : List ℕ) (q : T → Bool) → AsksFor key k q → (part : DistrictPart T) → owns key part ≡ true → (is_part k part || not (list_any q (rows_in part))) ≡ true
+stranger_free : {T : Type 0} (key : T → List ℕ) (k : List ℕ) (q : T → Bool) → AsksFor key k q → (part : DistrictRows T) → owns key part ≡ true → (is_part k part || not (list_any q (rows_in part))) ≡ true
 stranger_free key k q asks part own = by (is_part k part) refl
   where
     by : (b : Bool) → is_part k part ≡ b → (b || not (list_any q (rows_in part))) ≡ true
     by true is = refl
     by false is = ap not (none_other key k q asks part.owner part.rows.items is own)
 
-module _ {T : Type 0} (key : T → List ℕ) (len room : ℕ) (parts : List (DistrictPart T)) (kept : AreParts key len room parts) (k : List ℕ) where
+module _ {T : Type 0} (key : T → List ℕ) (len room : ℕ) (parts : List (DistrictRows T)) (kept : AreParts key len room parts) (k : List ℕ) where
   pub strangers : (q : T → Bool) → AsksFor key k q → no_strangers rows_in (is_part k) q parts ≡ true
   strangers q asks = list_all-mono (owns key) (λ part. is_part k part || not (list_any q (rows_in part))) (stranger_free key k q asks) parts kept.own
 
@@ -56,7 +56,7 @@ module _ {T : Type 0} (key : T → List ℕ) (len room : ℕ) (parts : List (Dis
   pub no_row : (q : T → Bool) → AsksFor key k q → position (is_part k) parts ≡ None → list_any q (flat_map rows_in parts) ≡ false
   no_row q asks none = none_passes rows_in (is_part k) q parts (strangers q asks) (none_before (is_part k) parts (list_any (is_part k) parts) refl none)
 
-  module _ (i : ℕ) (part : DistrictPart T) (at : position (is_part k) parts ≡ Some i) (here : part ≡ get_or parts i part) where
+  module _ (i : ℕ) (part : DistrictRows T) (at : position (is_part k) parts ≡ Some i) (here : part ≡ get_or parts i part) where
     pub part_found : find (is_part k) parts ≡ Some part
     part_found = found_row (is_part k) parts i part at here
 
@@ -85,23 +85,23 @@ module _ {T : Type 0} (key : T → List ℕ) (len room : ℕ) (parts : List (Dis
     no_row_there q asks none =
         any_none q (flat_map rows_in parts) (rows_found q asks ∙ none_found q part.rows.items (none_before q part.rows.items (list_any q part.rows.items) refl none))
 
-    module _ (new : DistrictPart T) where
+    module _ (new : DistrictRows T) where
       pub write_is : set parts i new ≡ updated (is_part k) (λ old. new) parts
       write_is = written_row part_numbers (is_part k) (part_apart k) (λ old. new) parts i part kept.ascending at here
 
-      pub found_is : (old : DistrictPart T) → find (is_part k) parts ≡ Some old → part ≡ old
+      pub found_is : (old : DistrictRows T) → find (is_part k) parts ≡ Some old → part ≡ old
       found_is old found = let both = sym part_found ∙ found in cc
 
       -- a change of the part is one of all rows
       pub rows_updated : (q : T → Bool) (change : T → T) → AsksFor key k q → new.rows.items ≡ updated q change part.rows.items → flat_map rows_in (set parts i new) ≡ updated q change (flat_map rows_in parts)
       rows_updated q change asks is =
           ap (flat_map rows_in) write_is
-          ∙ updated-flat rows_in (is_part k) q change (λ old. new) parts (λ old found. is ∙ ap (λ (p : DistrictPart T). updated q change p.rows.items) (found_is old found)) one_part (strangers q asks)
+          ∙ updated-flat rows_in (is_part k) q change (λ old. new) parts (λ old found. is ∙ ap (λ (p : DistrictRows T). updated q change p.rows.items) (found_is old found)) one_part (strangers q asks)
 
       pub rows_removed : (q : T → Bool) → AsksFor key k q → new.rows.items ≡ filter (λ row. not (q row)) part.rows.items → flat_map rows_in (set parts i new) ≡ filter (λ row. not (q row)) (flat_map rows_in parts)
       rows_removed q asks is =
           ap (flat_map rows_in) write_is
-          ∙ removed-flat rows_in (is_part k) q (λ old. new) parts (λ old found. is ∙ ap (λ (p : DistrictPart T). filter (λ row. not (q row)) p.rows.items) (found_is old found)) one_part (strangers q asks)
+          ∙ removed-flat rows_in (is_part k) q (λ old. new) parts (λ old found. is ∙ ap (λ (p : DistrictRows T). filter (λ row. not (q row)) p.rows.items) (found_is old found)) one_part (strangers q asks)
 
 -- the row of a key is of the key's district
 pub asks_key : {T : Type 0} (key : T → List ℕ) (numbers k : List ℕ) → k ≡ take 2 numbers → AsksFor key k (λ row. is_same_key (key row) numbers)
@@ -115,7 +115,7 @@ pub placed : {X : Type 0} (p : X → Bool) (seen xs : List X) (o w : Option ℕ)
 placed p seen xs o w same is was = ap (position p) (sym same) ∙ sym is ∙ was
 
 -- all rows of a district's part are its district's
-pub whole_part : {T : Type 0} (key : T → List ℕ) (owner : DistrictKey) (part : DistrictPart T) → owns key part ≡ true → part_numbers part ≡ district_numbers owner → filter (λ row. is_of owner (key row)) part.rows.items ≡ part.rows.items
+pub whole_part : {T : Type 0} (key : T → List ℕ) (owner : DistrictKey) (part : DistrictRows T) → owns key part ≡ true → part_numbers part ≡ district_numbers owner → filter (λ row. is_of owner (key row)) part.rows.items ≡ part.rows.items
 whole_part {T} key owner part own same = all_chosen (λ row. is_of owner (key row)) part.rows.items (ap (λ k. list_all (λ row. is_same_key (take 2 (key row)) k) part.rows.items) (sym same) ∙ own)
   where
     all_chosen : (q : T → Bool) (xs : List T) → list_all q xs ≡ true → filter q xs ≡ xs

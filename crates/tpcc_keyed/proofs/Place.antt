@@ -1,5 +1,5 @@
 -- A write at the place of a key's row, as an update by key.
-use Rattle.std.proofs.Common.{◌≡◌, ℕ, zero, suc, ◌<◌, Bool, true, false, List, [], ◌∷◌, length, get_or, set, refl, sym, ap, ◌∙◌, arith, Some, None}
+use Rattle.std.proofs.Common.{◌≡◌, ℕ, zero, suc, ◌<◌, Bool, true, false, List, [], ◌∷◌, length, get_or, set, slice_get, refl, sym, ap, ◌∙◌, arith, Some, None}
 use Rattle.std.specs.Prelude.{find, position, is_some}
 use Rattle.std.specs.List.{list_any, position_or_len}
 use Rattle.std.proofs.lemmas.Bool.Decides.{nat_tests}
@@ -44,3 +44,13 @@ written_row key passes apart change xs i y keyed e here = ap (λ z. set xs i (ch
 
 pub unwritten : {X : Type 0} (passes : X → Bool) (change : X → X) (xs : List X) → position passes xs ≡ None → xs ≡ updated passes change xs
 unwritten passes change xs e = sym (updated_absent passes change xs (none_before passes xs (list_any passes xs) refl e))
+
+got : {X : Type 0} (xs : List X) (i : ℕ) (d : X) → i < length xs → slice_get xs i ≡ Some (get_or xs i d)
+got [] i d lt = absurd (omega arith)
+got (x ∷ xs) zero d lt = refl
+got (x ∷ xs) (suc i) d lt = got xs i d (omega arith)
+
+-- what is got from its place is what a look-up finds
+pub got_there : {X : Type 0} (passes : X → Bool) (xs : List X) (i : ℕ) → position passes xs ≡ Some i → slice_get xs i ≡ find passes xs
+got_there passes [] i e = cc
+got_there passes (x ∷ xs) i e = got (x ∷ xs) i x (position-Some passes (x ∷ xs) i x e).0 ∙ sym (found_there passes (x ∷ xs) i x e)

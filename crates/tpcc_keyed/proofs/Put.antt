@@ -13,7 +13,7 @@ use Rattle.tpcc_rows.specs.Lists.{by_key, inserted, is_ascending, key_before, up
 use Rattle.tpcc_laws.proofs.DeliveryKeys.{list_all-filter}
 use Rattle.tpcc_laws.proofs.Insert.{list_all-inserted}
 use Rattle.tpcc_laws.proofs.List.{list_all-mono}
-use Rattle.tpcc_keyed.specs.declared.parts.part.DistrictPart.{DistrictPart}
+use Rattle.tpcc_keyed.specs.DistrictRows.{DistrictRows}
 use Rattle.tpcc_keyed.specs.Searches.{is_same_key}
 use Rattle.tpcc_keyed.specs.Parts.{district_numbers, is_of}
 use Rattle.tpcc_keyed.specs.PartWords.{rows_in, owner_of, part_numbers, is_part, owns, HasRoom, AreParts}
@@ -45,11 +45,11 @@ module _ {T : Type 0} (key : T → List ℕ) (new : T) (k : List ℕ) (same : ta
       }
 
   -- a row put into its part is put among all rows
-  pub rows_inserted : (len room : ℕ) (parts : List (DistrictPart T)) (kept : AreParts key len room parts) (i : ℕ) (part : DistrictPart T) → position (is_part k) parts ≡ Some i → part ≡ get_or parts i part → (changed : DistrictPart T) → changed.rows.items ≡ inserted (by_key key) new part.rows.items → flat_map rows_in (set parts i changed) ≡ inserted (by_key key) new (flat_map rows_in parts)
+  pub rows_inserted : (len room : ℕ) (parts : List (DistrictRows T)) (kept : AreParts key len room parts) (i : ℕ) (part : DistrictRows T) → position (is_part k) parts ≡ Some i → part ≡ get_or parts i part → (changed : DistrictRows T) → changed.rows.items ≡ inserted (by_key key) new part.rows.items → flat_map rows_in (set parts i changed) ≡ inserted (by_key key) new (flat_map rows_in parts)
   rows_inserted len room parts kept i part at here changed is =
       let one = one_part key len room parts kept k i part at here in
       ap (flat_map rows_in) (write_is key len room parts kept k i part at here changed)
-      ∙ inserted-flat_any rows_in (is_part k) (by_key key) new (λ old. changed) parts (λ old found. is ∙ ap (λ (p : DistrictPart T). inserted (by_key key) new p.rows.items) (found_is key len room parts kept k i part at here changed old found)) one
+      ∙ inserted-flat_any rows_in (is_part k) (by_key key) new (λ old. changed) parts (λ old found. is ∙ ap (λ (p : DistrictRows T). inserted (by_key key) new p.rows.items) (found_is key len room parts kept k i part at here changed old found)) one
       (sides_from_order rows_in (is_part k) part_numbers (by_key key) new k (owns key) around parts kept.own kept.ascending one)
 
 -- rows of a part are in order where all rows are
@@ -65,14 +65,14 @@ ascending_back : {X : Type 0} (key : X → List ℕ) (xs ys : List X) → is_asc
 ascending_back key [] ys h = h
 ascending_back key (x ∷ xs) ys h = grind (arith, ascending_back key xs ys)
 
-pub part_keyed : {T : Type 0} (key : T → List ℕ) (p : DistrictPart T → Bool) (parts : List (DistrictPart T)) (part : DistrictPart T) → is_ascending key (flat_map rows_in parts) ≡ true → find p parts ≡ Some part → is_ascending key part.rows.items ≡ true
+pub part_keyed : {T : Type 0} (key : T → List ℕ) (p : DistrictRows T → Bool) (parts : List (DistrictRows T)) (part : DistrictRows T) → is_ascending key (flat_map rows_in parts) ≡ true → find p parts ≡ Some part → is_ascending key part.rows.items ≡ true
 part_keyed key p [] part h at = cc
 part_keyed {T} key p (x ∷ xs) part h at = by (p x) refl (part_keyed key p xs part (ascending_back key (rows_in x) (flat_map rows_in xs) h))
   where
     by : (b : Bool) → p x ≡ b → (find p xs ≡ Some part → is_ascending key part.rows.items ≡ true) → is_ascending key part.rows.items ≡ true
     by true is next =
         let same : x ≡ part = grind (arith, at, is) in
-        ap (λ (q : DistrictPart T). is_ascending key q.rows.items) (sym same) ∙ ascending_front key (rows_in x) (flat_map rows_in xs) h
+        ap (λ (q : DistrictRows T). is_ascending key q.rows.items) (sym same) ∙ ascending_front key (rows_in x) (flat_map rows_in xs) h
     by false is next =
         let later : find p xs ≡ Some part = grind (arith, at, is) in
         next later
@@ -86,12 +86,12 @@ all_set test (y ∷ xs) (suc i) x h all = grind (arith, all_set test xs i x)
 ascending_set : {X : Type 0} (numbers : X → List ℕ) (xs : List X) (i : ℕ) (x d : X) → numbers x ≡ numbers (get_or xs i d) → is_ascending numbers (set xs i x) ≡ is_ascending numbers xs
 ascending_set numbers xs i x d same = ascending-shown numbers (λ n. n) (set xs i x) ∙ ap (is_ascending (λ n. n)) (map-set_same numbers xs i x d same) ∙ sym (ascending-shown numbers (λ n. n) xs)
 
-less_room : {T : Type 0} (room less : ℕ) → less ≤ room → (part : DistrictPart T) → HasRoom room part → HasRoom less part
+less_room : {T : Type 0} (room less : ℕ) → less ≤ room → (part : DistrictRows T) → HasRoom room part → HasRoom less part
 less_room room less le part h = omega arith
 
-module _ {T : Type 0} (key : T → List ℕ) (len room : ℕ) (parts : List (DistrictPart T)) (kept : AreParts key len room parts) (i : ℕ) (part changed : DistrictPart T) (here : part ≡ get_or parts i part) (same : changed.owner ≡ part.owner) where
+module _ {T : Type 0} (key : T → List ℕ) (len room : ℕ) (parts : List (DistrictRows T)) (kept : AreParts key len room parts) (i : ℕ) (part changed : DistrictRows T) (here : part ≡ get_or parts i part) (same : changed.owner ≡ part.owner) where
   owner_here : changed.owner ≡ (get_or parts i part).owner
-  owner_here = same ∙ ap (λ (p : DistrictPart T). p.owner) here
+  owner_here = same ∙ ap (λ (p : DistrictRows T). p.owner) here
 
   pub owners_kept : map owner_of (set parts i changed) ≡ map owner_of parts
   owners_kept = map-set_same owner_of parts i changed part owner_here
@@ -107,11 +107,11 @@ module _ {T : Type 0} (key : T → List ℕ) (len room : ℕ) (parts : List (Dis
       }
 
 -- how many rows there are after a change of one part
-pub length_set : {T : Type 0} (parts : List (DistrictPart T)) (i : ℕ) (part changed : DistrictPart T) → i < length parts → part ≡ get_or parts i part → length (flat_map rows_in (set parts i changed)) + length part.rows.items ≡ length (flat_map rows_in parts) + length changed.rows.items
+pub length_set : {T : Type 0} (parts : List (DistrictRows T)) (i : ℕ) (part changed : DistrictRows T) → i < length parts → part ≡ get_or parts i part → length (flat_map rows_in (set parts i changed)) + length part.rows.items ≡ length (flat_map rows_in parts) + length changed.rows.items
 length_set {T} parts i part changed lt here =
-    let size : DistrictPart T → ℕ = λ (p : DistrictPart T). length p.rows.items in
-    let by_sum = sum_by-set (λ (p : DistrictPart T). length p.rows.items) parts i changed part lt in
-    let same : length part.rows.items ≡ length (get_or parts i part).rows.items = ap (λ (p : DistrictPart T). length p.rows.items) here in
+    let size : DistrictRows T → ℕ = λ (p : DistrictRows T). length p.rows.items in
+    let by_sum = sum_by-set (λ (p : DistrictRows T). length p.rows.items) parts i changed part lt in
+    let same : length part.rows.items ≡ length (get_or parts i part).rows.items = ap (λ (p : DistrictRows T). length p.rows.items) here in
     omega (arith, by_sum, same, length-flat_map rows_in (set parts i changed), length-flat_map rows_in parts)
 
 pub length_inserted : {X : Type 0} (before : X → X → Bool) (new : X) (xs : List X) → length (inserted before new xs) ≡ length xs + 1
@@ -122,7 +122,7 @@ length_inserted before new (x ∷ xs) = grind (arith, length_inserted before new
 owned_by : {T : Type 0} (key : T → List ℕ) (a b : DistrictKey) → a ≡ b → (rows : List T) → list_all (λ row. is_of b (key row)) rows ≡ true → list_all (λ row. is_of a (key row)) rows ≡ true
 owned_by key a b same rows h = ap (λ (k : DistrictKey). list_all (λ row. is_of k (key row)) rows) same ∙ h
 
-module _ {T : Type 0} (key : T → List ℕ) (part changed : DistrictPart T) (same : changed.owner ≡ part.owner) (own : owns key part ≡ true) where
+module _ {T : Type 0} (key : T → List ℕ) (part changed : DistrictRows T) (same : changed.owner ≡ part.owner) (own : owns key part ≡ true) where
   pub owns_inserted : (new : T) → take 2 (key new) ≡ part_numbers part → changed.rows.items ≡ inserted (by_key key) new part.rows.items → owns key changed ≡ true
   owns_inserted new of_part is =
       let mine : is_of part.owner (key new) ≡ true = same_if_equal (take 2 (key new)) (part_numbers part) of_part in
@@ -144,7 +144,7 @@ module _ {T : Type 0} (key : T → List ℕ) (part changed : DistrictPart T) (sa
       (ap (list_all (λ row. is_of part.owner (key row))) is ∙ list_all-filter (λ row. is_of part.owner (key row)) q part.rows.items own)
 
 -- a part has the room of all
-pub room_there : {T : Type 0} (room : ℕ) (parts : List (DistrictPart T)) (i : ℕ) (part : DistrictPart T) → All (HasRoom room) parts → i < length parts → part ≡ get_or parts i part → HasRoom room part
+pub room_there : {T : Type 0} (room : ℕ) (parts : List (DistrictRows T)) (i : ℕ) (part : DistrictRows T) → All (HasRoom room) parts → i < length parts → part ≡ get_or parts i part → HasRoom room part
 room_there room parts i part all lt here = subst (HasRoom room) (sym here) (all i part lt)
 
 -- the row of a key in its part
@@ -163,7 +163,7 @@ line_within q [] line at = cc
 line_within q (row ∷ rows) line at = (position-Some q (row ∷ rows) line row at).0
 
 -- a part with the same rows leaves all rows the same
-pub rows_same : {T : Type 0} (parts : List (DistrictPart T)) (i : ℕ) (part changed : DistrictPart T) → part ≡ get_or parts i part → changed.rows.items ≡ part.rows.items → flat_map rows_in (set parts i changed) ≡ flat_map rows_in parts
+pub rows_same : {T : Type 0} (parts : List (DistrictRows T)) (i : ℕ) (part changed : DistrictRows T) → part ≡ get_or parts i part → changed.rows.items ≡ part.rows.items → flat_map rows_in (set parts i changed) ≡ flat_map rows_in parts
 rows_same {T} parts i part changed here is =
     sym (flat_map-map (λ (xs : List T). xs) rows_in (set parts i changed))
     ∙ ap (flat_map (λ (xs : List T). xs)) (map-set_same rows_in parts i changed part (is ∙ ap rows_in here))

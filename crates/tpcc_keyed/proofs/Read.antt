@@ -10,7 +10,7 @@ use Rattle.std.proofs.lemmas.List.Sums.{prefix_len-le-length}
 use Rattle.tpcc_rows.specs.declared.keys.DistrictKey.{DistrictKey}
 use Rattle.tpcc_rows.specs.Lists.{is_ascending, key_before}
 use Rattle.tpcc_laws.proofs.List.{list_all-mono}
-use Rattle.tpcc_keyed.specs.declared.parts.part.DistrictPart.{DistrictPart}
+use Rattle.tpcc_keyed.specs.DistrictRows.{DistrictRows}
 use Rattle.tpcc_keyed.specs.Searches.{is_same_key}
 use Rattle.tpcc_keyed.specs.Parts.{district_numbers, is_of}
 use Rattle.tpcc_keyed.specs.PartWords.{rows_in, part_numbers, owns, HasRoom, AreRead}
@@ -147,7 +147,7 @@ ascending_push numbers (x ∷ xs) y up below =
     let all = all-append (λ later. key_before (numbers x) (numbers later)) xs (y ∷ []) above one in
     λ i. all i && ascending_push numbers xs y rest later i
 
-module _ {T : Type 0} (key : T → List ℕ) (rows : List T) (up : is_ascending key rows ≡ true) (start : ℕ) (parts : List (DistrictPart T)) (so_far : AreRead key rows start parts) (more : start < length rows) (seen : List T) (is : seen ≡ drop start rows) (first : T) (here : first ≡ get_or seen 0 first) (owner : DistrictKey) (own : district_numbers owner ≡ take 2 (key first)) (n : ℕ) (counted : n ≡ prefix_len (λ row. not (key_before (district_numbers owner) (take 2 (key row)))) seen) (run : DistrictPart T) (of_owner : run.owner ≡ owner) (holds : run.rows.items ≡ take n seen) (within : HasRoom 0 run) where
+module _ {T : Type 0} (key : T → List ℕ) (rows : List T) (up : is_ascending key rows ≡ true) (start : ℕ) (parts : List (DistrictRows T)) (so_far : AreRead key rows start parts) (more : start < length rows) (seen : List T) (is : seen ≡ drop start rows) (first : T) (here : first ≡ get_or seen 0 first) (owner : DistrictKey) (own : district_numbers owner ≡ take 2 (key first)) (n : ℕ) (counted : n ≡ prefix_len (λ row. not (key_before (district_numbers owner) (take 2 (key row)))) seen) (run : DistrictRows T) (of_owner : run.owner ≡ owner) (holds : run.rows.items ≡ take n seen) (within : HasRoom 0 run) where
   some : 0 < length seen
   some = let l : length seen ≡ length rows - start = ap length is ∙ length-drop start rows in omega (arith, l, more)
 
@@ -215,12 +215,12 @@ drop_past (x ∷ xs) ys (suc i) le =
     let e : i - length xs ≡ suc i - length (x ∷ xs) = omega arith in
     drop_past xs ys i (omega arith) ∙ (λ j. drop (e j) ys)
 
-get_within : {X : Type 0} (xs ys : List X) (i : ℕ) (x : X) → i < length xs → x ≡ get_or xs i x → slice_get (xs ++ ys) i ≡ Some x
-get_within [] ys i x lt here = absurd (omega arith)
-get_within (y ∷ xs) ys zero x lt here = ap Some (sym here)
-get_within (y ∷ xs) ys (suc i) x lt here = get_within xs ys i x (omega arith) here
+get_within : {X : Type 0} (xs ys : List X) (i : ℕ) → i < length xs → slice_get (xs ++ ys) i ≡ slice_get xs i
+get_within [] ys i lt = absurd (omega arith)
+get_within (y ∷ xs) ys zero lt = refl
+get_within (y ∷ xs) ys (suc i) lt = get_within xs ys i (omega arith)
 
-module _ {T : Type 0} (parts : List (DistrictPart T)) (i : ℕ) (part : DistrictPart T) (lt : i < length parts) (here : part ≡ get_or parts i part) where
+module _ {T : Type 0} (parts : List (DistrictRows T)) (i : ℕ) (part : DistrictRows T) (lt : i < length parts) (here : part ≡ get_or parts i part) where
   rows_from : flat_map rows_in (drop i parts) ≡ part.rows.items ++ flat_map rows_in (drop (i + 1) parts)
   rows_from =
       let e : suc i ≡ i + 1 = omega arith in
@@ -229,8 +229,8 @@ module _ {T : Type 0} (parts : List (DistrictPart T)) (i : ℕ) (part : District
   pub row_past : (before : ℕ) → length part.rows.items ≤ before → slice_get (flat_map rows_in (drop i parts)) before ≡ slice_get (flat_map rows_in (drop (i + 1) parts)) (before - length part.rows.items)
   row_past before le = ap (λ xs. slice_get xs before) rows_from ∙ get_past part.rows.items (flat_map rows_in (drop (i + 1) parts)) before le
 
-  pub row_within : (before : ℕ) (row : T) → before < length part.rows.items → row ≡ get_or part.rows.items before row → slice_get (flat_map rows_in (drop i parts)) before ≡ Some row
-  row_within before row within is = ap (λ xs. slice_get xs before) rows_from ∙ get_within part.rows.items (flat_map rows_in (drop (i + 1) parts)) before row within is
+  pub row_within : (before : ℕ) → before < length part.rows.items → slice_get part.rows.items before ≡ slice_get (flat_map rows_in (drop i parts)) before
+  row_within before within = sym (ap (λ xs. slice_get xs before) rows_from ∙ get_within part.rows.items (flat_map rows_in (drop (i + 1) parts)) before within)
 
   -- the rows from a place on, counted through the parts
   pub rest_past : (before : ℕ) → length part.rows.items ≤ before → drop before (flat_map rows_in (drop i parts)) ≡ drop (before - length part.rows.items) (flat_map rows_in (drop (i + 1) parts))

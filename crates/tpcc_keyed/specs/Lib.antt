@@ -1,6 +1,11 @@
 pub mod Searches
 pub mod Tails
 pub mod TailsView
+pub mod DistrictRows
+pub mod DistrictRowsView
+pub mod OrderRange
+pub mod OrderRangeView
+pub mod WaitingView
 pub mod Parts
 pub mod PartWords
 pub mod PartsView

@@ -4,8 +4,8 @@ use Rattle.tpcc_keyed.specs.declared.parts.Parts.TheInside.{Inside}
 use Rattle.tpcc_keyed.specs.Parts.{PartsView}
 use Rattle.tpcc_keyed.specs.PartWords.{rows_in, owner_of, AreParts}
 
-abbrev pub view_of_parts : {T K : Type 0} → Inside T K → PartsView T
+abbrev pub view_of_parts : {T S K : Type 0} → Inside T S K → PartsView T
 view_of_parts t = record { rows = flat_map rows_in t.parts.items; owners = map owner_of t.parts.items; room = t.room }
 
-abbrev pub IsParts : {T K : Type 0} → (T → List ℕ) → Inside T K → Type 0
+abbrev pub IsParts : {T S K : Type 0} → (T → List ℕ) → Inside T S K → Type 0
 IsParts key t = AreParts key t.len t.room t.parts.items

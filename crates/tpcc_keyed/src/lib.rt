@@ -18,4 +18,7 @@ pub use keyed_rows::KeyedRows;
 pub use mapped::Mapped;
 pub use names::{CustomerName, Names};
 pub use parts::Parts;
+pub use parts::store::Store;
+pub use parts::tail::Tail;
+pub use parts::waiting::Waiting;
 pub use row_change::RowChange;

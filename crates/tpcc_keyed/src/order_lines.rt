@@ -5,29 +5,13 @@ ghost use Rattle.tpcc_rows.specs.Tables.{is_line_of, order_line_key};
 ghost use Rattle.tpcc_keyed.specs.Runs.{is_line_between};
 
 use crate::parts::Parts;
-use crate::parts::part::DistrictPart;
 use crate::parts::place::place_of;
+use crate::parts::tail::Tail;
 use crate::runs;
 use tpcc_money::Moment;
 use tpcc_rows::{DistrictKey, OrderLineRow};
 
-fn stamp(
-    part: &mut DistrictPart<OrderLineRow>,
-    warehouse: u32,
-    district: u32,
-    order: u32,
-    moment: Moment,
-)
-    requires keyed { is_ascending order_line_key part.old.rows.items ≡ true }
-    ensures owner { part.new.owner ≡ part.old.owner }
-    ensures rows { part.new.rows.items ≡ updated (is_line_of warehouse district order)
-        (λ l. record l { delivered = Some moment }) part.old.rows.items }
-    ensures capacity { part.new.rows.capacity ≡ part.old.rows.capacity }
-{
-    part.rows.stamp(warehouse, district, order, moment);
-}
-
-impl Parts<OrderLineRow> {
+impl Parts<OrderLineRow, Tail<OrderLineRow>> {
     /// The lines of an order.
     pub fn lines_of(&self, warehouse: u32, district: u32, order: u32) -> &[OrderLineRow]
         requires keyed { is_ascending order_line_key self.now.rows ≡ true }
@@ -75,6 +59,6 @@ impl Parts<OrderLineRow> {
         let Some(place) = place_of(self.parts.as_slice(), owner) else {
             return;
         };
-        stamp(&mut self.parts[place], warehouse, district, order, moment);
+        self.parts[place].stamp(warehouse, district, order, moment);
     }
 }

@@ -1,41 +1,46 @@
-//! Rows in ascending order of their keys, kept in one vector for each district.
+//! Rows in ascending order of their keys, kept apart for each district.
 ghost use Rattle.std.specs.Prelude.{◌≡◌, ◌+◌, ◌<◌, ◌≤◌, ℕ, List, [], ◌∷◌, OnOk, OnErr, IfOk, find, filter, not, drop, length, slice_get, take, true};
 ghost use Rattle.std.specs.List.{list_all};
 ghost use Rattle.std.specs.Option.{option_copied};
 ghost use Rattle.tpcc_rows.specs.Lists.{by_key, is_ascending, inserted, inserted_all, updated};
 ghost use Rattle.tpcc_keyed.specs.Searches.{is_same_key};
-ghost use Rattle.tpcc_keyed.specs.Parts.{district_numbers, is_of, has_owner};
+ghost use Rattle.tpcc_keyed.specs.Parts.{district_numbers, is_of, has_owner, rows_or_none};
 ghost use Rattle.tpcc_rows.specs.declared.keys.DistrictKey.{DistrictKey};
 
 mod growth;
 pub(crate) mod part;
 pub(crate) mod place;
+mod range;
 mod reading;
+pub(crate) mod store;
 pub(crate) mod tail;
+pub(crate) mod waiting;
 
 use crate::keyed::Owned;
-use crate::search::{self, find};
+use crate::search::find;
 use growth::grow_all;
-use part::{DistrictPart, exchange, put, put_in_room, take_out};
+use part::DistrictPart;
 use place::{open_part, place_of};
 use reading::read_run;
+use store::Store;
+use tail::Tail;
 use std::alloc::Global;
 use std::marker::Model;
 use tpcc_money::NoMemory;
 use tpcc_rows::DistrictKey;
 
-/// Rows in ascending order of their keys, in one vector for each district: a row of a district's
-/// greatest key is pushed, and no row of another district moves.
+/// Rows in ascending order of their keys, each district's in a store of its own: a row of a
+/// district's greatest key is pushed, and no row of another district moves.
 #[derive(Drop)]
-pub struct Parts<T: Owned> {
-    pub(crate) parts: Vec<DistrictPart<T>>,
+pub struct Parts<T: Owned, S: Store<T>> {
+    pub(crate) parts: Vec<DistrictPart<T, S>>,
     /// How many rows there are.
     len: usize,
     /// How many more rows each part can take.
     room: usize,
 }
 
-impl<T: Owned> Model for Parts<T> {
+impl<T: Owned, S: Store<T>> Model for Parts<T, S> {
     ghost use Rattle.tpcc_keyed.specs.Parts.{PartsView};
 
     ghost Value = { PartsView T };
@@ -47,9 +52,9 @@ impl<T: Owned> Model for Parts<T> {
     ghost invariant = { IsParts T.key };
 }
 
-impl<T: Owned> Parts<T> {
+impl<T: Owned, S: Store<T>> Parts<T, S> {
     /// No parts.
-    pub fn new(alloc: Global) -> Parts<T>
+    pub fn new(alloc: Global) -> Parts<T, S>
         ensures { result ≡ record { rows = []; owners = []; room = 0 } }
     {
         Parts {
@@ -60,7 +65,7 @@ impl<T: Owned> Parts<T> {
     }
 
     /// The parts of rows that are in order already; each part has the room of its rows.
-    pub fn from_sorted(rows: Vec<T>, alloc: Global) -> Result<Parts<T>, NoMemory>
+    pub fn from_sorted(rows: Vec<T>, alloc: Global) -> Result<Parts<T, S>, NoMemory>
         requires keyed { is_ascending T.key rows.items ≡ true }
         ensures { IfOk result (λ parts. parts.rows ≡ rows.items) }
     {
@@ -90,55 +95,55 @@ impl<T: Owned> Parts<T> {
         self.room
     }
 
-    /// The row at a place, from 0, in ascending order of keys.
-    pub fn get(&self, position: usize) -> Option<&T>
-        ensures { option_copied result ≡ slice_get self.now.rows position }
+    /// A copy of the row at a place, from 0, in ascending order of keys.
+    pub fn copy_at(&self, position: usize) -> Option<T>
+        ensures { result ≡ slice_get self.now.rows position }
     {
         let mut before = position;
         for part in self.parts.iter() {
-            let rows = part.rows.as_slice();
-            if before < rows.len() {
-                return Some(&rows[before]);
+            if before < part.len() {
+                return part.get(before);
             }
-            before -= rows.len();
+            before -= part.len();
         }
         None
     }
 
-    /// Rows that lie side by side, from a place on: at least one, where there is a row.
-    pub fn run_from(&self, position: usize) -> &[T]
-        ensures run { result.now ≡ take (length result.now) (drop position self.now.rows) }
-        ensures some { position < length self.now.rows → 0 < length result.now }
+    /// The part of a district, where it has one.
+    fn part_of(&self, owner: DistrictKey) -> Option<&DistrictPart<T, S>>
+        ensures { rows_or_none (option_copied result)
+            ≡ filter (λ row. is_of owner (T.key row)) self.now.rows }
     {
-        let mut before = position;
-        for part in self.parts.iter() {
-            let rows = part.rows.as_slice();
-            if before < rows.len() {
-                return &rows[before..];
-            }
-            before -= rows.len();
+        let place = place_of(self.parts.as_slice(), owner)?;
+        Some(&self.parts[place])
+    }
+
+    /// How many rows a district has.
+    pub fn len_of(&self, owner: DistrictKey) -> usize
+        ensures { result ≡ length (filter (λ row. is_of owner (T.key row)) self.now.rows) }
+    {
+        match self.part_of(owner) {
+            Some(part) => part.len(),
+            None => 0,
         }
-        &[]
     }
 
-    /// The rows of a district.
-    pub fn part(&self, owner: DistrictKey) -> &[T]
-        ensures { result.now ≡ filter (λ row. is_of owner (T.key row)) self.now.rows }
+    /// A copy of a district's row at a place, from 0, among its own.
+    pub fn copy_of(&self, owner: DistrictKey, place: usize) -> Option<T>
+        ensures { result
+            ≡ slice_get (filter (λ row. is_of owner (T.key row)) self.now.rows) place }
     {
-        let Some(place) = place_of(self.parts.as_slice(), owner) else {
-            return &[];
-        };
-        self.parts[place].rows.as_slice()
+        self.part_of(owner)?.get(place)
     }
 
-    /// The row of a key.
-    pub fn find(&self, key: &T::Key) -> Option<&T>
+    /// A copy of the row of a key.
+    pub fn find_copy(&self, key: &T::Key) -> Option<T>
         requires keyed { is_ascending T.key self.now.rows ≡ true }
-        ensures { option_copied result
+        ensures { result
             ≡ find (λ row. is_same_key (T.key row) (T.numbers key.now)) self.now.rows }
     {
-        let place = place_of(self.parts.as_slice(), T::owner_of(key))?;
-        find(self.parts[place].rows.as_slice(), key)
+        let part = self.part_of(T::owner_of(key))?;
+        part.get(part.place_of(key)?)
     }
 
     /// A part for a district, where it has none. A refused growth changes nothing.
@@ -188,7 +193,7 @@ impl<T: Owned> Parts<T> {
         }
         self.open(row.owner())?;
         let place = place_of(self.parts.as_slice(), row.owner()).unwrap();
-        put(&mut self.parts[place], row)?;
+        self.parts[place].put(row)?;
         self.len += 1;
         self.room = 0;
         Ok(())
@@ -204,7 +209,7 @@ impl<T: Owned> Parts<T> {
         ensures room { self.new.room + 1 ≡ self.old.room }
     {
         let place = place_of(self.parts.as_slice(), row.owner()).unwrap();
-        put_in_room(&mut self.parts[place], row);
+        self.parts[place].put_in_room(row);
         self.len += 1;
         self.room -= 1;
     }
@@ -224,6 +229,68 @@ impl<T: Owned> Parts<T> {
         }
     }
 
+    /// The row of a key taken out, where there is one.
+    pub fn remove(&mut self, key: &T::Key)
+        requires keyed { is_ascending T.key self.old.rows ≡ true }
+        ensures rows { self.new.rows
+            ≡ filter (λ row. not (is_same_key (T.key row) (T.numbers key.now))) self.old.rows }
+        ensures owners { self.new.owners ≡ self.old.owners }
+        ensures room { self.new.room ≡ self.old.room }
+    {
+        let Some(place) = place_of(self.parts.as_slice(), T::owner_of(key)) else {
+            return;
+        };
+        let Some(line) = self.parts[place].place_of(key) else {
+            return;
+        };
+        self.parts[place].take_out(line);
+        self.len -= 1;
+    }
+}
+
+impl<T: Owned> Parts<T, Tail<T>> {
+    /// Rows that lie side by side, from a place on: at least one, where there is a row.
+    pub fn run_from(&self, position: usize) -> &[T]
+        ensures run { result.now ≡ take (length result.now) (drop position self.now.rows) }
+        ensures some { position < length self.now.rows → 0 < length result.now }
+    {
+        let mut before = position;
+        for part in self.parts.iter() {
+            let rows = part.as_slice();
+            if before < rows.len() {
+                return &rows[before..];
+            }
+            before -= rows.len();
+        }
+        &[]
+    }
+
+    /// The row at a place, from 0, in ascending order of keys.
+    pub fn get(&self, position: usize) -> Option<&T>
+        ensures { option_copied result ≡ slice_get self.now.rows position }
+    {
+        self.run_from(position).first()
+    }
+
+    /// The rows of a district.
+    pub fn part(&self, owner: DistrictKey) -> &[T]
+        ensures { result.now ≡ filter (λ row. is_of owner (T.key row)) self.now.rows }
+    {
+        match self.part_of(owner) {
+            Some(part) => part.as_slice(),
+            None => &[],
+        }
+    }
+
+    /// The row of a key.
+    pub fn find(&self, key: &T::Key) -> Option<&T>
+        requires keyed { is_ascending T.key self.now.rows ≡ true }
+        ensures { option_copied result
+            ≡ find (λ row. is_same_key (T.key row) (T.numbers key.now)) self.now.rows }
+    {
+        find(self.part(T::owner_of(key)), key)
+    }
+
     /// Another row in the place of the one of its key, where there is one.
     pub fn replace(&mut self, key: &T::Key, row: T)
         requires keyed { is_ascending T.key self.old.rows ≡ true }
@@ -236,27 +303,9 @@ impl<T: Owned> Parts<T> {
         let Some(place) = place_of(self.parts.as_slice(), T::owner_of(key)) else {
             return;
         };
-        let Some(line) = search::place_of(self.parts[place].rows.as_slice(), key) else {
+        let Some(line) = self.parts[place].place_of(key) else {
             return;
         };
-        exchange(&mut self.parts[place], line, row);
-    }
-
-    /// The row of a key taken out, where there is one.
-    pub fn remove(&mut self, key: &T::Key)
-        requires keyed { is_ascending T.key self.old.rows ≡ true }
-        ensures rows { self.new.rows
-            ≡ filter (λ row. not (is_same_key (T.key row) (T.numbers key.now))) self.old.rows }
-        ensures owners { self.new.owners ≡ self.old.owners }
-        ensures room { self.new.room ≡ self.old.room }
-    {
-        let Some(place) = place_of(self.parts.as_slice(), T::owner_of(key)) else {
-            return;
-        };
-        let Some(line) = search::place_of(self.parts[place].rows.as_slice(), key) else {
-            return;
-        };
-        take_out(&mut self.parts[place], line);
-        self.len -= 1;
+        self.parts[place].exchange(line, row);
     }
 }

@@ -4,27 +4,21 @@ ghost use Rattle.tpcc_keyed.specs.PartWords.{owner_and_rows, HasRoom};
 
 use crate::keyed::Owned;
 use crate::parts::part::DistrictPart;
+use crate::parts::store::Store;
 use tpcc_money::NoMemory;
 
-/// Room for so many more rows in a part. A refused growth leaves its rows and its room.
-fn grow<T: Owned>(part: &mut DistrictPart<T>, room: usize) -> Result<(), NoMemory>
-    ensures owner { part.new.owner ≡ part.old.owner }
-    ensures rows { part.new.rows.items ≡ part.old.rows.items }
-    ensures capacity { part.old.rows.capacity ≤ part.new.rows.capacity }
-    ensures grown { OnOk result (HasRoom room part.new) }
-{
-    part.rows.reserve(room)
-}
-
 /// Room for so many more rows in each part. A refused growth leaves all rows and the room there was.
-pub fn grow_all<T: Owned>(parts: &mut Vec<DistrictPart<T>>, room: usize) -> Result<(), NoMemory>
+pub fn grow_all<T: Owned, S: Store<T>>(
+    parts: &mut Vec<DistrictPart<T, S>>,
+    room: usize,
+) -> Result<(), NoMemory>
     ensures same { map owner_and_rows parts.new.items ≡ map owner_and_rows parts.old.items }
     ensures kept { (less : ℕ)
         → All (HasRoom less) parts.old.items → All (HasRoom less) parts.new.items }
     ensures grown { OnOk result (All (HasRoom room) parts.new.items) }
 {
     for place in 0..parts.len() {
-        grow(&mut parts[place], room)?;
+        parts[place].reserve(room)?;
     }
     Ok(())
 }

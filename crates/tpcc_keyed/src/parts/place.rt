@@ -8,7 +8,7 @@ ghost use Rattle.tpcc_keyed.specs.PartWords.{is_part, part_numbers, IsOpened};
 
 use crate::keyed::Owned;
 use crate::parts::part::DistrictPart;
-use crate::parts::tail::Tail;
+use crate::parts::store::Store;
 use crate::places;
 use std::alloc::Global;
 use tpcc_money::NoMemory;
@@ -28,38 +28,38 @@ fn is_same(key: DistrictKey, other: DistrictKey) -> bool
 }
 
 /// The place of a district's part, where it stands at the place that the district's numbers tell.
-fn try_likely_place<T>(parts: &[DistrictPart<T>], owner: DistrictKey) -> Option<usize>
+fn try_likely_place<T: Owned, S: Store<T>>(parts: &[DistrictPart<T, S>], owner: DistrictKey) -> Option<usize>
     requires rising { is_ascending part_numbers parts.now ≡ true }
     ensures { IfSome result
         (λ place. Some place ≡ position (is_part (district_numbers owner)) parts.now) }
 {
     let place = places::of_district(owner.warehouse, owner.district);
     let part = parts.get(place)?;
-    if is_same(part.owner, owner) {
+    if is_same(part.owner(), owner) {
         return Some(place);
     }
     None
 }
 
 /// The place of a district's part, searched by halves.
-fn search_by_halves<T>(parts: &[DistrictPart<T>], owner: DistrictKey) -> Option<usize>
+fn search_by_halves<T: Owned, S: Store<T>>(parts: &[DistrictPart<T, S>], owner: DistrictKey) -> Option<usize>
     requires rising { is_ascending part_numbers parts.now ≡ true }
     ensures { result ≡ position (is_part (district_numbers owner)) parts.now }
 {
     let place = parts.partition_point(
-        |part: &DistrictPart<T>| -> bool
+        |part: &DistrictPart<T, S>| -> bool
             ensures { result ≡ key_before (part_numbers part.now) (district_numbers owner) }
-        { is_before(part.owner, owner) },
+        { is_before(part.owner(), owner) },
     );
     let part = parts.get(place)?;
-    if is_same(part.owner, owner) {
+    if is_same(part.owner(), owner) {
         return Some(place);
     }
     None
 }
 
 /// The place of a district's part: in one step where each district has a part.
-pub fn place_of<T>(parts: &[DistrictPart<T>], owner: DistrictKey) -> Option<usize>
+pub fn place_of<T: Owned, S: Store<T>>(parts: &[DistrictPart<T, S>], owner: DistrictKey) -> Option<usize>
     requires rising { is_ascending part_numbers parts.now ≡ true }
     ensures { result ≡ position (is_part (district_numbers owner)) parts.now }
 {
@@ -70,21 +70,21 @@ pub fn place_of<T>(parts: &[DistrictPart<T>], owner: DistrictKey) -> Option<usiz
 }
 
 /// How many parts stand before the first one of a later district.
-fn place_for<T>(parts: &[DistrictPart<T>], owner: DistrictKey) -> usize
+fn place_for<T: Owned, S: Store<T>>(parts: &[DistrictPart<T, S>], owner: DistrictKey) -> usize
     requires rising { is_ascending part_numbers parts.now ≡ true }
     ensures { result ≡ prefix_len
         (λ part. not (key_before (district_numbers owner) (part_numbers part))) parts.now }
 {
     parts.partition_point(
-        |part: &DistrictPart<T>| -> bool
+        |part: &DistrictPart<T, S>| -> bool
             ensures { result ≡ not (key_before (district_numbers owner) (part_numbers part.now)) }
-        { !is_before(owner, part.owner) },
+        { !is_before(owner, part.owner()) },
     )
 }
 
 /// A part for a district that has none, with room for so many rows.
-pub fn open_part<T: Owned>(
-    parts: &mut Vec<DistrictPart<T>>,
+pub fn open_part<T: Owned, S: Store<T>>(
+    parts: &mut Vec<DistrictPart<T, S>>,
     owner: DistrictKey,
     room: usize,
     alloc: Global,
@@ -93,13 +93,8 @@ pub fn open_part<T: Owned>(
     ensures opened { OnOk result (IsOpened owner room parts.old.items parts.new.items) }
     ensures same { OnErr result (parts.new.items ≡ parts.old.items) }
 {
-    let Ok(rows) = Vec::with_capacity(alloc, room) else {
-        return Err(NoMemory);
-    };
+    let rows = S::with_room(room, alloc)?;
     let place = place_for(parts.as_slice(), owner);
-    let rows = Tail::of(rows);
-    let Ok(()) = parts.insert(place, DistrictPart { owner, rows }) else {
-        return Err(NoMemory);
-    };
+    parts.insert(place, DistrictPart::new(owner, rows))?;
     Ok(())
 }

@@ -8,7 +8,7 @@ ghost use Rattle.tpcc_keyed.specs.PartWords.{AreRead};
 use crate::keyed::Owned;
 use crate::parts::part::DistrictPart;
 use crate::parts::place::is_before;
-use crate::parts::tail::Tail;
+use crate::parts::store::Store;
 use std::alloc::Global;
 use tpcc_money::NoMemory;
 use tpcc_rows::DistrictKey;
@@ -27,8 +27,8 @@ fn run_len<T: Owned>(rows: &[T], owner: DistrictKey) -> usize
 }
 
 /// One more part, of the rows from a place on that are of one district; gives the place after them.
-pub fn read_run<T: Owned>(
-    parts: &mut Vec<DistrictPart<T>>,
+pub fn read_run<T: Owned, S: Store<T>>(
+    parts: &mut Vec<DistrictPart<T, S>>,
     rows: &[T],
     start: usize,
     alloc: Global,
@@ -41,12 +41,7 @@ pub fn read_run<T: Owned>(
     let rest = &rows[start..];
     let owner = rest[0].owner();
     let count = run_len(rest, owner);
-    let Ok(run) = Vec::from_slice(alloc, &rest[..count]) else {
-        return Err(NoMemory);
-    };
-    let rows = Tail::of(run);
-    let Ok(()) = parts.push(DistrictPart { owner, rows }) else {
-        return Err(NoMemory);
-    };
+    let run = S::of_rows(&rest[..count], alloc)?;
+    parts.push(DistrictPart::new(owner, run))?;
     Ok(start + count)
 }

@@ -1,9 +1,14 @@
 //! Rows of a vector whose first ones may be gone already, so that taking out the first is cheap.
-ghost use Rattle.std.specs.Prelude.{◌≡◌, ◌+◌, ◌<◌, ◌≤◌, IsOk, OnOk, OnErr, drop, insert, length, remove, slice_set, Some, true, vec_len, vec_capacity};
+ghost use Rattle.std.specs.Prelude.{◌≡◌, ◌+◌, ◌++◌, ◌∷◌, [], ◌<◌, ◌≤◌, IsOk, OnOk, OnErr, drop, insert, length, remove, slice_set, Some, true, vec_len, vec_capacity};
 ghost use Rattle.tpcc_rows.specs.Lists.{is_ascending, updated};
 ghost use Rattle.tpcc_rows.specs.Tables.{is_line_of, order_line_key};
 
+use crate::insertion::place_for;
+use crate::keyed::Owned;
+use crate::parts::store::Store;
 use crate::runs;
+use crate::search;
+use std::alloc::Global;
 use std::marker::Model;
 use tpcc_money::{Moment, NoMemory};
 use tpcc_rows::OrderLineRow;
@@ -72,21 +77,11 @@ impl<T> Tail<T> {
     {
         &self.all[self.gone..]
     }
-
-    /// Room for so many more rows. A refused growth leaves the rows and the room there was.
-    pub fn reserve(&mut self, room: usize) -> Result<(), NoMemory>
-        ensures items { self.new.items ≡ self.old.items }
-        ensures capacity { self.old.capacity ≤ self.new.capacity }
-        ensures grown { OnOk result (length self.new.items + room ≤ self.new.capacity) }
-    {
-        self.all.reserve(room)?;
-        Ok(())
-    }
 }
 
 impl<T: Copy> Tail<T> {
     /// Puts a row at a place; refuses only for want of memory.
-    pub fn insert(&mut self, place: usize, row: T) -> Result<(), NoMemory>
+    fn insert(&mut self, place: usize, row: T) -> Result<(), NoMemory>
         requires { place ≤ length self.old.items }
         ensures items { OnOk result (self.new.items ≡ insert self.old.items place row) }
         ensures same { OnErr result (self.new.items ≡ self.old.items) }
@@ -100,6 +95,16 @@ impl<T: Copy> Tail<T> {
         Ok(())
     }
 
+    /// Puts a row behind the others, for which there is room.
+    pub fn push_in_room(&mut self, row: T)
+        requires { length self.old.items < self.old.capacity }
+        ensures items { self.new.items ≡ self.old.items ++ row ∷ [] }
+        ensures capacity { self.old.capacity ≤ self.new.capacity }
+    {
+        let end = self.as_slice().len();
+        self.insert(end, row).unwrap();
+    }
+
     /// Another row at a place.
     pub fn set(&mut self, place: usize, row: T)
         requires { place < length self.old.items }
@@ -109,13 +114,42 @@ impl<T: Copy> Tail<T> {
         let at = self.gone + place;
         self.all[at] = row;
     }
+}
 
-    /// The row at a place taken out. Takes no memory; its own place may not be free at once.
-    pub fn remove(&mut self, place: usize)
-        requires { place < length self.old.items }
-        ensures items { self.new.items ≡ remove self.old.items place }
-        ensures capacity { self.old.capacity ≤ self.new.capacity + 1 }
-    {
+impl<T: Owned> Store<T> for Tail<T> {
+    ghost left = { λ tail. tail };
+
+    fn with_room(room: usize, alloc: Global) -> Result<Tail<T>, NoMemory> {
+        Ok(Tail::of(Vec::with_capacity(alloc, room)?))
+    }
+
+    fn of_rows(rows: &[T], alloc: Global) -> Result<Tail<T>, NoMemory> {
+        Ok(Tail::of(Vec::from_slice(alloc, rows)?))
+    }
+
+    fn len(&self) -> usize {
+        self.as_slice().len()
+    }
+
+    fn get(&self, place: usize) -> Option<T> {
+        self.as_slice().get(place).copied()
+    }
+
+    fn place_of(&self, key: &T::Key) -> Option<usize> {
+        search::place_of(self.as_slice(), key)
+    }
+
+    fn reserve(&mut self, room: usize) -> Result<(), NoMemory> {
+        self.all.reserve(room)?;
+        Ok(())
+    }
+
+    fn put(&mut self, row: T) -> Result<(), NoMemory> {
+        let place = place_for(self.as_slice(), &row);
+        self.insert(place, row)
+    }
+
+    fn remove(&mut self, place: usize) {
         if place == 0 {
             self.gone = settle(&mut self.all, self.gone + 1);
             return;

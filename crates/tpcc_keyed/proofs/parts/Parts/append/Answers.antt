@@ -28,13 +28,13 @@ invariant_of-self g c =
     let within : c.unwrap-place.result < length parts = (position-Some (is_part k) parts c.unwrap-place.result c.index_mut.result.now at).0 in
     let own = part_owns g.T.Keyed.key c.self.inside.len c.self.inside.room parts c.self.invariant k c.unwrap-place.result c.index_mut.result.now at c.index_mut.ensures.value in
     let numbers = part_is g.T.Keyed.key c.self.inside.len c.self.inside.room parts c.self.invariant k c.unwrap-place.result c.index_mut.result.now at c.index_mut.ensures.value in
-    let longer : length c.put_in_room.new.part.rows.items ≡ length c.index_mut.result.now.rows.items + 1 = ap length c.put_in_room.ensures.rows ∙ length_inserted (by_key g.T.Keyed.key) c.args.row c.index_mut.result.now.rows.items in
-    let all = length_set parts c.unwrap-place.result c.index_mut.result.now c.put_in_room.new.part within c.index_mut.ensures.value in
+    let longer : length c.put_in_room.new.self.rows.items ≡ length c.index_mut.result.now.rows.items + 1 = ap length c.put_in_room.ensures.rows ∙ length_inserted (by_key g.T.Keyed.key) c.args.row c.index_mut.result.now.rows.items in
+    let all = length_set parts c.unwrap-place.result c.index_mut.result.now c.put_in_room.new.self within c.index_mut.ensures.value in
     let room : HasRoom c.self.inside.room c.index_mut.result.now = room_there c.self.inside.room parts c.unwrap-place.result c.index_mut.result.now c.self.invariant.roomy within c.index_mut.ensures.value in
     let some : 0 < c.self.inside.room = omega (arith, c.requires.room, ap (λ (t : PartsView g.row.T.Denot). t.room) c.self.view_is) in
-    parts_kept g.T.Keyed.key c.self.inside.len c.self.inside.room parts c.self.invariant c.unwrap-place.result c.index_mut.result.now c.put_in_room.new.part c.index_mut.ensures.value c.put_in_room.ensures.owner
+    parts_kept g.T.Keyed.key c.self.inside.len c.self.inside.room parts c.self.invariant c.unwrap-place.result c.index_mut.result.now c.put_in_room.new.self c.index_mut.ensures.value c.put_in_room.ensures.owner
     (c.self.inside.len + 1) (c.self.inside.room - 1) (omega arith) (omega (arith, some, c.self.invariant.bound)) (omega (arith, longer, all, c.self.invariant.counted))
-    (owns_inserted g.T.Keyed.key c.index_mut.result.now c.put_in_room.new.part c.put_in_room.ensures.owner own c.args.row (sym c.owner.ensures ∙ sym numbers) c.put_in_room.ensures.rows)
+    (owns_inserted g.T.Keyed.key c.index_mut.result.now c.put_in_room.new.self c.put_in_room.ensures.owner own c.args.row (sym c.owner.ensures ∙ sym numbers) c.put_in_room.ensures.rows)
     (omega (arith, longer, room, some, c.put_in_room.ensures.capacity))
 
 pub returns-clause-rows : goal.returns-clause-rows
@@ -42,10 +42,10 @@ returns-clause-rows g c =
     let k = district_numbers c.owner.result in
     let parts = c.self.inside.parts.items in
     let at = placed (is_part k) c.as_slice.result.now parts c.place_of.result (Some c.unwrap-place.result) c.as_slice.ensures.value c.place_of.ensures c.unwrap-place.ensures in
-    rows_inserted g.T.Keyed.key c.args.row k (sym c.owner.ensures) c.self.inside.len c.self.inside.room parts c.self.invariant c.unwrap-place.result c.index_mut.result.now at c.index_mut.ensures.value c.put_in_room.new.part c.put_in_room.ensures.rows
+    rows_inserted g.T.Keyed.key c.args.row k (sym c.owner.ensures) c.self.inside.len c.self.inside.room parts c.self.invariant c.unwrap-place.result c.index_mut.result.now at c.index_mut.ensures.value c.put_in_room.new.self c.put_in_room.ensures.rows
     ∙ ap (λ (t : PartsView g.row.T.Denot). inserted (by_key g.T.Keyed.key) c.args.row t.rows) c.self.view_is
 
 pub returns-clause-owners : goal.returns-clause-owners
 returns-clause-owners g c =
-    owners_kept g.T.Keyed.key c.self.inside.len c.self.inside.room c.self.inside.parts.items c.self.invariant c.unwrap-place.result c.index_mut.result.now c.put_in_room.new.part c.index_mut.ensures.value c.put_in_room.ensures.owner
+    owners_kept g.T.Keyed.key c.self.inside.len c.self.inside.room c.self.inside.parts.items c.self.invariant c.unwrap-place.result c.index_mut.result.now c.put_in_room.new.self c.index_mut.ensures.value c.put_in_room.ensures.owner
     ∙ ap (λ (t : PartsView g.row.T.Denot). t.owners) c.self.view_is

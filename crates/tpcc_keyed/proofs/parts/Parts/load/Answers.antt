@@ -29,23 +29,23 @@ invariant_of-self g c =
     let at = placed (is_part k) c.as_slice.result.now parts c.place_of.result (Some c.unwrap-place.result) c.as_slice.ensures.value c.place_of.ensures c.unwrap-place.ensures in
     let within = line_within (is_part k) parts c.unwrap-place.result at in
     let own = part_owns g.T.Keyed.key c.self-2.inside.len c.self-2.inside.room parts c.self-2.invariant k c.unwrap-place.result c.index_mut.result.now at c.index_mut.ensures.value in
-    let equal : length c.put.new.part.rows.items ≡ length c.index_mut.result.now.rows.items = ap length c.in_err-put.ensures.same in
-    let all = length_set parts c.unwrap-place.result c.index_mut.result.now c.put.new.part within c.index_mut.ensures.value in
+    let equal : length c.put.new.self.rows.items ≡ length c.index_mut.result.now.rows.items = ap length c.in_err-put.ensures.same in
+    let all = length_set parts c.unwrap-place.result c.index_mut.result.now c.put.new.self within c.index_mut.ensures.value in
     let room : HasRoom c.self-2.inside.room c.index_mut.result.now = room_there c.self-2.inside.room parts c.unwrap-place.result c.index_mut.result.now c.self-2.invariant.roomy within c.index_mut.ensures.value in
-    parts_kept g.T.Keyed.key c.self-2.inside.len c.self-2.inside.room parts c.self-2.invariant c.unwrap-place.result c.index_mut.result.now c.put.new.part c.index_mut.ensures.value c.put.ensures.owner
+    parts_kept g.T.Keyed.key c.self-2.inside.len c.self-2.inside.room parts c.self-2.invariant c.unwrap-place.result c.index_mut.result.now c.put.new.self c.index_mut.ensures.value c.put.ensures.owner
     c.self-2.inside.len c.self-2.inside.room (omega arith) c.self-2.invariant.bound (omega (arith, equal, all, c.self-2.invariant.counted))
-    (owns_same g.T.Keyed.key c.index_mut.result.now c.put.new.part c.put.ensures.owner own c.in_err-put.ensures.same)
+    (owns_same g.T.Keyed.key c.index_mut.result.now c.put.new.self c.put.ensures.owner own c.in_err-put.ensures.same)
     (omega (arith, equal, room, c.put.ensures.capacity))
 
 pub returns-in_err-put-clause-same : goal.returns-in_err-put-clause-same
 returns-in_err-put-clause-same g c =
     on_err_any c.from_residual-in_err-put.result
-    (rows_same c.self-2.inside.parts.items c.unwrap-place.result c.index_mut.result.now c.put.new.part c.index_mut.ensures.value c.in_err-put.ensures.same
+    (rows_same c.self-2.inside.parts.items c.unwrap-place.result c.index_mut.result.now c.put.new.self c.index_mut.ensures.value c.in_err-put.ensures.same
     ∙ ap (λ (t : PartsView g.row.T.Denot). t.rows) c.self-2.view_is ∙ c.open.ensures.rows)
 
 pub returns-in_err-put-clause-kept : goal.returns-in_err-put-clause-kept
 returns-in_err-put-clause-kept g c = λ k has.
-    ap (λ owners. has_owner owners k) (owners_kept g.T.Keyed.key c.self-2.inside.len c.self-2.inside.room c.self-2.inside.parts.items c.self-2.invariant c.unwrap-place.result c.index_mut.result.now c.put.new.part c.index_mut.ensures.value c.put.ensures.owner)
+    ap (λ owners. has_owner owners k) (owners_kept g.T.Keyed.key c.self-2.inside.len c.self-2.inside.room c.self-2.inside.parts.items c.self-2.invariant c.unwrap-place.result c.index_mut.result.now c.put.new.self c.index_mut.ensures.value c.put.ensures.owner)
     ∙ ap (λ (t : PartsView g.row.T.Denot). has_owner t.owners k) c.self-2.view_is
     ∙ c.open.ensures.kept k has
 
@@ -57,12 +57,12 @@ invariant_of-self-2 g c =
     let within = line_within (is_part k) parts c.unwrap-place.result at in
     let own = part_owns g.T.Keyed.key c.self-2.inside.len c.self-2.inside.room parts c.self-2.invariant k c.unwrap-place.result c.index_mut.result.now at c.index_mut.ensures.value in
     let numbers = part_is g.T.Keyed.key c.self-2.inside.len c.self-2.inside.room parts c.self-2.invariant k c.unwrap-place.result c.index_mut.result.now at c.index_mut.ensures.value in
-    let longer : length c.put.new.part.rows.items ≡ length c.index_mut.result.now.rows.items + 1 = ap length c.in_ok-put.ensures.put ∙ length_inserted (by_key g.T.Keyed.key) c.args.row c.index_mut.result.now.rows.items in
-    let all = length_set parts c.unwrap-place.result c.index_mut.result.now c.put.new.part within c.index_mut.ensures.value in
+    let longer : length c.put.new.self.rows.items ≡ length c.index_mut.result.now.rows.items + 1 = ap length c.in_ok-put.ensures.put ∙ length_inserted (by_key g.T.Keyed.key) c.args.row c.index_mut.result.now.rows.items in
+    let all = length_set parts c.unwrap-place.result c.index_mut.result.now c.put.new.self within c.index_mut.ensures.value in
     let count : c.self-2.inside.len ≡ c.self.inside.len = c.self-2.invariant.counted ∙ ap (λ (t : PartsView g.row.T.Denot). length t.rows) c.self-2.view_is ∙ ap length c.open.ensures.rows ∙ sym (c.self.invariant.counted ∙ ap (λ (t : PartsView g.row.T.Denot). length t.rows) c.self.view_is) in
-    parts_kept g.T.Keyed.key c.self-2.inside.len c.self-2.inside.room parts c.self-2.invariant c.unwrap-place.result c.index_mut.result.now c.put.new.part c.index_mut.ensures.value c.put.ensures.owner
+    parts_kept g.T.Keyed.key c.self-2.inside.len c.self-2.inside.room parts c.self-2.invariant c.unwrap-place.result c.index_mut.result.now c.put.new.self c.index_mut.ensures.value c.put.ensures.owner
     (c.self-2.inside.len + 1) 0 (omega arith) (omega (arith, count, c.if-self.false, c.self.invariant.bound)) (omega (arith, longer, all, c.self-2.invariant.counted))
-    (owns_inserted g.T.Keyed.key c.index_mut.result.now c.put.new.part c.put.ensures.owner own c.args.row (sym c.owner-2.ensures ∙ sym numbers) c.in_ok-put.ensures.put)
+    (owns_inserted g.T.Keyed.key c.index_mut.result.now c.put.new.self c.put.ensures.owner own c.args.row (sym c.owner-2.ensures ∙ sym numbers) c.in_ok-put.ensures.put)
     c.in_ok-put.ensures.room
 
 pub returns-clause-loaded : goal.returns-clause-loaded
@@ -70,12 +70,12 @@ returns-clause-loaded g c =
     let k = district_numbers c.owner-2.result in
     let parts = c.self-2.inside.parts.items in
     let at = placed (is_part k) c.as_slice.result.now parts c.place_of.result (Some c.unwrap-place.result) c.as_slice.ensures.value c.place_of.ensures c.unwrap-place.ensures in
-    rows_inserted g.T.Keyed.key c.args.row k (sym c.owner-2.ensures) c.self-2.inside.len c.self-2.inside.room parts c.self-2.invariant c.unwrap-place.result c.index_mut.result.now at c.index_mut.ensures.value c.put.new.part c.in_ok-put.ensures.put
+    rows_inserted g.T.Keyed.key c.args.row k (sym c.owner-2.ensures) c.self-2.inside.len c.self-2.inside.room parts c.self-2.invariant c.unwrap-place.result c.index_mut.result.now at c.index_mut.ensures.value c.put.new.self c.in_ok-put.ensures.put
     ∙ ap (λ (t : PartsView g.row.T.Denot). inserted (by_key g.T.Keyed.key) c.args.row t.rows) c.self-2.view_is
     ∙ ap (inserted (by_key g.T.Keyed.key) c.args.row) c.open.ensures.rows
 
 pub returns-clause-kept : goal.returns-clause-kept
 returns-clause-kept g c = λ k has.
-    ap (λ owners. has_owner owners k) (owners_kept g.T.Keyed.key c.self-2.inside.len c.self-2.inside.room c.self-2.inside.parts.items c.self-2.invariant c.unwrap-place.result c.index_mut.result.now c.put.new.part c.index_mut.ensures.value c.put.ensures.owner)
+    ap (λ owners. has_owner owners k) (owners_kept g.T.Keyed.key c.self-2.inside.len c.self-2.inside.room c.self-2.inside.parts.items c.self-2.invariant c.unwrap-place.result c.index_mut.result.now c.put.new.self c.index_mut.ensures.value c.put.ensures.owner)
     ∙ ap (λ (t : PartsView g.row.T.Denot). has_owner t.owners k) c.self-2.view_is
     ∙ c.open.ensures.kept k has

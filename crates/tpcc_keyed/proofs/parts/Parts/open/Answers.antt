@@ -2,7 +2,7 @@ use Rattle.std.proofs.Common.{◌∙◌, ap, sym, map}
 use Rattle.std.specs.Prelude.{flat_map}
 use Rattle.std.specs.List.{list_any}
 use Rattle.std.proofs.Common.{subst, List}
-use Rattle.tpcc_keyed.specs.declared.parts.part.DistrictPart.{DistrictPart}
+use Rattle.tpcc_keyed.specs.DistrictRows.{DistrictRows}
 use Rattle.tpcc_keyed.specs.Parts.{PartsView, district_numbers, has_owner}
 use Rattle.tpcc_keyed.specs.PartWords.{rows_in, owner_of, is_part, AreParts}
 use Rattle.tpcc_keyed.proofs.Open.{owner_opened, owners_opened, parts_opened, rows_opened}
@@ -38,7 +38,7 @@ returns-clause-kept g c = λ k has.
     let had = ap (λ (t : PartsView g.row.T.Denot). has_owner t.owners k) c.self.view_is ∙ has in
     on_either c.open_part.result c.open_part.ensures.opened c.open_part.ensures.same
     (λ opened. owners_opened c.args.owner c.self.inside.room c.self.inside.parts.items c.open_part.new.parts.items opened k had)
-    (λ same. ap (λ (parts : List (DistrictPart g.row.T.Denot)). has_owner (map owner_of parts) k) same ∙ had)
+    (λ same. ap (λ (parts : List (DistrictRows g.row.T.Denot)). has_owner (map owner_of parts) k) same ∙ had)
 
 pub returns-clause-opened : goal.returns-clause-opened
 returns-clause-opened g c =

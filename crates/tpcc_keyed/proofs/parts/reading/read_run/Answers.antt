@@ -1,6 +1,6 @@
-use Rattle.std.proofs.Common.{◌∙◌, ◌+◌, ap, arith, ◌-◌, refl, subst, sym, take, drop, length}
+use Rattle.std.proofs.Common.{◌∙◌, ◌+◌, ap, arith, ◌-◌, subst, sym, take, drop, length}
 use Rattle.std.proofs.lemmas.List.{take_rest}
-use Rattle.tpcc_keyed.specs.declared.parts.part.DistrictPart.{DistrictPart}
+use Rattle.tpcc_keyed.specs.DistrictRows.{DistrictRows}
 use Rattle.tpcc_keyed.specs.PartWords.{HasRoom, AreRead}
 use Rattle.tpcc_keyed.proofs.Read.{ascending_rest, run_further, run_read}
 use Rattle.tpcc_keyed.proofs.parts.reading.read_run.Goals as goal
@@ -12,10 +12,12 @@ run_len-count-requires g c = record {
 
 pub returns : goal.returns
 returns g c =
-    let run : DistrictPart g.row.T.Denot = record { owner = c.owner-owner.result; rows = c.of-rows.result } in
-    let within : HasRoom 0 run = omega (arith, ap length c.of-rows.ensures.items, c.of-rows.ensures.capacity, c.in-Ok.run'.ok) in
+    let run = c.new.result in
+    let owner = ap (λ (part : DistrictRows g.row.T.Denot). part.owner) c.new.ensures in
+    let holds = ap (λ (part : DistrictRows g.row.T.Denot). part.rows.items) c.new.ensures ∙ c.in_ok-run.ensures.items in
+    let within : HasRoom 0 run = omega (arith, ap length holds, ap (λ (part : DistrictRows g.row.T.Denot). part.rows.capacity) c.new.ensures, c.in_ok-run.ensures.room) in
     let seen = take (length c.args.rows.now - c.args.start) (drop c.args.start c.args.rows.now) in (
-      run_further g.T.Keyed.key c.args.rows.now c.requires.keyed c.args.start c.args.parts.now.items c.requires.read c.requires.more seen (take_rest c.args.rows.now c.args.start) c.index-rest-0.result c.index-rest-0.is c.owner-owner.result c.owner-owner.ensures c.run_len-count.result c.run_len-count.ensures run refl (c.of-rows.ensures.items ∙ c.in-Ok.ensures.items) within,
-      subst (AreRead g.T.Keyed.key c.args.rows.now (c.args.start + c.run_len-count.result)) (sym c.in-Ok-push.ensures.items)
-          (run_read g.T.Keyed.key c.args.rows.now c.requires.keyed c.args.start c.args.parts.now.items c.requires.read c.requires.more seen (take_rest c.args.rows.now c.args.start) c.index-rest-0.result c.index-rest-0.is c.owner-owner.result c.owner-owner.ensures c.run_len-count.result c.run_len-count.ensures run refl (c.of-rows.ensures.items ∙ c.in-Ok.ensures.items) within),
+      run_further g.T.Keyed.key c.args.rows.now c.requires.keyed c.args.start c.args.parts.now.items c.requires.read c.requires.more seen (take_rest c.args.rows.now c.args.start) c.index-rest-0.result c.index-rest-0.is c.owner-owner.result c.owner-owner.ensures c.run_len-count.result c.run_len-count.ensures run owner holds within,
+      subst (AreRead g.T.Keyed.key c.args.rows.now (c.args.start + c.run_len-count.result)) (sym c.in_ok-push.ensures.items)
+          (run_read g.T.Keyed.key c.args.rows.now c.requires.keyed c.args.start c.args.parts.now.items c.requires.read c.requires.more seen (take_rest c.args.rows.now c.args.start) c.index-rest-0.result c.index-rest-0.is c.owner-owner.result c.owner-owner.ensures c.run_len-count.result c.run_len-count.ensures run owner holds within),
     )

@@ -1,7 +1,7 @@
 use Rattle.std.proofs.Common.{◌≡◌, drop, slice_get}
 use Rattle.std.specs.Prelude.{flat_map}
 use Rattle.tpcc_keyed.specs.PartWords.{rows_in}
-use Rattle.tpcc_keyed.proofs.parts.Parts.get.Given as goal
+use Rattle.tpcc_keyed.proofs.parts.Parts.copy_at.Given as goal
 
 abbrev pub invariant-loop-part : goal.invariant-loop-part
 invariant-loop-part g l = record {

@@ -1,7 +1,7 @@
 use Rattle.std.proofs.Common.{◌+◌, ◌∙◌, ap, sym, drop, refl, remove}
 use Rattle.tpcc_keyed.proofs.Tails.{drop-first, drop-remove}
 use Rattle.tpcc_keyed.specs.Tails.{Left}
-use Rattle.tpcc_keyed.proofs.parts.tail.Tail.remove.Goals as goal
+use Rattle.tpcc_keyed.proofs.parts.tail.TailStore.remove.Goals as goal
 
 pub returns-then-place-eq0-clause-items : goal.returns-then-place-eq0-clause-items
 returns-then-place-eq0-clause-items g c =

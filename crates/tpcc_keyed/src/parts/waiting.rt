@@ -1,0 +1,122 @@
+//! The orders of one district that wait for delivery.
+ghost use Rattle.std.specs.Prelude.{◌≡◌, ◌+◌, ◌++◌, ◌<◌, ◌≤◌, [], length};
+
+use crate::keyed::Keyed;
+use crate::parts::range::OrderRange;
+use crate::parts::store::Store;
+use crate::parts::tail::Tail;
+use std::alloc::Global;
+use std::marker::Model;
+use tpcc_money::NoMemory;
+use tpcc_rows::{NewOrderKey, NewOrderRow};
+
+/// The NEW-ORDER rows of one district: a range of numbers, or a list from the first gap on until
+/// no row is left.
+#[derive(Drop)]
+pub struct Waiting {
+    range: OrderRange,
+    /// Empty beside a range, but with the room of its rows, so that a gap takes no memory.
+    listed: Tail<NewOrderRow>,
+}
+
+impl Model for Waiting {
+    ghost use Rattle.tpcc_rows.specs.declared.rows.NewOrderRow.{NewOrderRow};
+    ghost use Rattle.tpcc_keyed.specs.Tails.{Left};
+
+    ghost Value = { Left NewOrderRow };
+
+    ghost use Rattle.tpcc_keyed.specs.WaitingView.{rows_waiting, IsWaiting};
+
+    ghost view = { rows_waiting };
+
+    ghost invariant = { IsWaiting };
+}
+
+/// The rows of a range put into the list beside it, for which it has room.
+fn list(range: &mut OrderRange, listed: &mut Tail<NewOrderRow>)
+    requires alone { 0 < length range.old → listed.old.items ≡ [] }
+    requires room { length range.old ≤ listed.old.capacity }
+    ensures range { range.new ≡ [] }
+    ensures listed { listed.new.items ≡ range.old ++ listed.old.items }
+    ensures capacity { listed.old.capacity ≤ listed.new.capacity }
+{
+    for place in 0..range.len() {
+        listed.push_in_room(range.get(place).unwrap());
+    }
+    *range = OrderRange::new();
+}
+
+impl Store<NewOrderRow> for Waiting {
+    ghost left = { λ waiting. waiting };
+
+    fn with_room(room: usize, alloc: Global) -> Result<Waiting, NoMemory> {
+        Ok(Waiting {
+            range: OrderRange::new(),
+            listed: Tail::with_room(room, alloc)?,
+        })
+    }
+
+    fn of_rows(rows: &[NewOrderRow], alloc: Global) -> Result<Waiting, NoMemory> {
+        match OrderRange::of_rows(rows) {
+            Some(range) => Ok(Waiting {
+                range,
+                listed: Tail::with_room(rows.len(), alloc)?,
+            }),
+            None => Ok(Waiting {
+                range: OrderRange::new(),
+                listed: Tail::of_rows(rows, alloc)?,
+            }),
+        }
+    }
+
+    fn len(&self) -> usize {
+        match self.range.len() {
+            0 => self.listed.len(),
+            count => count,
+        }
+    }
+
+    fn get(&self, place: usize) -> Option<NewOrderRow> {
+        match self.range.len() {
+            0 => self.listed.get(place),
+            _ => self.range.get(place),
+        }
+    }
+
+    fn place_of(&self, key: &NewOrderKey) -> Option<usize> {
+        match self.range.len() {
+            0 => self.listed.place_of(key),
+            _ => self.range.place_of(key),
+        }
+    }
+
+    fn reserve(&mut self, room: usize) -> Result<(), NoMemory> {
+        let Some(wanted) = self.range.len().checked_add(room) else {
+            return Err(NoMemory);
+        };
+        self.listed.reserve(wanted)
+    }
+
+    fn put(&mut self, row: NewOrderRow) -> Result<(), NoMemory> {
+        if self.listed.len() == 0 {
+            self.listed.reserve(self.range.len() + 1)?;
+            if self.range.push(row) {
+                return Ok(());
+            }
+        }
+        list(&mut self.range, &mut self.listed);
+        self.listed.put(row)
+    }
+
+    fn remove(&mut self, place: usize) {
+        let count = self.range.len();
+        if count > 0 && place == 0 {
+            self.range.pop_first();
+        } else if place + 1 == count {
+            self.range.pop_last();
+        } else {
+            list(&mut self.range, &mut self.listed);
+            self.listed.remove(place);
+        }
+    }
+}
