@@ -92,7 +92,7 @@ found_front {X = X} columns k (x ∷ xs) o at e = by (stands_before columns k x)
         let here : is_it columns k x ≡ true = ap (is_it columns k) same ∙ e in
         λ i. cond (not (here i)) (1 + position_or_len (is_it columns k) xs) 0
 
-one_longer : {X : Type 0} (p : X → Bool) (x : X) (xs : List X) → p x ≡ false → position_or_len p xs ≡ length xs → position_or_len p (x ∷ xs) ≡ length (x ∷ xs)
+pub one_longer : {X : Type 0} (p : X → Bool) (x : X) (xs : List X) → p x ≡ false → position_or_len p xs ≡ length xs → position_or_len p (x ∷ xs) ≡ length (x ∷ xs)
 one_longer p x xs e rest =
     let longer : 1 + length xs ≡ length (x ∷ xs) = omega arith in
     (λ i. cond (not (e i)) (1 + rest i) 0) ∙ longer
@@ -127,7 +127,7 @@ none_front {X = X} columns k (x ∷ xs) up gap = by (stands_before columns k x) 
 position_is : {X : Type 0} (passes : X → Bool) (xs : List X) (n : ℕ) → position_or_len passes xs ≡ n → n < length xs → position passes xs ≡ Some n
 position_is passes xs n e lt = grind (arith, nat_tests)
 
-position_is_none : {X : Type 0} (passes : X → Bool) (xs : List X) → position_or_len passes xs ≡ length xs → position passes xs ≡ None
+pub position_is_none : {X : Type 0} (passes : X → Bool) (xs : List X) → position_or_len passes xs ≡ length xs → position passes xs ≡ None
 position_is_none passes xs e = grind (arith, nat_tests)
 
 -- what a search by halves makes of the place that it found

@@ -12,6 +12,7 @@ pub mod Owner
 pub mod Open
 pub mod Read
 pub mod Line
+pub mod Range
 pub mod Stretch
 pub mod Run
 pub mod Order

@@ -1,6 +1,6 @@
 -- Rows in order, read district by district.
 use Rattle.std.proofs.Common.{◌≡◌, ◌∙◌, ℕ, zero, suc, ◌+◌, ◌-◌, ◌<◌, ◌≤◌, Bool, true, false, cond, List, [], ◌∷◌, ◌++◌, length, take, drop, refl, ap, sym, arith, get_or, slice_get, length-drop}
-use Rattle.std.specs.Prelude.{Some, ◌&&◌, not, flat_map}
+use Rattle.std.specs.Prelude.{◌&&◌, not, flat_map}
 use Rattle.std.specs.List.{list_all, prefix_len}
 use Rattle.std.proofs.Math.Seq.{drop-cons, take-add}
 use Rattle.std.proofs.lemmas.Bool.Decides.{nat_tests}

@@ -4,6 +4,7 @@ ghost use Rattle.tpcc_rows.specs.Lists.{is_ascending};
 ghost use Rattle.tpcc_rows.specs.Tables.{new_order_key};
 ghost use Rattle.tpcc_keyed.specs.Searches.{is_same_key};
 
+use crate::keyed::Keyed;
 use std::marker::Model;
 use tpcc_rows::{NewOrderKey, NewOrderRow};
 
@@ -70,7 +71,7 @@ impl OrderRange {
     pub fn get(&self, place: usize) -> Option<NewOrderRow>
         ensures { result ≡ slice_get self.now place }
     {
-        if place >= self.len() {
+        if place >= (self.next - self.first.order) as usize {
             return None;
         }
         let mut row = self.first;
@@ -83,14 +84,15 @@ impl OrderRange {
         ensures { result ≡ position (λ row. is_same_key (new_order_key row)
             (key.now.warehouse ∷ key.now.district ∷ key.now.order ∷ [])) self.now }
     {
-        let is_here = key.warehouse == self.first.warehouse
-            && key.district == self.first.district
-            && self.first.order <= key.order
-            && key.order < self.next;
-        if !is_here {
+        if key.order < self.first.order {
             return None;
         }
-        Some((key.order - self.first.order) as usize)
+        let place = (key.order - self.first.order) as usize;
+        let row = self.get(place)?;
+        if row.has_key(key) {
+            return Some(place);
+        }
+        None
     }
 
     /// Takes a row behind the others where it has the next number; else changes nothing.
@@ -107,13 +109,13 @@ impl OrderRange {
             self.next = row.order + 1;
             return true;
         }
-        let goes_on = row.warehouse == self.first.warehouse
-            && row.district == self.first.district
-            && row.order == self.next;
-        if goes_on {
-            self.next += 1;
+        let mut follower = self.first;
+        follower.order = self.next;
+        if row != follower {
+            return false;
         }
-        goes_on
+        self.next += 1;
+        true
     }
 
     /// The oldest row taken out.

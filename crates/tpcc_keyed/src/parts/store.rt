@@ -43,9 +43,7 @@ pub trait Store<T: Owned>: Drop {
         ensures items { (left self.new).items ≡ (left self.old).items }
         ensures capacity { (left self.old).capacity ≤ (left self.new).capacity }
         ensures grown { OnOk result
-            (length (left self.new).items + room ≤ (left self.new).capacity) }
-        ensures succeeds { length (left self.old).items + room ≤ (left self.old).capacity
-            → IsOk result };
+            (length (left self.new).items + room ≤ (left self.new).capacity) };
 
     /// Puts a row at its place; refuses only for want of memory.
     fn put(&mut self, row: T) -> Result<(), NoMemory>

@@ -77,6 +77,17 @@ impl<T> Tail<T> {
     {
         &self.all[self.gone..]
     }
+
+    /// Room for so many more rows. A refused growth leaves the rows and the room there was.
+    pub fn grow(&mut self, room: usize) -> Result<(), NoMemory>
+        ensures items { self.new.items ≡ self.old.items }
+        ensures capacity { self.old.capacity ≤ self.new.capacity }
+        ensures grown { OnOk result (length self.new.items + room ≤ self.new.capacity) }
+        ensures succeeds { length self.old.items + room ≤ self.old.capacity → IsOk result }
+    {
+        self.all.reserve(room)?;
+        Ok(())
+    }
 }
 
 impl<T: Copy> Tail<T> {
@@ -140,8 +151,7 @@ impl<T: Owned> Store<T> for Tail<T> {
     }
 
     fn reserve(&mut self, room: usize) -> Result<(), NoMemory> {
-        self.all.reserve(room)?;
-        Ok(())
+        self.grow(room)
     }
 
     fn put(&mut self, row: T) -> Result<(), NoMemory> {

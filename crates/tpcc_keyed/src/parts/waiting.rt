@@ -94,12 +94,12 @@ impl Store<NewOrderRow> for Waiting {
         let Some(wanted) = self.range.len().checked_add(room) else {
             return Err(NoMemory);
         };
-        self.listed.reserve(wanted)
+        self.listed.grow(wanted)
     }
 
     fn put(&mut self, row: NewOrderRow) -> Result<(), NoMemory> {
         if self.listed.len() == 0 {
-            self.listed.reserve(self.range.len() + 1)?;
+            self.listed.grow(self.range.len() + 1)?;
             if self.range.push(row) {
                 return Ok(());
             }
@@ -109,14 +109,14 @@ impl Store<NewOrderRow> for Waiting {
     }
 
     fn remove(&mut self, place: usize) {
-        let count = self.range.len();
-        if count > 0 && place == 0 {
-            self.range.pop_first();
-        } else if place + 1 == count {
-            self.range.pop_last();
-        } else {
-            list(&mut self.range, &mut self.listed);
-            self.listed.remove(place);
+        match self.range.len() {
+            0 => self.listed.remove(place),
+            _ if place == 0 => self.range.pop_first(),
+            count if place == count - 1 => self.range.pop_last(),
+            _ => {
+                list(&mut self.range, &mut self.listed);
+                self.listed.remove(place);
+            }
         }
     }
 }

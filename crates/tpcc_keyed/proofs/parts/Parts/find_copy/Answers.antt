@@ -1,5 +1,5 @@
 use Rattle.std.specs.Prelude.{Bool}
-use Rattle.std.proofs.Common.{◌≡◌, ◌∙◌, ap, sym, find, Some, None, true}
+use Rattle.std.proofs.Common.{◌∙◌, ap, sym, find}
 use Rattle.std.specs.Option.{option_copied}
 use Rattle.tpcc_rows.specs.Lists.{is_ascending}
 use Rattle.tpcc_keyed.specs.Searches.{is_same_key}
