@@ -4,14 +4,13 @@ ghost use Rattle.tpcc_rows.specs.Lists.{is_ascending, updated};
 ghost use Rattle.tpcc_rows.specs.Tables.{is_line_of, order_line_key};
 ghost use Rattle.tpcc_keyed.specs.Runs.{is_line_between};
 
-use crate::parts::Parts;
+use crate::parts::listed::Listed;
 use crate::parts::place::place_of;
-use crate::parts::tail::Tail;
 use crate::runs;
 use tpcc_money::Moment;
 use tpcc_rows::{DistrictKey, OrderLineRow};
 
-impl Parts<OrderLineRow, Tail<OrderLineRow>> {
+impl Listed<OrderLineRow> {
     /// The lines of an order.
     pub fn lines_of(&self, warehouse: u32, district: u32, order: u32) -> &[OrderLineRow]
         requires keyed { is_ascending order_line_key self.now.rows ≡ true }

@@ -1,7 +1,7 @@
 //! The orders of one district that wait for delivery.
 ghost use Rattle.std.specs.Prelude.{◌≡◌, ◌+◌, ◌++◌, ◌<◌, ◌≤◌, [], length};
 
-use crate::keyed::Keyed;
+use crate::parts::Parts;
 use crate::parts::range::OrderRange;
 use crate::parts::store::Store;
 use crate::parts::tail::Tail;
@@ -18,6 +18,9 @@ pub struct Waiting {
     /// Empty beside a range, but with the room of its rows, so that a gap takes no memory.
     listed: Tail<NewOrderRow>,
 }
+
+/// NEW-ORDER rows: of each district a range of numbers, or a list where there is a gap.
+pub type NewOrders = Parts<NewOrderRow, Waiting>;
 
 impl Model for Waiting {
     ghost use Rattle.tpcc_rows.specs.declared.rows.NewOrderRow.{NewOrderRow};

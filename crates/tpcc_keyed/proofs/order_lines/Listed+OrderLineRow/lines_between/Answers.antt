@@ -5,7 +5,7 @@ use Rattle.tpcc_rows.specs.Tables.{order_line_key}
 use Rattle.tpcc_keyed.specs.Parts.{is_of}
 use Rattle.tpcc_keyed.specs.Runs.{is_line_between}
 use Rattle.tpcc_keyed.proofs.Line.{ascending_chosen, chosen_within, between_is_of}
-use Rattle.tpcc_keyed.proofs.order_lines.Parts+OrderLineRow+Tail+OrderLineRow.lines_between.Goals as goal
+use Rattle.tpcc_keyed.proofs.order_lines.Listed+OrderLineRow.lines_between.Goals as goal
 
 pub lines_between-requires-clause-keyed : goal.lines_between-requires-clause-keyed
 lines_between-requires-clause-keyed c =

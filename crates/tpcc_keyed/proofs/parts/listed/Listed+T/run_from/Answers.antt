@@ -2,7 +2,7 @@ use Rattle.std.proofs.Common.{◌+◌, ◌-◌, ◌∙◌, ap, sym, arith, drop,
 use Rattle.std.specs.Prelude.{flat_map}
 use Rattle.tpcc_keyed.specs.PartWords.{rows_in}
 use Rattle.tpcc_keyed.proofs.Read.{rest_past}
-use Rattle.tpcc_keyed.proofs.parts.Parts+T+Tail+T.run_from.Goals as goal
+use Rattle.tpcc_keyed.proofs.parts.listed.Listed+T.run_from.Goals as goal
 
 pub loop-part-preserved : goal.loop-part-preserved
 loop-part-preserved g c =

@@ -9,7 +9,7 @@ use Rattle.tpcc_keyed.specs.PartWords.{is_part, HasRoom}
 use Rattle.tpcc_keyed.proofs.Line.{length_updated, line_asks, owns_updated}
 use Rattle.tpcc_keyed.proofs.Part.{no_row, part_found, part_owns, placed, rows_updated}
 use Rattle.tpcc_keyed.proofs.Put.{length_set, line_within, owners_kept, part_keyed, parts_kept, room_there}
-use Rattle.tpcc_keyed.proofs.order_lines.Parts+OrderLineRow+Tail+OrderLineRow.stamp.Goals as goal
+use Rattle.tpcc_keyed.proofs.order_lines.Listed+OrderLineRow.stamp.Goals as goal
 
 pub returns-in_default-clause-rows : goal.returns-in_default-clause-rows
 returns-in_default-clause-rows c =

@@ -5,7 +5,7 @@ use Rattle.tpcc_keyed.specs.Searches.{is_same_key}
 use Rattle.tpcc_keyed.specs.Parts.{is_of}
 use Rattle.tpcc_keyed.proofs.Part.{asks_key}
 use Rattle.tpcc_keyed.proofs.Line.{ascending_chosen, found_within, asks_of}
-use Rattle.tpcc_keyed.proofs.parts.Parts+T+Tail+T.find.Goals as goal
+use Rattle.tpcc_keyed.proofs.parts.listed.Listed+T.find.Goals as goal
 
 pub find-requires : goal.find-requires
 find-requires g c = record {

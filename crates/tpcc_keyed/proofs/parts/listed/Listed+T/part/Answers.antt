@@ -1,7 +1,7 @@
 use Rattle.std.proofs.Common.{◌∙◌, ap, sym}
 use Rattle.std.specs.Option.{option_copied}
 use Rattle.tpcc_keyed.specs.Parts.{rows_or_none}
-use Rattle.tpcc_keyed.proofs.parts.Parts+T+Tail+T.part.Goals as goal
+use Rattle.tpcc_keyed.proofs.parts.listed.Listed+T.part.Goals as goal
 
 pub returns-in-Some : goal.returns-in-Some
 unfolding rows_or_none

@@ -4,7 +4,7 @@ use Rattle.tpcc_rows.specs.Lists.{is_ascending}
 use Rattle.tpcc_rows.specs.Tables.{is_line_of, order_line_key}
 use Rattle.tpcc_keyed.specs.Parts.{is_of}
 use Rattle.tpcc_keyed.proofs.Line.{ascending_chosen, chosen_within, line_is_of}
-use Rattle.tpcc_keyed.proofs.order_lines.Parts+OrderLineRow+Tail+OrderLineRow.lines_of.Goals as goal
+use Rattle.tpcc_keyed.proofs.order_lines.Listed+OrderLineRow.lines_of.Goals as goal
 
 pub lines_of-requires : goal.lines_of-requires
 lines_of-requires c =

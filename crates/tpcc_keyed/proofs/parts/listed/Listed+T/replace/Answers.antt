@@ -10,7 +10,7 @@ use Rattle.tpcc_keyed.specs.PartWords.{is_part, HasRoom}
 use Rattle.tpcc_keyed.proofs.Owner.{same_there}
 use Rattle.tpcc_keyed.proofs.Part.{asks_key, no_row, no_row_there, part_found, part_is, part_owns, placed, rows_updated}
 use Rattle.tpcc_keyed.proofs.Put.{length_set, line_within, owners_kept, owns_set, part_keyed, parts_kept, room_there, row_exchanged}
-use Rattle.tpcc_keyed.proofs.parts.Parts+T+Tail+T.replace.Goals as goal
+use Rattle.tpcc_keyed.proofs.parts.listed.Listed+T.replace.Goals as goal
 
 pub returns-in_default-clause-rows : goal.returns-in_default-clause-rows
 returns-in_default-clause-rows g c =

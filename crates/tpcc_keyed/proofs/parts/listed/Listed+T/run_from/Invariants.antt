@@ -1,7 +1,7 @@
 use Rattle.std.proofs.Common.{◌≡◌, drop}
 use Rattle.std.specs.Prelude.{flat_map}
 use Rattle.tpcc_keyed.specs.PartWords.{rows_in}
-use Rattle.tpcc_keyed.proofs.parts.Parts+T+Tail+T.run_from.Given as goal
+use Rattle.tpcc_keyed.proofs.parts.listed.Listed+T.run_from.Given as goal
 
 abbrev pub invariant-loop-part : goal.invariant-loop-part
 invariant-loop-part g l = record {
