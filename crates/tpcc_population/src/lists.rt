@@ -2,7 +2,7 @@
 ghost use Rattle.std.specs.Prelude.{◌≡◌};
 ghost use Rattle.tpcc_tables.specs.Listed.{listed};
 
-use tpcc_keyed::{KeyedRows, Parts};
+use tpcc_keyed::{KeyedRows, Listed, NewOrders};
 use tpcc_rows::{
     CustomerRow, DistrictRow, HistoryRow, ItemRow, NewOrderRow, OrderLineRow, OrderRow, StockRow,
     WarehouseRow,
@@ -26,11 +26,11 @@ pub(crate) struct HomeLists {
 #[derive(Drop)]
 pub(crate) struct OrderLists {
     /// One of each customer.
-    pub orders: Parts<OrderRow>,
+    pub orders: Listed<OrderRow>,
     /// As many of each order as its O_OL_CNT.
-    pub order_lines: Parts<OrderLineRow>,
+    pub order_lines: Listed<OrderLineRow>,
     /// One of each order that is not delivered.
-    pub new_orders: Parts<NewOrderRow>,
+    pub new_orders: NewOrders,
 }
 
 /// The tables of items and of their stock.

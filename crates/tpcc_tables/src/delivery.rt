@@ -13,14 +13,14 @@ ghost use Rattle.tpcc_tables.specs.Sums.{is_order_amount};
 ghost use Rattle.tpcc_tables.specs.Writes.{IsCreditable};
 
 use crate::find;
-use tpcc_keyed::{KeyedRows, Parts, RowChange};
+use tpcc_keyed::{KeyedRows, Listed, NewOrders, RowChange};
 use tpcc_money::Cents;
 use tpcc_rows::{
     CustomerKey, CustomerRow, NewOrderKey, NewOrderRow, OrderKey, OrderLineRow, OrderRow,
 };
 
 /// The customer of an order, or 0, which no customer has, where there is no such order.
-pub fn customer_of(rows: &Parts<OrderRow>, warehouse: u32, district: u32, order: u32) -> u32
+pub fn customer_of(rows: &Listed<OrderRow>, warehouse: u32, district: u32, order: u32) -> u32
     requires keyed { is_ascending order_key rows.now.rows ≡ true }
     ensures { result
         ≡ (unwrap_or (find (is_order warehouse district order) rows.now.rows) no_order).customer }
@@ -71,7 +71,7 @@ pub fn amount_where(lines: &[OrderLineRow], delivered: bool) -> Cents
 }
 
 /// The NEW-ORDER row of an order, removed.
-pub fn remove_new_order(rows: &mut Parts<NewOrderRow>, warehouse: u32, district: u32, order: u32)
+pub fn remove_new_order(rows: &mut NewOrders, warehouse: u32, district: u32, order: u32)
     requires keyed { is_ascending new_order_key rows.old.rows ≡ true }
     ensures removed { rows.new.rows
         ≡ filter (λ n. not (is_new_order warehouse district order n)) rows.old.rows }
@@ -86,7 +86,7 @@ pub fn remove_new_order(rows: &mut Parts<NewOrderRow>, warehouse: u32, district:
 }
 
 /// The carrier of an order, set.
-pub fn carry(rows: &mut Parts<OrderRow>, warehouse: u32, district: u32, order: u32, carrier: u32)
+pub fn carry(rows: &mut Listed<OrderRow>, warehouse: u32, district: u32, order: u32, carrier: u32)
     requires keyed { is_ascending order_key rows.old.rows ≡ true }
     ensures rows { rows.new.rows ≡ updated (is_order warehouse district order)
         (λ o. record o { carrier = Some carrier }) rows.old.rows }

@@ -1,6 +1,6 @@
 //! Nine lists of rows that stand ready to be tables.
 
-use tpcc_keyed::{KeyedRows, Parts};
+use tpcc_keyed::{KeyedRows, Listed, NewOrders};
 use tpcc_rows::{
     CustomerRow, DistrictRow, HistoryRow, ItemRow, NewOrderRow, OrderLineRow, OrderRow, StockRow,
     WarehouseRow,
@@ -18,11 +18,11 @@ pub struct Lists {
     /// HISTORY, whose rows have no key: in the order of appending.
     pub histories: Vec<HistoryRow>,
     /// ORDER.
-    pub orders: Parts<OrderRow>,
+    pub orders: Listed<OrderRow>,
     /// ORDER-LINE.
-    pub order_lines: Parts<OrderLineRow>,
+    pub order_lines: Listed<OrderLineRow>,
     /// NEW-ORDER.
-    pub new_orders: Parts<NewOrderRow>,
+    pub new_orders: NewOrders,
     /// ITEM.
     pub items: KeyedRows<ItemRow>,
     /// STOCK.

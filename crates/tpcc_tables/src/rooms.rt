@@ -2,12 +2,15 @@
 ghost use Rattle.std.specs.Prelude.{◌≡◌, ◌≤◌, OnOk, true};
 ghost use Rattle.tpcc_tables.specs.Ready.{is_open, IsKept, IsOpen};
 
-use tpcc_keyed::{Owned, Parts};
+use tpcc_keyed::{Listed, NewOrders, Owned, Parts, Store};
 use tpcc_money::NoMemory;
-use tpcc_rows::{DistrictKey, DistrictRow, NewOrderRow, OrderLineRow, OrderRow};
+use tpcc_rows::{DistrictKey, DistrictRow, OrderLineRow, OrderRow};
 
 // A part for each of the districts.
-fn open_all<T: Owned>(parts: &mut Parts<T>, districts: &[DistrictRow]) -> Result<(), NoMemory>
+fn open_all<T: Owned, S: Store<T>>(
+    parts: &mut Parts<T, S>,
+    districts: &[DistrictRow],
+) -> Result<(), NoMemory>
     ensures kept { IsKept parts.old parts.new }
     ensures opened { OnOk result (is_open parts.new.owners districts.now ≡ true) }
 {
@@ -22,9 +25,9 @@ fn open_all<T: Owned>(parts: &mut Parts<T>, districts: &[DistrictRow]) -> Result
 
 /// A part of each of the three tables for each of the districts. A refused growth leaves the rows and their room as they were.
 pub fn open(
-    orders: &mut Parts<OrderRow>,
-    lines: &mut Parts<OrderLineRow>,
-    news: &mut Parts<NewOrderRow>,
+    orders: &mut Listed<OrderRow>,
+    lines: &mut Listed<OrderLineRow>,
+    news: &mut NewOrders,
     districts: &[DistrictRow],
 ) -> Result<(), NoMemory>
     ensures orders { IsKept orders.old orders.new }
@@ -39,7 +42,11 @@ pub fn open(
 
 /// Room for so many rows more in each part. Where there is less, room is made for many orders at
 /// once, since each part has to grow.
-pub fn make<T: Owned>(parts: &mut Parts<T>, wanted: usize, spare: usize) -> Result<(), NoMemory>
+pub fn make<T: Owned, S: Store<T>>(
+    parts: &mut Parts<T, S>,
+    wanted: usize,
+    spare: usize,
+) -> Result<(), NoMemory>
     ensures rows { parts.new.rows ≡ parts.old.rows }
     ensures owners { parts.new.owners ≡ parts.old.owners }
     ensures kept { parts.old.room ≤ parts.new.room }

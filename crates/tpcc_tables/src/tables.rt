@@ -21,7 +21,7 @@ use crate::sums::Sums;
 use crate::{delivery, districts, find, levels};
 use std::alloc::Global;
 use std::marker::Model;
-use tpcc_keyed::{KeyedRows, Names, Parts};
+use tpcc_keyed::{KeyedRows, Listed, Names, NewOrders, Parts};
 use tpcc_money::Cents;
 use tpcc_rows::{
     CustomerRow, DistrictRow, Few, HistoryRow, ItemRow, NewOrderRow, OrderLineRow, OrderRow,
@@ -42,11 +42,11 @@ pub struct Tables {
     /// HISTORY, the oldest first.
     histories: Vec<HistoryRow>,
     /// ORDER, a part for each district.
-    orders: Parts<OrderRow>,
+    orders: Listed<OrderRow>,
     /// ORDER-LINE, a part for each district.
-    order_lines: Parts<OrderLineRow>,
+    order_lines: Listed<OrderLineRow>,
     /// NEW-ORDER, a part for each district.
-    new_orders: Parts<NewOrderRow>,
+    new_orders: NewOrders,
     /// ITEM.
     items: KeyedRows<ItemRow>,
     /// STOCK.

@@ -37,7 +37,7 @@ impl Tables {
             Table::History => RowRef::History(self.histories.get(position)?),
             Table::Order => RowRef::Order(self.orders.get(position)?),
             Table::OrderLine => RowRef::OrderLine(self.order_lines.get(position)?),
-            Table::NewOrder => RowRef::NewOrder(*self.new_orders.get(position)?),
+            Table::NewOrder => RowRef::NewOrder(self.new_orders.copy_at(position)?),
             Table::Item => RowRef::Item(self.items.get(position)?),
             Table::Stock => RowRef::Stock(self.stocks.get(position)?),
         })

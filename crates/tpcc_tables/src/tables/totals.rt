@@ -102,7 +102,7 @@ impl Tables {
     pub fn new_order_count(&self, warehouse: u32, district: u32) -> usize
         ensures { result ≡ length (new_orders_in self.now.rows warehouse district) }
     {
-        districts::new_orders(&self.new_orders, warehouse, district).len()
+        districts::count_new(&self.new_orders, warehouse, district)
     }
 
     /// The largest O_ID of a district (3.3.2.2), if there is an order.
