@@ -3,6 +3,7 @@ use Rattle.std.proofs.Common.{◌≡◌, ℕ, zero, suc, ◌<◌, Bool, true, fa
 use Rattle.std.specs.Prelude.{find, position, not, nat_lt, insert, ◌+◌}
 use Rattle.std.specs.List.{list_all, list_any, position_or_len}
 use Rattle.std.specs.Map.{keys_of, values_of, lookup}
+use Rattle.std.proofs.lemmas.List.Folds.{list_all-append}
 use Rattle.indexmap.specs.IndexMap.{set_value_at}
 use Rattle.tpcc_rows.specs.Lists.{by_key, is_ascending, key_before, updated}
 use Rattle.tpcc_laws.proofs.List.{has_one, updated_absent}
@@ -109,10 +110,15 @@ module _ {T : Type 0} (key : T → List ℕ) where
       λ i. cond (other i) (Some x) (rest i)
 
   -- rows come after those in front of them
-  pub front_before : (xs : List T) (i : ℕ) (d : T) → is_ascending key xs ≡ true → i < length xs → list_all (λ x. by_key key x (get_or xs i d)) (take i xs) ≡ true
-  front_before [] i d h lt = absurd (omega arith)
-  front_before (x ∷ xs) zero d h lt = refl
-  front_before (x ∷ xs) (suc i) d h lt =
+  pub front_before : (before xs : List T) (i : ℕ) (d : T) → is_ascending key (before ++ xs) ≡ true → i < length xs → list_all (λ x. by_key key x (get_or xs i d)) (before ++ take i xs) ≡ true
+  front_before [] [] i d h lt = absurd (omega arith)
+  front_before [] (x ∷ xs) zero d h lt = refl
+  front_before [] (x ∷ xs) (suc i) d h lt =
       let above : list_all (λ later. key_before (key x) (key later)) xs ≡ true = grind arith in
       let rest : is_ascending key xs ≡ true = grind arith in
-      grind (arith, all_at (λ later. key_before (key x) (key later)) xs i d above (omega arith), front_before xs i d rest (omega arith))
+      grind (arith, all_at (λ later. key_before (key x) (key later)) xs i d above (omega arith), front_before [] xs i d rest (omega arith))
+  front_before (b ∷ before) xs i d h lt =
+      let above : list_all (λ later. key_before (key b) (key later)) (before ++ xs) ≡ true = grind arith in
+      let rest : is_ascending key (before ++ xs) ≡ true = grind arith in
+      let behind : list_all (λ later. key_before (key b) (key later)) xs ≡ true = grind (arith, above, list_all-append (λ later. key_before (key b) (key later)) before xs) in
+      grind (arith, all_at (λ later. key_before (key b) (key later)) xs i d behind lt, front_before before xs i d rest lt)

@@ -48,12 +48,25 @@ fn push<T: Mapped>(rows: &mut IndexMap<T::Key, T>, row: T) -> Result<(), NoMemor
     requires kept { AreUnderKeys T.key T.numbers rows.old.entries }
     requires last { list_all (λ earlier. by_key T.key earlier row) (values rows.old) ≡ true }
     ensures rows { OnOk result (values rows.new ≡ values rows.old ++ row ∷ []) }
-    ensures kept { OnOk result (AreUnderKeys T.key T.numbers rows.new.entries) }
+    ensures kept { AreUnderKeys T.key T.numbers rows.new.entries }
 {
     match rows.insert(row.key_of(), row) {
         Ok(_) => Ok(()),
         Err(_) => Err(NoMemory),
     }
+}
+
+/// More rows behind all others, in order already.
+fn push_all<T: Mapped>(rows: &mut IndexMap<T::Key, T>, more: &[T]) -> Result<(), NoMemory>
+    requires kept { AreUnderKeys T.key T.numbers rows.old.entries }
+    requires keyed { is_ascending T.key (values rows.old ++ more.now) ≡ true }
+    ensures rows { OnOk result (values rows.new ≡ values rows.old ++ more.now) }
+    ensures kept { AreUnderKeys T.key T.numbers rows.new.entries }
+{
+    for row in more {
+        push(rows, *row)?;
+    }
+    Ok(())
 }
 
 /// A row before the one at a place, under its key, which no other row has.
@@ -83,16 +96,22 @@ impl<T: Mapped> KeyedRows<T> {
         }
     }
 
-    /// Rows that are in order already, for which room is made at once.
-    pub fn from_sorted(sorted: Vec<T>, alloc: Global) -> Result<KeyedRows<T>, NoMemory>
-        requires keyed { is_ascending T.key sorted.items ≡ true }
-        ensures { IfOk result (λ rows. rows.items ≡ sorted.items) }
+    /// No rows yet, and room for so many.
+    pub fn with_room(room: usize, alloc: Global) -> Result<KeyedRows<T>, NoMemory>
+        ensures rows { IfOk result (λ rows. rows.items ≡ []) }
+        ensures room { IfOk result (λ rows. room ≤ rows.spare) }
     {
-        let mut rows = IndexMap::with_capacity(alloc, sorted.len())?;
-        for row in sorted.as_slice() {
-            push(&mut rows, *row)?;
-        }
+        let rows = IndexMap::with_capacity(alloc, room)?;
         Ok(KeyedRows { rows })
+    }
+
+    /// More rows behind all others, in order already. Where memory is refused, some of them may be
+    /// there.
+    pub fn append_sorted(&mut self, rows: &[T]) -> Result<(), NoMemory>
+        requires keyed { is_ascending T.key (self.old.items ++ rows.now) ≡ true }
+        ensures appended { OnOk result (self.new.items ≡ self.old.items ++ rows.now) }
+    {
+        push_all(&mut self.rows, rows)
     }
 
     /// How many rows there are.
@@ -117,6 +136,7 @@ impl<T: Mapped> KeyedRows<T> {
     }
 
     /// The place of the row of a key: in one step where keys have no gaps.
+    #[inline]
     fn place_of(&self, key: &T::Key) -> Option<usize>
         requires keyed { is_ascending T.key self.now.items ≡ true }
         ensures { result
@@ -129,6 +149,7 @@ impl<T: Mapped> KeyedRows<T> {
     }
 
     /// The row of a key.
+    #[inline]
     pub fn find(&self, key: &T::Key) -> Option<&T>
         requires keyed { is_ascending T.key self.now.items ≡ true }
         ensures { option_copied result

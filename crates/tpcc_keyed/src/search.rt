@@ -7,6 +7,7 @@ ghost use Rattle.tpcc_keyed.specs.Searches.{is_same_key};
 use crate::keyed::Keyed;
 
 /// The place of the row of a key, where it stands at the place that its key tells.
+#[inline]
 pub(crate) fn try_likely_place<T: Keyed>(rows: &[T], key: &T::Key) -> Option<usize>
     requires keyed { is_ascending T.key rows.now ≡ true }
     ensures { IfSome result (λ place. Some place

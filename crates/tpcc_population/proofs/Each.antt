@@ -1,5 +1,5 @@
 -- Laws of rows laid out by numbers: order of keys, selection, sums and look-ups.
-use Rattle.std.proofs.Common.{◌≡◌, ◌≢◌, ℕ, zero, suc, ◌+◌, ◌*◌, ◌<◌, ◌≤◌, Bool, true, false, List, [], ◌∷◌, ◌++◌, length, map, refl, ap, ◌∙◌, ⊎_elim, append-nil, append_assoc, sym, ◌-◌, length-append, suc-mul, arith}
+use Rattle.std.proofs.Common.{◌≡◌, ◌≢◌, ℕ, zero, suc, ◌+◌, ◌*◌, ◌<◌, ◌≤◌, Bool, true, false, List, [], ◌∷◌, ◌++◌, length, map, refl, ap, ◌∙◌, ⊎_elim, append-nil, append_assoc, sym, subst, ◌-◌, length-append, suc-mul, arith}
 use Rattle.std.specs.Prelude.{◌==◌, max, min, sum_by, ℤ, pos, filter, find, ◌&&◌, not, Some, None}
 use Rattle.std.specs.List.{list_all, range_with_len}
 use Rattle.std.proofs.lemmas.Int.{ints}
@@ -41,6 +41,29 @@ each-next rows low next h =
 -- the same behind what is there already
 pub each-next_behind : {X : Type 0} (before : List X) (rows : ℕ → List X) (low next : ℕ) → low ≤ next → (before ++ each low (next - low) rows) ++ rows next ≡ before ++ each low (next + 1 - low) rows
 each-next_behind before rows low next h = append_assoc before (each low (next - low) rows) (rows next) ∙ ap (λ xs. before ++ xs) (each-next rows low next h)
+
+-- the rows of the first numbers, and those of the others
+pub each-both : {X : Type 0} (rows : ℕ → List X) (low first others count : ℕ) → count ≡ first + others → each low count rows ≡ each low first rows ++ each (low + first) others rows
+each-both rows low zero others count all =
+    let from : low ≡ low + 0 = omega arith in
+    let same : count ≡ others = omega arith in
+    λ i. each (from i) (same i) rows
+each-both rows low (suc first) others zero all = absurd (omega arith)
+each-both rows low (suc first) others (suc count) all =
+    let rest : count ≡ first + others = omega arith in
+    let from : low + 1 + first ≡ low + suc first = omega arith in
+    (λ i. rows low ++ each-both rows (low + 1) first others count rest i) ∙ (λ i. rows low ++ (each (low + 1) first rows ++ each (from i) others rows)) ∙ sym (append_assoc (rows low) (each (low + 1) first rows) (each (low + suc first) others rows))
+
+-- what suits all rows, and with them those in front, suits the rows up to a number with those of that number
+pub suits-next : {X : Type 0} (suits : List X → Type 0) → ((xs ys : List X) → suits (xs ++ ys) → suits xs) → (before : List X) (rows : ℕ → List X) (low next count : ℕ) → low ≤ next → next < low + count → suits (before ++ each low count rows) → suits ((before ++ each low (next - low) rows) ++ rows next)
+suits-next suits front before rows low next count least most h =
+    let first = next + 1 - low in
+    let others = low + count - (next + 1) in
+    let all : count ≡ first + others = omega arith in
+    let front_rows = each low first rows in
+    let other_rows = each (low + first) others rows in
+    let both = ap (λ xs. before ++ xs) (each-both rows low first others count all) ∙ sym (append_assoc before front_rows other_rows) in
+    subst suits (sym (each-next_behind before rows low next least)) (front (before ++ front_rows) other_rows (subst suits both h))
 
 -- ---- keys that begin alike
 

@@ -2,16 +2,16 @@
 ghost use Rattle.std.specs.Prelude.{◌≡◌, IfOk};
 ghost use Rattle.tpcc_rows.specs.Opening.{plain_rows};
 ghost use Rattle.tpcc_tables.specs.Listed.{listed};
-ghost use Rattle.tpcc_population.specs.Opening.{opening_rows, seeded_rows, IsSoundOpening};
+ghost use Rattle.tpcc_population.specs.Opening.{opening_rows, seeded_rows};
 
 use crate::lists::{GoodsLists, HomeLists, OrderLists, join};
-use crate::opening::{Opening, plain_is_sound, seeded_is_sound};
+use crate::opening::{Opening, plain_is_sound};
 use crate::plain::tables::*;
 use crate::scale::Scale;
-use crate::seeded::Seed;
 use crate::seeded::tables::*;
+use crate::seeded::{Seed, is_sound};
 use std::alloc::Global;
-use tpcc_keyed::{KeyedRows, Parts};
+use tpcc_keyed::Parts;
 use tpcc_money::NoMemory;
 use tpcc_tables::{Lists, Tables};
 
@@ -52,13 +52,7 @@ fn fill_seeded(alloc: Global, seed: Seed) -> Result<Tables, NoMemory>
     Tables::of(lists, alloc)
 }
 
-fn is_sound(seed: Seed)
-    ensures { IsSoundOpening seed.scale.customers (seeded_rows seed) }
-{
-    seeded_is_sound(seed.scale, seed.seed, seed.moment);
-}
-
-// ORDER-LINE comes first: while its rows stand twice, few others take memory yet.
+// ORDER-LINE comes first here too.
 #[tactic(auto, unfolding(tpcc_rows::specs::Opening::plain_rows))]
 fn plain_order_lists(alloc: Global, scale: Scale) -> Result<OrderLists, NoMemory>
     ensures orders { IfOk result (λ lists. lists.orders.rows ≡ (plain_rows scale).orders) }
@@ -87,11 +81,10 @@ fn plain_home_lists(alloc: Global, scale: Scale) -> Result<HomeLists, NoMemory>
     ensures histories { IfOk result
         (λ lists. lists.histories.items ≡ (plain_rows scale).histories) }
 {
-    plain_is_sound(scale);
     Ok(HomeLists {
-        warehouses: KeyedRows::from_sorted(plain_warehouses(alloc, scale)?, alloc)?,
-        districts: KeyedRows::from_sorted(plain_districts(alloc, scale)?, alloc)?,
-        customers: KeyedRows::from_sorted(plain_customers(alloc, scale)?, alloc)?,
+        warehouses: plain_warehouses(alloc, scale)?,
+        districts: plain_districts(alloc, scale)?,
+        customers: plain_customers(alloc, scale)?,
         histories: plain_histories(alloc, scale)?,
     })
 }
@@ -101,24 +94,23 @@ fn plain_goods_lists(alloc: Global, scale: Scale) -> Result<GoodsLists, NoMemory
     ensures items { IfOk result (λ lists. lists.items.items ≡ (plain_rows scale).items) }
     ensures stocks { IfOk result (λ lists. lists.stocks.items ≡ (plain_rows scale).stocks) }
 {
-    plain_is_sound(scale);
     Ok(GoodsLists {
-        stocks: KeyedRows::from_sorted(plain_stocks(alloc, scale)?, alloc)?,
-        items: KeyedRows::from_sorted(plain_items(alloc, scale)?, alloc)?,
+        stocks: plain_stocks(alloc, scale)?,
+        items: plain_items(alloc, scale)?,
     })
 }
 
-// STOCK and ITEM come first: while STOCK's rows stand twice, no others take memory yet.
+// ORDER-LINE comes first: while its rows stand twice, no others take memory yet.
 fn plain_lists(alloc: Global, scale: Scale) -> Result<Lists, NoMemory>
     ensures rows { IfOk result (λ lists. listed lists ≡ plain_rows scale) }
 {
-    let goods = plain_goods_lists(alloc, scale)?;
     let orders = plain_order_lists(alloc, scale)?;
+    let goods = plain_goods_lists(alloc, scale)?;
     let homes = plain_home_lists(alloc, scale)?;
     Ok(join(homes, orders, goods))
 }
 
-// ORDER-LINE comes first: while its rows stand twice, few others take memory yet.
+// ORDER-LINE comes first here too.
 #[tactic(auto, unfolding(crate::specs::Opening::seeded_rows))]
 fn seeded_order_lists(alloc: Global, seed: Seed) -> Result<OrderLists, NoMemory>
     ensures orders { IfOk result (λ lists. lists.orders.rows ≡ (seeded_rows seed).orders) }
@@ -147,11 +139,10 @@ fn seeded_home_lists(alloc: Global, seed: Seed) -> Result<HomeLists, NoMemory>
     ensures histories { IfOk result
         (λ lists. lists.histories.items ≡ (seeded_rows seed).histories) }
 {
-    is_sound(seed);
     Ok(HomeLists {
-        warehouses: KeyedRows::from_sorted(seeded_warehouses(alloc, seed)?, alloc)?,
-        districts: KeyedRows::from_sorted(seeded_districts(alloc, seed)?, alloc)?,
-        customers: KeyedRows::from_sorted(seeded_customers(alloc, seed)?, alloc)?,
+        warehouses: seeded_warehouses(alloc, seed)?,
+        districts: seeded_districts(alloc, seed)?,
+        customers: seeded_customers(alloc, seed)?,
         histories: seeded_histories(alloc, seed)?,
     })
 }
@@ -161,19 +152,18 @@ fn seeded_goods_lists(alloc: Global, seed: Seed) -> Result<GoodsLists, NoMemory>
     ensures items { IfOk result (λ lists. lists.items.items ≡ (seeded_rows seed).items) }
     ensures stocks { IfOk result (λ lists. lists.stocks.items ≡ (seeded_rows seed).stocks) }
 {
-    is_sound(seed);
     Ok(GoodsLists {
-        stocks: KeyedRows::from_sorted(seeded_stocks(alloc, seed)?, alloc)?,
-        items: KeyedRows::from_sorted(seeded_items(alloc, seed)?, alloc)?,
+        stocks: seeded_stocks(alloc, seed)?,
+        items: seeded_items(alloc, seed)?,
     })
 }
 
-// STOCK and ITEM come first: while STOCK's rows stand twice, no others take memory yet.
+// ORDER-LINE comes first: while its rows stand twice, no others take memory yet.
 fn seeded_lists(alloc: Global, seed: Seed) -> Result<Lists, NoMemory>
     ensures rows { IfOk result (λ lists. listed lists ≡ seeded_rows seed) }
 {
-    let goods = seeded_goods_lists(alloc, seed)?;
     let orders = seeded_order_lists(alloc, seed)?;
+    let goods = seeded_goods_lists(alloc, seed)?;
     let homes = seeded_home_lists(alloc, seed)?;
     Ok(join(homes, orders, goods))
 }

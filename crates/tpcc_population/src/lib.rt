@@ -7,6 +7,7 @@ mod lists;
 mod new_orders;
 mod opening;
 mod plain;
+mod row_list;
 mod scale;
 mod seeded;
 mod texts;

@@ -1,4 +1,6 @@
 //! The drawn opening (4.3.3.1): each row from its own stream, its columns drawn in their order.
+ghost use Rattle.tpcc_population.specs.Opening.{seeded_rows, IsSoundOpening};
+
 mod address;
 mod customers;
 mod goods;
@@ -8,6 +10,7 @@ mod numbers;
 mod orders;
 pub(crate) mod tables;
 
+use crate::opening::seeded_is_sound;
 use crate::scale::Scale;
 use std::marker::Model;
 use tpcc_money::Moment;
@@ -31,4 +34,11 @@ impl Model for Seed {
     ghost view = { λ s. record { scale = s.scale; seed = s.seed; moment = s.moment } };
 
     ghost inverse = { λ v. record { scale = v.scale; seed = v.seed; moment = v.moment } };
+}
+
+/// The drawn opening is sound.
+pub(crate) fn is_sound(seed: Seed)
+    ensures { IsSoundOpening seed.scale.customers (seeded_rows seed) }
+{
+    seeded_is_sound(seed.scale, seed.seed, seed.moment);
 }

@@ -1,6 +1,7 @@
 //! The tables of the plain opening: each list in the order of its key.
 ghost use Rattle.std.specs.Prelude.{◌≡◌, IfOk};
 ghost use Rattle.tpcc_rows.specs.Layout.{laid_out};
+ghost use Rattle.tpcc_rows.specs.WellKeyed.{IsKeyed};
 ghost use Rattle.tpcc_rows.specs.Opening.{plain_rules};
 
 use super::customers::{PlainCustomers, PlainHistories};
@@ -10,32 +11,54 @@ use super::lines::PlainOrderLines;
 use super::orders::PlainOrders;
 use crate::layout::{fill_by_district, fill_by_number, fill_by_warehouse};
 use crate::new_orders::NewOrders;
+use crate::opening::plain_is_sound;
 use crate::scale::Scale;
 use std::alloc::Global;
+use tpcc_keyed::KeyedRows;
 use tpcc_money::NoMemory;
 use tpcc_rows::{
     CustomerRow, DistrictRow, HistoryRow, ItemRow, NewOrderRow, OrderLineRow, OrderRow, StockRow,
     WarehouseRow,
 };
 
+/// Each table is in the order of its key.
+#[tactic(auto, unfolding(tpcc_rows::specs::Opening::plain_rows))]
+fn is_keyed(scale: Scale)
+    ensures { IsKeyed (laid_out scale (plain_rules scale)) }
+{
+    plain_is_sound(scale);
+}
+
 /// WAREHOUSE.
-pub(crate) fn plain_warehouses(alloc: Global, scale: Scale) -> Result<Vec<WarehouseRow>, NoMemory>
+pub(crate) fn plain_warehouses(
+    alloc: Global,
+    scale: Scale,
+) -> Result<KeyedRows<WarehouseRow>, NoMemory>
     ensures rows { IfOk result (λ v. v.items ≡ (laid_out scale (plain_rules scale)).warehouses) }
 {
+    is_keyed(scale);
     fill_by_number(alloc, &PlainWarehouses { scale }, scale.warehouses())
 }
 
 /// DISTRICT.
-pub(crate) fn plain_districts(alloc: Global, scale: Scale) -> Result<Vec<DistrictRow>, NoMemory>
+pub(crate) fn plain_districts(
+    alloc: Global,
+    scale: Scale,
+) -> Result<KeyedRows<DistrictRow>, NoMemory>
     ensures rows { IfOk result (λ v. v.items ≡ (laid_out scale (plain_rules scale)).districts) }
 {
+    is_keyed(scale);
     fill_by_warehouse(alloc, &PlainDistricts { scale }, scale.warehouses(), 10)
 }
 
 /// CUSTOMER.
-pub(crate) fn plain_customers(alloc: Global, scale: Scale) -> Result<Vec<CustomerRow>, NoMemory>
+pub(crate) fn plain_customers(
+    alloc: Global,
+    scale: Scale,
+) -> Result<KeyedRows<CustomerRow>, NoMemory>
     ensures rows { IfOk result (λ v. v.items ≡ (laid_out scale (plain_rules scale)).customers) }
 {
+    is_keyed(scale);
     fill_by_district(
         alloc,
         &PlainCustomers,
@@ -98,15 +121,17 @@ pub(crate) fn plain_new_orders(alloc: Global, scale: Scale) -> Result<Vec<NewOrd
 }
 
 /// ITEM.
-pub(crate) fn plain_items(alloc: Global, scale: Scale) -> Result<Vec<ItemRow>, NoMemory>
+pub(crate) fn plain_items(alloc: Global, scale: Scale) -> Result<KeyedRows<ItemRow>, NoMemory>
     ensures rows { IfOk result (λ v. v.items ≡ (laid_out scale (plain_rules scale)).items) }
 {
+    is_keyed(scale);
     fill_by_number(alloc, &PlainItems, scale.items())
 }
 
 /// STOCK.
-pub(crate) fn plain_stocks(alloc: Global, scale: Scale) -> Result<Vec<StockRow>, NoMemory>
+pub(crate) fn plain_stocks(alloc: Global, scale: Scale) -> Result<KeyedRows<StockRow>, NoMemory>
     ensures rows { IfOk result (λ v. v.items ≡ (laid_out scale (plain_rules scale)).stocks) }
 {
+    is_keyed(scale);
     fill_by_warehouse(alloc, &PlainStocks, scale.warehouses(), scale.items())
 }

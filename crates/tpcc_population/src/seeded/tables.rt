@@ -1,36 +1,54 @@
 //! The tables of the drawn opening: each list in the order of its key.
 ghost use Rattle.std.specs.Prelude.{◌≡◌, IfOk};
 ghost use Rattle.tpcc_rows.specs.Layout.{laid_out};
+ghost use Rattle.tpcc_rows.specs.WellKeyed.{IsKeyed};
 ghost use Rattle.tpcc_population.specs.Seeded.{seeded_rules};
 
-use super::Seed;
 use super::customers::{SeededCustomers, SeededHistories};
 use super::goods::{SeededItems, SeededStocks};
 use super::homes::{SeededDistricts, SeededWarehouses};
 use super::lines::SeededOrderLines;
 use super::orders::SeededOrders;
+use super::{Seed, is_sound};
 use crate::layout::{fill_by_district, fill_by_number, fill_by_warehouse};
 use crate::new_orders::NewOrders;
 use std::alloc::Global;
+use tpcc_keyed::KeyedRows;
 use tpcc_money::NoMemory;
 use tpcc_rows::{
     CustomerRow, DistrictRow, HistoryRow, ItemRow, NewOrderRow, OrderLineRow, OrderRow, StockRow,
     WarehouseRow,
 };
 
+/// Each table is in the order of its key.
+#[tactic(auto, unfolding(crate::specs::Opening::seeded_rows))]
+fn is_keyed(seed: Seed)
+    ensures { IsKeyed (laid_out seed.scale (seeded_rules seed)) }
+{
+    is_sound(seed);
+}
+
 /// WAREHOUSE.
-pub(crate) fn seeded_warehouses(alloc: Global, seed: Seed) -> Result<Vec<WarehouseRow>, NoMemory>
+pub(crate) fn seeded_warehouses(
+    alloc: Global,
+    seed: Seed,
+) -> Result<KeyedRows<WarehouseRow>, NoMemory>
     ensures rows { IfOk result
         (λ v. v.items ≡ (laid_out seed.scale (seeded_rules seed)).warehouses) }
 {
+    is_keyed(seed);
     fill_by_number(alloc, &SeededWarehouses { seed }, seed.scale.warehouses())
 }
 
 /// DISTRICT.
-pub(crate) fn seeded_districts(alloc: Global, seed: Seed) -> Result<Vec<DistrictRow>, NoMemory>
+pub(crate) fn seeded_districts(
+    alloc: Global,
+    seed: Seed,
+) -> Result<KeyedRows<DistrictRow>, NoMemory>
     ensures rows { IfOk result
         (λ v. v.items ≡ (laid_out seed.scale (seeded_rules seed)).districts) }
 {
+    is_keyed(seed);
     fill_by_warehouse(
         alloc,
         &SeededDistricts { seed },
@@ -40,10 +58,14 @@ pub(crate) fn seeded_districts(alloc: Global, seed: Seed) -> Result<Vec<District
 }
 
 /// CUSTOMER.
-pub(crate) fn seeded_customers(alloc: Global, seed: Seed) -> Result<Vec<CustomerRow>, NoMemory>
+pub(crate) fn seeded_customers(
+    alloc: Global,
+    seed: Seed,
+) -> Result<KeyedRows<CustomerRow>, NoMemory>
     ensures rows { IfOk result
         (λ v. v.items ≡ (laid_out seed.scale (seeded_rules seed)).customers) }
 {
+    is_keyed(seed);
     fill_by_district(
         alloc,
         &SeededCustomers { seed },
@@ -109,16 +131,18 @@ pub(crate) fn seeded_new_orders(alloc: Global, seed: Seed) -> Result<Vec<NewOrde
 }
 
 /// ITEM.
-pub(crate) fn seeded_items(alloc: Global, seed: Seed) -> Result<Vec<ItemRow>, NoMemory>
+pub(crate) fn seeded_items(alloc: Global, seed: Seed) -> Result<KeyedRows<ItemRow>, NoMemory>
     ensures rows { IfOk result (λ v. v.items ≡ (laid_out seed.scale (seeded_rules seed)).items) }
 {
+    is_keyed(seed);
     fill_by_number(alloc, &SeededItems { seed }, seed.scale.items())
 }
 
 /// STOCK.
-pub(crate) fn seeded_stocks(alloc: Global, seed: Seed) -> Result<Vec<StockRow>, NoMemory>
+pub(crate) fn seeded_stocks(alloc: Global, seed: Seed) -> Result<KeyedRows<StockRow>, NoMemory>
     ensures rows { IfOk result (λ v. v.items ≡ (laid_out seed.scale (seeded_rules seed)).stocks) }
 {
+    is_keyed(seed);
     fill_by_warehouse(
         alloc,
         &SeededStocks { seed },

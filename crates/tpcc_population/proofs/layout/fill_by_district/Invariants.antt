@@ -5,5 +5,5 @@ use Rattle.tpcc_population.proofs.layout.fill_by_district.Given as goal
 abbrev pub invariant-loop-warehouse : goal.invariant-loop-warehouse
 invariant-loop-warehouse g l = record {
   least : 1 ≤ l.warehouse;
-  rows : l.rows.items ≡ each 1 (l.warehouse - 1) (λ w. each 1 10 (λ d. each l.low l.count (g.T.TableRows.rows_of l.table w d)));
+  rows : g.L.RowList.rows l.rows ≡ each 1 (l.warehouse - 1) (λ w. each 1 10 (λ d. each l.low l.count (g.T.TableRows.rows_of l.table w d)));
 }

@@ -1,10 +1,10 @@
-use Rattle.std.proofs.Common.{◌≡◌, take}
+use Rattle.std.proofs.Common.{◌≡◌, ◌++◌, take}
 use Rattle.indexmap.specs.IndexMap.{values}
 use Rattle.tpcc_keyed.specs.KeyedRows.{AreUnderKeys}
-use Rattle.tpcc_keyed.proofs.keyed_rows.KeyedRows.from_sorted.Given as goal
+use Rattle.tpcc_keyed.proofs.keyed_rows.push_all.Given as goal
 
 abbrev pub invariant-loop-row : goal.invariant-loop-row
 invariant-loop-row g l = record {
-  rows : values l.rows ≡ take l.row-index l.fn.sorted.items;
+  rows : values l.rows ≡ values l.initial.rows ++ take l.row-index l.more;
   kept : AreUnderKeys g.T.Keyed.key g.T.Keyed.numbers l.rows.entries;
 }
