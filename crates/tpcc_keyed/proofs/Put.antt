@@ -12,7 +12,7 @@ use Rattle.tpcc_rows.specs.declared.keys.DistrictKey.{DistrictKey}
 use Rattle.tpcc_rows.specs.Lists.{by_key, inserted, is_ascending, key_before, updated}
 use Rattle.tpcc_laws.proofs.DeliveryKeys.{list_all-filter}
 use Rattle.tpcc_laws.proofs.Insert.{list_all-inserted}
-use Rattle.tpcc_laws.proofs.List.{list_all-mono}
+use Rattle.tpcc_laws.proofs.List.{ascending_front, list_all-mono}
 use Rattle.tpcc_keyed.specs.DistrictRows.{DistrictRows}
 use Rattle.tpcc_keyed.specs.Searches.{is_same_key}
 use Rattle.tpcc_keyed.specs.Parts.{district_numbers, is_of}
@@ -53,14 +53,6 @@ module _ {T : Type 0} (key : T → List ℕ) (new : T) (k : List ℕ) (same : ta
       (sides_from_order rows_in (is_part k) part_numbers (by_key key) new k (owns key) around parts kept.own kept.ascending one)
 
 -- rows of a part are in order where all rows are
-before_part : {X : Type 0} (test : X → Bool) (xs ys : List X) → list_all test (xs ++ ys) ≡ true → list_all test xs ≡ true
-before_part test [] ys h = refl
-before_part test (x ∷ xs) ys h = grind (arith, before_part test xs ys)
-
-ascending_front : {X : Type 0} (key : X → List ℕ) (xs ys : List X) → is_ascending key (xs ++ ys) ≡ true → is_ascending key xs ≡ true
-ascending_front key [] ys h = refl
-ascending_front key (x ∷ xs) ys h = grind (arith, before_part (λ later. key_before (key x) (key later)) xs ys, ascending_front key xs ys)
-
 ascending_back : {X : Type 0} (key : X → List ℕ) (xs ys : List X) → is_ascending key (xs ++ ys) ≡ true → is_ascending key ys ≡ true
 ascending_back key [] ys h = h
 ascending_back key (x ∷ xs) ys h = grind (arith, ascending_back key xs ys)
