@@ -1,4 +1,4 @@
-//! Rows that are found by their keys: in ascending lists, and in one part for each district.
+//! Rows that are found by their keys: in maps, in ascending lists, and in a part for each district.
 #![tactic(auto)]
 
 pub mod insertion;
