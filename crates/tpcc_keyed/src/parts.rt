@@ -22,9 +22,9 @@ use growth::grow_all;
 use part::DistrictPart;
 use place::{open_part, place_of};
 use reading::read_run;
-use store::Store;
 use std::alloc::Global;
 use std::marker::Model;
+use store::Store;
 use tpcc_money::NoMemory;
 use tpcc_rows::DistrictKey;
 

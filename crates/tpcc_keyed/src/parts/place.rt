@@ -28,7 +28,10 @@ fn is_same(key: DistrictKey, other: DistrictKey) -> bool
 }
 
 /// The place of a district's part, where it stands at the place that the district's numbers tell.
-fn try_likely_place<T: Owned, S: Store<T>>(parts: &[DistrictPart<T, S>], owner: DistrictKey) -> Option<usize>
+fn try_likely_place<T: Owned, S: Store<T>>(
+    parts: &[DistrictPart<T, S>],
+    owner: DistrictKey,
+) -> Option<usize>
     requires rising { is_ascending part_numbers parts.now ≡ true }
     ensures { IfSome result
         (λ place. Some place ≡ position (is_part (district_numbers owner)) parts.now) }
@@ -42,7 +45,10 @@ fn try_likely_place<T: Owned, S: Store<T>>(parts: &[DistrictPart<T, S>], owner: 
 }
 
 /// The place of a district's part, searched by halves.
-fn search_by_halves<T: Owned, S: Store<T>>(parts: &[DistrictPart<T, S>], owner: DistrictKey) -> Option<usize>
+fn search_by_halves<T: Owned, S: Store<T>>(
+    parts: &[DistrictPart<T, S>],
+    owner: DistrictKey,
+) -> Option<usize>
     requires rising { is_ascending part_numbers parts.now ≡ true }
     ensures { result ≡ position (is_part (district_numbers owner)) parts.now }
 {
@@ -59,7 +65,10 @@ fn search_by_halves<T: Owned, S: Store<T>>(parts: &[DistrictPart<T, S>], owner: 
 }
 
 /// The place of a district's part: in one step where each district has a part.
-pub fn place_of<T: Owned, S: Store<T>>(parts: &[DistrictPart<T, S>], owner: DistrictKey) -> Option<usize>
+pub fn place_of<T: Owned, S: Store<T>>(
+    parts: &[DistrictPart<T, S>],
+    owner: DistrictKey,
+) -> Option<usize>
     requires rising { is_ascending part_numbers parts.now ≡ true }
     ensures { result ≡ position (is_part (district_numbers owner)) parts.now }
 {

@@ -18,9 +18,9 @@ pub returns-clause-opened : goal.returns-clause-opened
 returns-clause-opened g c =
     let owner = ap (λ (part : DistrictRows g.row.T.Denot). part.owner) c.new.ensures in
     let place =
-        c.place_for-place.ensures
-        ∙ ap (prefix_len (λ part. not (key_before (district_numbers c.args.owner) (part_numbers part)))) c.as_slice.ensures.value
-        ∙ ap (λ k. prefix_len (λ part. not (key_before (district_numbers k) (part_numbers part))) c.args.parts.now.items) (sym owner) in
+    c.place_for-place.ensures
+    ∙ ap (prefix_len (λ part. not (key_before (district_numbers c.args.owner) (part_numbers part)))) c.as_slice.ensures.value
+    ∙ ap (λ k. prefix_len (λ part. not (key_before (district_numbers k) (part_numbers part))) c.args.parts.now.items) (sym owner) in
     record {
       part = c.new.result;
       of_owner = owner;
