@@ -135,6 +135,17 @@ impl<T: Mapped> KeyedRows<T> {
         self.as_slice().get(position)
     }
 
+    /// The place of the row of a key, as the map has it. Not inlined, so that what asks the likely
+    /// place first stays short.
+    #[cold]
+    #[inline(never)]
+    fn place_in_map(&self, key: &T::Key) -> Option<usize>
+        ensures { result
+            ≡ position (λ row. is_same_key (T.key row) (T.numbers key.now)) self.now.items }
+    {
+        self.rows.get_index_of(key)
+    }
+
     /// The place of the row of a key: in one step where keys have no gaps.
     #[inline]
     fn place_of(&self, key: &T::Key) -> Option<usize>
@@ -144,7 +155,7 @@ impl<T: Mapped> KeyedRows<T> {
     {
         match try_likely_place(self.as_slice(), key) {
             Some(place) => Some(place),
-            None => self.rows.get_index_of(key),
+            None => self.place_in_map(key),
         }
     }
 
