@@ -5,7 +5,7 @@ ghost use Rattle.std.specs.Option.{option_copied};
 ghost use Rattle.indexmap.specs.IndexMap.{values, spare, index_map_len};
 ghost use Rattle.tpcc_rows.specs.Lists.{by_key, is_ascending, inserted, updated};
 ghost use Rattle.tpcc_keyed.specs.Searches.{is_same_key};
-ghost use Rattle.tpcc_keyed.specs.KeyedRows.{AreUnderKeys};
+ghost use Rattle.tpcc_keyed.specs.KeyedRows.{AddsSome, AreUnderKeys};
 
 use crate::insertion::place_for;
 use crate::mapped::Mapped;
@@ -48,6 +48,7 @@ fn push<T: Mapped>(rows: &mut IndexMap<T::Key, T>, row: T) -> Result<(), NoMemor
     requires kept { AreUnderKeys T.key T.numbers rows.old.entries }
     requires last { list_all (λ earlier. by_key T.key earlier row) (values rows.old) ≡ true }
     ensures rows { OnOk result (values rows.new ≡ values rows.old ++ row ∷ []) }
+    ensures same { OnErr result (values rows.new ≡ values rows.old) }
     ensures kept { AreUnderKeys T.key T.numbers rows.new.entries }
 {
     match rows.insert(row.key_of(), row) {
@@ -56,11 +57,12 @@ fn push<T: Mapped>(rows: &mut IndexMap<T::Key, T>, row: T) -> Result<(), NoMemor
     }
 }
 
-/// More rows behind all others, in order already.
+/// More rows behind all others, in order already; where memory is refused, the first of them.
 fn push_all<T: Mapped>(rows: &mut IndexMap<T::Key, T>, more: &[T]) -> Result<(), NoMemory>
     requires kept { AreUnderKeys T.key T.numbers rows.old.entries }
     requires keyed { is_ascending T.key (values rows.old ++ more.now) ≡ true }
     ensures rows { OnOk result (values rows.new ≡ values rows.old ++ more.now) }
+    ensures part { OnErr result (AddsSome (values rows.old) (values rows.new) more.now) }
     ensures kept { AreUnderKeys T.key T.numbers rows.new.entries }
 {
     for row in more {
@@ -105,11 +107,12 @@ impl<T: Mapped> KeyedRows<T> {
         Ok(KeyedRows { rows })
     }
 
-    /// More rows behind all others, in order already. Where memory is refused, some of them may be
-    /// there.
+    /// More rows behind all others, in order already. Where memory is refused, the first of them are
+    /// there, as many as there was memory for.
     pub fn append_sorted(&mut self, rows: &[T]) -> Result<(), NoMemory>
         requires keyed { is_ascending T.key (self.old.items ++ rows.now) ≡ true }
         ensures appended { OnOk result (self.new.items ≡ self.old.items ++ rows.now) }
+        ensures part { OnErr result (AddsSome self.old.items self.new.items rows.now) }
     {
         push_all(&mut self.rows, rows)
     }

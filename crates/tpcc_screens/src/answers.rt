@@ -33,7 +33,7 @@ fn put_reply(screen: &mut Screen, reply: &Reply) -> Result<(), NoMemory>
 pub fn reply_screen(alloc: Global, reply: &Reply) -> Result<Screen, NoMemory>
     ensures { IfOk result (λ screen. screen ≡ screens.reply_screen reply.now) }
 {
-    let mut screen = Screen::new(alloc);
+    let mut screen = Screen::with_room(alloc)?;
     put_reply(&mut screen, reply)?;
     Ok(screen)
 }

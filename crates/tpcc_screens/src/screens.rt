@@ -12,6 +12,9 @@ use std::marker::Model;
 use tpcc_money::NoMemory;
 use tpcc_rows::Address;
 
+/// For how many bytes there is room at once: those of most replies, so that their text grows in place.
+const REPLY_ROOM: usize = 1_024;
+
 /// Lines of ASCII text, each ended by a line feed.
 #[derive(Drop)]
 pub struct Screen {
@@ -41,6 +44,15 @@ impl Screen {
         Screen {
             bytes: Vec::new(alloc),
         }
+    }
+
+    /// A screen with no line yet, and room for most replies.
+    pub(crate) fn with_room(alloc: Global) -> Result<Screen, NoMemory>
+        ensures { IfOk result (λ screen. screen ≡ []) }
+    {
+        Ok(Screen {
+            bytes: Vec::with_capacity(alloc, REPLY_ROOM)?,
+        })
     }
 
     /// A screen of these pieces; refused only for want of memory.
