@@ -1,12 +1,14 @@
 //! The fields of one record.
-ghost use Rattle.std.specs.Prelude.{◌≡◌, ◌++◌, ◌∷◌, [], ℕ, List, OnOk, Some, map, flat_map};
-ghost use Rattle.csv.specs.Records.{fields_of};
+ghost use Rattle.std.specs.Prelude.{◌≡◌, ◌++◌, ◌∷◌, [], ℕ, List, OnOk, Some, decimal, map, flat_map};
+ghost use Rattle.csv.specs.Records.{fields_of, partial_of};
 ghost use Rattle.tpcc_dump.specs.Fields.{field_texts};
 ghost use Rattle.tpcc_dump.specs.Records as records;
 
 use csv::ByteRecord;
+use itoa::Buffer;
 use std::alloc::Global;
 use std::fmt::Display;
+use std::io::Write;
 use std::marker::Model;
 use tpcc_money::{Cents, Moment, NoMemory, Rate};
 use tpcc_rows::{Address, Text};
@@ -57,13 +59,28 @@ pub fn flag(flag: bool) -> Field<'static>
     Field::Text(if flag { b"1" } else { b"0" })
 }
 
+/// One more field of a record; a record that is refused memory has none.
+fn push(row: &mut ByteRecord, text: &[u8]) -> Result<(), NoMemory>
+    requires { partial_of row.old ≡ [] }
+    ensures field { OnOk result (fields_of row.new ≡ fields_of row.old ++ text.now ∷ []) }
+    ensures whole { partial_of row.new ≡ [] }
+{
+    match row.push_field(text) {
+        Ok(()) => Ok(()),
+        Err(_) => {
+            row.clear();
+            Err(NoMemory)
+        }
+    }
+}
+
 /// Whole fields, one behind another.
 #[derive(Drop)]
 pub struct Fields {
-    /// Where numbers, amounts and moments become texts.
-    alloc: Global,
     /// The fields as `csv` keeps them.
     row: ByteRecord,
+    /// What is shown of a value, whose memory serves the next one too.
+    shown: Vec<u8>,
 }
 
 impl Model for Fields {
@@ -83,8 +100,8 @@ impl Fields {
         ensures { result ≡ [] }
     {
         Fields {
-            alloc,
             row: ByteRecord::new(alloc),
+            shown: Vec::new(alloc),
         }
     }
 
@@ -106,13 +123,7 @@ impl Fields {
     fn put(&mut self, text: &[u8]) -> Result<(), NoMemory>
         ensures { OnOk result (self.new ≡ self.old ++ text.now ∷ []) }
     {
-        match self.row.push_field(text) {
-            Ok(()) => Ok(()),
-            Err(_) => {
-                self.row.clear();
-                Err(NoMemory)
-            }
-        }
+        push(&mut self.row, text)
     }
 
     /// Adds a field for each name.
@@ -141,7 +152,7 @@ impl Fields {
     {
         match field {
             Field::Text(text) => self.put(text),
-            Field::Number(number) => self.put_shown(number),
+            Field::Number(number) => self.put_number(*number),
             Field::Amount(amount) => self.put_shown(amount),
             Field::Rate(rate) => self.put_shown(rate),
             Field::Moment(moment) => self.put_shown(moment),
@@ -150,12 +161,22 @@ impl Fields {
         }
     }
 
+    fn put_number(&mut self, number: u32) -> Result<(), NoMemory>
+        ensures { OnOk result (self.new ≡ self.old ++ decimal number ∷ []) }
+    {
+        let mut digits = Buffer::new();
+        self.put(digits.format(number).as_bytes())
+    }
+
     fn put_shown<T: Display>(&mut self, value: &T) -> Result<(), NoMemory>
         ensures { (text : List ℕ) → T.output value.now ≡ Some text
             → OnOk result (self.new ≡ self.old ++ text ∷ []) }
     {
-        let text = value.to_string(self.alloc)?;
-        self.put(text.as_bytes())
+        self.shown.clear();
+        if write!(self.shown, "{value}").is_err() {
+            return Err(NoMemory);
+        }
+        push(&mut self.row, self.shown.as_slice())
     }
 
     fn put_address(&mut self, address: &Address) -> Result<(), NoMemory>

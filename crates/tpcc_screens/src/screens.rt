@@ -5,6 +5,7 @@ ghost use Rattle.tpcc_screens.specs.Pieces.{piece_text, pieces_text};
 ghost use Rattle.tpcc_screens.specs.Screens.{address_text};
 
 use crate::pieces::Piece;
+use itoa::{Buffer, Integer};
 use std::alloc::Global;
 use std::fmt::Display;
 use std::io::Write;
@@ -80,8 +81,8 @@ impl Screen {
         match piece {
             Piece::Word(word) => self.put(word),
             Piece::Text(name, text) => self.put_text(name, text),
-            Piece::Number(name, number) => self.put_shown(name, number),
-            Piece::Count(name, count) => self.put_shown(name, count),
+            Piece::Number(name, number) => self.put_number(name, *number),
+            Piece::Count(name, count) => self.put_number(name, *count),
             Piece::Amount(name, amount) => self.put_shown(name, amount),
             Piece::Rate(name, rate) => self.put_shown(name, rate),
             Piece::Moment(name, moment) => self.put_shown(name, moment),
@@ -102,6 +103,13 @@ impl Screen {
     {
         self.put(name)?;
         self.put(text)
+    }
+
+    fn put_number<I: Integer>(&mut self, name: &[u8], number: I) -> Result<(), NoMemory>
+        ensures { OnOk result (Adds self.old self.new (name.now ++ I.text number)) }
+    {
+        let mut digits = Buffer::new();
+        self.put_text(name, digits.format(number).as_bytes())
     }
 
     fn put_shown<T: Display>(&mut self, name: &[u8], value: &T) -> Result<(), NoMemory>
