@@ -1,10 +1,10 @@
 #!/usr/bin/env python3
 """Proves, compiles and runs a program, as `programs/build.py tpcc script < examples/first_payment.txt`: the words behind its name are its own.
 
-It ends in `rt run`, which alone would prove one crate after another. What a check proved in one checkout serves the others on this machine, so here
-as many scratch copies as there are processors prove one crate each, as soon as those that it stands on are proved, the longest chain first. The
-copies lie beside this checkout, so that their files can be linked, and go at the end. With nothing new to prove it takes a minute; where a crate is
-not proved it says so and ends with status 1.
+It ends in `rt run`, which alone would prove one crate after another, and rt proves one crate at a time in a checkout. So here as many scratch copies as
+there are processors prove one crate each, as soon as those that it stands on are proved, the longest chain first; the library that a copy made is
+linked into the others and into this checkout, where rt looks that it was made of these files. The copies lie beside this checkout and go at the
+end. With nothing new to prove it takes a minute or two; where a crate is not proved it says so and ends with status 1.
 """
 import os
 import shutil
@@ -83,12 +83,14 @@ class Build:
             self.free -= jobs
             return name, jobs
 
-    def work(self, copy):
-        """Proves crates in a copy, until none is left."""
+    def work(self, copy, others):
+        """Proves crates in a copy, and gives each library to the other checkouts, until no crate is left."""
         while taken := self.take():
             name, jobs = taken
             words = ["rt", "lib", "--jobs", str(jobs)]
             ran = subprocess.run(words, cwd=f"{copy}/crates/{name}", stdin=subprocess.DEVNULL, stdout=subprocess.PIPE, stderr=subprocess.STDOUT, check=False)
+            if not ran.returncode:
+                give(name, copy, others)
             with self.changed:
                 self.done.add(name)
                 self.free += jobs
@@ -108,11 +110,24 @@ def processors():
 
 
 def copies(room, number):
-    for copy in (f"{room}/{it}" for it in range(number)):
+    """The scratch copies, with the libraries that this checkout has."""
+    made = [f"{room}/{it}" for it in range(number)]
+    for copy in made:
         shutil.copytree(f"{TOP}/crates", f"{copy}/crates", ignore=shutil.ignore_patterns("out"))
         for file in ("crates.txt", "HANDLES"):
             shutil.copy(f"{TOP}/{file}", copy)
-        yield copy
+    for name in crates():
+        give(name, TOP, made)
+    return made
+
+
+def give(name, copy, others):
+    """Links a crate's library, if it has one, into the other checkouts."""
+    made = f"crates/{name}/out/rlib"
+    if os.path.isdir(f"{copy}/{made}"):
+        for other in others:
+            shutil.rmtree(f"{other}/{made}", ignore_errors=True)
+            shutil.copytree(f"{copy}/{made}", f"{other}/{made}", copy_function=os.link)
 
 
 def main():
@@ -123,7 +138,8 @@ def main():
     try:
         number = processors()
         build = Build(crates(), program, number)
-        lanes = [threading.Thread(target=build.work, args=(copy,)) for copy in copies(room, number)]
+        made = copies(room, number)
+        lanes = [threading.Thread(target=build.work, args=(copy, [TOP, *made[:it], *made[it + 1 :]])) for it, copy in enumerate(made)]
         for lane in lanes:
             lane.start()
         for lane in lanes:
