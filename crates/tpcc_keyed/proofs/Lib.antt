@@ -1,4 +1,3 @@
-pub mod Tails
 pub mod Place
 pub mod Halves
 pub mod Change

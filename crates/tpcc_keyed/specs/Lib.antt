@@ -1,6 +1,5 @@
 pub mod Searches
-pub mod Tails
-pub mod TailsView
+pub mod KeptRows
 pub mod DistrictRows
 pub mod DistrictRowsView
 pub mod OrderRange

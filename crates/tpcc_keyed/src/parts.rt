@@ -14,7 +14,7 @@ pub(crate) mod place;
 mod range;
 mod reading;
 pub(crate) mod store;
-pub(crate) mod tail;
+mod vector;
 pub(crate) mod waiting;
 
 use crate::keyed::Owned;

@@ -8,12 +8,11 @@ ghost use Rattle.tpcc_keyed.specs.Parts.{is_of};
 use crate::keyed::Owned;
 use crate::parts::Parts;
 use crate::parts::place::place_of;
-use crate::parts::tail::Tail;
 use crate::search::find;
 use tpcc_rows::DistrictKey;
 
 /// Rows that are kept in one vector for each district.
-pub type Listed<T> = Parts<T, Tail<T>>;
+pub type Listed<T> = Parts<T, Vec<T>>;
 
 impl<T: Owned> Listed<T> {
     /// Rows that lie side by side, from a place on: at least one, where there is a row.

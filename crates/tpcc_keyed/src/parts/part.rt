@@ -7,7 +7,7 @@ ghost use Rattle.tpcc_keyed.specs.PartWords.{HasRoom};
 
 use crate::keyed::Owned;
 use crate::parts::store::Store;
-use crate::parts::tail::Tail;
+use crate::runs;
 use std::marker::{Model, PhantomData};
 use tpcc_money::{Moment, NoMemory};
 use tpcc_rows::{DistrictKey, OrderLineRow};
@@ -29,13 +29,13 @@ impl<T: Owned, S: Store<T>> Model for DistrictPart<T, S> {
 
     ghost use Rattle.tpcc_keyed.specs.DistrictRowsView.{rows_of_part};
 
-    ghost view = { rows_of_part S.left };
+    ghost view = { rows_of_part S.kept };
 }
 
 impl<T: Owned, S: Store<T>> DistrictPart<T, S> {
     /// The rows of a district.
     pub fn new(owner: DistrictKey, rows: S) -> DistrictPart<T, S>
-        ensures { result ≡ record { owner = owner; rows = S.left rows } }
+        ensures { result ≡ record { owner = owner; rows = S.kept rows } }
     {
         DistrictPart {
             owner,
@@ -114,13 +114,13 @@ impl<T: Owned, S: Store<T>> DistrictPart<T, S> {
         requires { place < length self.old.rows.items }
         ensures owner { self.new.owner ≡ self.old.owner }
         ensures rows { self.new.rows.items ≡ remove self.old.rows.items place }
-        ensures capacity { self.old.rows.capacity ≤ self.new.rows.capacity + 1 }
+        ensures capacity { self.old.rows.capacity ≤ self.new.rows.capacity }
     {
         self.rows.remove(place);
     }
 }
 
-impl<T: Owned> DistrictPart<T, Tail<T>> {
+impl<T: Owned> DistrictPart<T, Vec<T>> {
     /// The rows.
     pub fn as_slice(&self) -> &[T]
         ensures value { result.now ≡ self.now.rows.items }
@@ -135,11 +135,11 @@ impl<T: Owned> DistrictPart<T, Tail<T>> {
         ensures rows { self.new.rows.items ≡ slice_set self.old.rows.items place row }
         ensures capacity { self.new.rows.capacity ≡ self.old.rows.capacity }
     {
-        self.rows.set(place, row);
+        self.rows[place] = row;
     }
 }
 
-impl DistrictPart<OrderLineRow, Tail<OrderLineRow>> {
+impl DistrictPart<OrderLineRow, Vec<OrderLineRow>> {
     /// The moment of delivery of an order's lines, set.
     pub fn stamp(&mut self, warehouse: u32, district: u32, order: u32, moment: Moment)
         requires keyed { is_ascending order_line_key self.old.rows.items ≡ true }
@@ -148,6 +148,6 @@ impl DistrictPart<OrderLineRow, Tail<OrderLineRow>> {
             (λ l. record l { delivered = Some moment }) self.old.rows.items }
         ensures capacity { self.new.rows.capacity ≡ self.old.rows.capacity }
     {
-        self.rows.stamp(warehouse, district, order, moment);
+        runs::stamp(&mut self.rows, warehouse, district, order, moment);
     }
 }

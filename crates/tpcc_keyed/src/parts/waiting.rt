@@ -1,10 +1,10 @@
 //! The orders of one district that wait for delivery.
-ghost use Rattle.std.specs.Prelude.{◌≡◌, ◌+◌, ◌++◌, ◌<◌, ◌≤◌, [], length};
+ghost use Rattle.std.specs.Prelude.{◌≡◌, ◌+◌, ◌++◌, ◌<◌, ◌≤◌, [], length, vec_capacity};
 
 use crate::parts::Parts;
 use crate::parts::range::OrderRange;
 use crate::parts::store::Store;
-use crate::parts::tail::Tail;
+use crate::{insertion, search};
 use std::alloc::Global;
 use std::marker::Model;
 use tpcc_money::NoMemory;
@@ -16,7 +16,7 @@ use tpcc_rows::{NewOrderKey, NewOrderRow};
 pub struct Waiting {
     range: OrderRange,
     /// Empty beside a range, but with the room of its rows, so that a gap takes no memory.
-    listed: Tail<NewOrderRow>,
+    listed: Vec<NewOrderRow>,
 }
 
 /// NEW-ORDER rows: of each district a range of numbers, or a list where there is a gap.
@@ -24,9 +24,9 @@ pub type NewOrders = Parts<NewOrderRow, Waiting>;
 
 impl Model for Waiting {
     ghost use Rattle.tpcc_rows.specs.declared.rows.NewOrderRow.{NewOrderRow};
-    ghost use Rattle.tpcc_keyed.specs.Tails.{Left};
+    ghost use Rattle.tpcc_keyed.specs.KeptRows.{KeptRows};
 
-    ghost Value = { Left NewOrderRow };
+    ghost Value = { KeptRows NewOrderRow };
 
     ghost use Rattle.tpcc_keyed.specs.WaitingView.{rows_waiting, IsWaiting};
 
@@ -36,26 +36,26 @@ impl Model for Waiting {
 }
 
 /// The rows of a range put into the list beside it, for which it has room.
-fn list(range: &mut OrderRange, listed: &mut Tail<NewOrderRow>)
+fn list(range: &mut OrderRange, listed: &mut Vec<NewOrderRow>)
     requires alone { 0 < length range.old → listed.old.items ≡ [] }
-    requires room { length range.old ≤ listed.old.capacity }
+    requires room { length range.old ≤ vec_capacity listed.old }
     ensures range { range.new ≡ [] }
     ensures listed { listed.new.items ≡ range.old ++ listed.old.items }
-    ensures capacity { listed.old.capacity ≤ listed.new.capacity }
+    ensures capacity { vec_capacity listed.old ≤ vec_capacity listed.new }
 {
     for place in 0..range.len() {
-        listed.push_in_room(range.get(place).unwrap());
+        listed.push_reserved(range.get(place).unwrap());
     }
     *range = OrderRange::new();
 }
 
 impl Store<NewOrderRow> for Waiting {
-    ghost left = { λ waiting. waiting };
+    ghost kept = { λ waiting. waiting };
 
     fn with_room(room: usize, alloc: Global) -> Result<Waiting, NoMemory> {
         Ok(Waiting {
             range: OrderRange::new(),
-            listed: Tail::with_room(room, alloc)?,
+            listed: Vec::with_capacity(alloc, room)?,
         })
     }
 
@@ -63,11 +63,11 @@ impl Store<NewOrderRow> for Waiting {
         match OrderRange::of_rows(rows) {
             Some(range) => Ok(Waiting {
                 range,
-                listed: Tail::with_room(rows.len(), alloc)?,
+                listed: Vec::with_capacity(alloc, rows.len())?,
             }),
             None => Ok(Waiting {
                 range: OrderRange::new(),
-                listed: Tail::of_rows(rows, alloc)?,
+                listed: Vec::from_slice(alloc, rows)?,
             }),
         }
     }
@@ -81,14 +81,14 @@ impl Store<NewOrderRow> for Waiting {
 
     fn get(&self, place: usize) -> Option<NewOrderRow> {
         match self.range.len() {
-            0 => self.listed.get(place),
+            0 => self.listed.as_slice().get(place).copied(),
             _ => self.range.get(place),
         }
     }
 
     fn place_of(&self, key: &NewOrderKey) -> Option<usize> {
         match self.range.len() {
-            0 => self.listed.place_of(key),
+            0 => search::place_of(self.listed.as_slice(), key),
             _ => self.range.place_of(key),
         }
     }
@@ -97,23 +97,26 @@ impl Store<NewOrderRow> for Waiting {
         let Some(wanted) = self.range.len().checked_add(room) else {
             return Err(NoMemory);
         };
-        self.listed.grow(wanted)
+        self.listed.reserve(wanted)?;
+        Ok(())
     }
 
     fn put(&mut self, row: NewOrderRow) -> Result<(), NoMemory> {
         if self.listed.len() == 0 {
-            self.listed.grow(self.range.len() + 1)?;
+            self.listed.reserve(self.range.len() + 1)?;
             if self.range.push(row) {
                 return Ok(());
             }
         }
         list(&mut self.range, &mut self.listed);
-        self.listed.put(row)
+        insertion::insert(&mut self.listed, row)
     }
 
     fn remove(&mut self, place: usize) {
         match self.range.len() {
-            0 => self.listed.remove(place),
+            0 => {
+                self.listed.remove(place);
+            }
             _ if place == 0 => self.range.pop_first(),
             count if place == count - 1 => self.range.pop_last(),
             _ => {

@@ -7,9 +7,9 @@ pub loop-place-preserved : goal.loop-place-preserved
 loop-place-preserved c =
     let there = at_place c.unwrap.result c.args.range.now c.loop-place.place c.unwrap.result (sym c.get.ensures ∙ c.unwrap.ensures) in
     record {
-      listed = c.push_in_room.ensures.items
+      listed = c.push_reserved.ensures.items
           ∙ ap (λ rows. rows ++ c.unwrap.result ∷ []) c.loop-place.invariant.listed
           ∙ append_assoc c.args.listed.now.items (take c.loop-place.place c.args.range.now) (c.unwrap.result ∷ [])
           ∙ ap (λ rows. c.args.listed.now.items ++ rows) (sym (take_more c.args.range.now c.loop-place.place c.unwrap.result there.0 ∙ ap (λ row. take c.loop-place.place c.args.range.now ++ row ∷ []) (sym there.1)));
-      capacity = omega (arith, c.push_in_room.ensures.capacity, c.loop-place.invariant.capacity);
+      capacity = omega (arith, c.push_reserved.ensures.capacity, c.loop-place.invariant.capacity);
     }
