@@ -1,15 +1,5 @@
 pub mod Searches
-pub mod KeptRows
-pub mod DistrictRows
-pub mod DistrictRowsView
-pub mod OrderRange
-pub mod OrderRangeView
-pub mod WaitingView
-pub mod Parts
-pub mod PartWords
-pub mod PartsView
 pub mod Names
-pub mod Runs
 pub mod MapKeys
 pub mod KeyedRows
 pub mod KeyedRowsView

@@ -1,8 +1,7 @@
 //! Rows with a primary key.
-ghost use Rattle.std.specs.Prelude.{[], ◌∷◌, ◌≡◌, take};
+ghost use Rattle.std.specs.Prelude.{[], ◌∷◌, ◌≡◌};
 ghost use Rattle.tpcc_rows.specs.Lists.{key_before};
 ghost use Rattle.tpcc_keyed.specs.Searches.{is_same_key};
-ghost use Rattle.tpcc_keyed.specs.Parts.{district_numbers};
 
 use crate::places;
 use std::hash::Hash;
@@ -39,17 +38,6 @@ pub trait Keyed: Copy {
     /// Where the row of a key stands, if no number is missing before it. It may be any place: a
     /// search looks whether the row is there.
     fn likely_place(rows: &[Self], sought: &Self::Key) -> usize;
-}
-
-/// A row of a district: the key begins with the district's two numbers.
-pub trait Owned: Keyed {
-    /// The district of the row.
-    fn owner(&self) -> DistrictKey
-        ensures { district_numbers result ≡ take 2 (Self.key self.now) };
-
-    /// The district of the row that a key names.
-    fn owner_of(key: &Self::Key) -> DistrictKey
-        ensures { district_numbers result ≡ take 2 (Self.numbers key.now) };
 }
 
 impl Keyed for WarehouseRow {
@@ -290,53 +278,5 @@ impl Keyed for StockRow {
             return 0;
         };
         places::of_group(sought.warehouse, last.item, sought.item)
-    }
-}
-
-impl Owned for OrderRow {
-    fn owner(&self) -> DistrictKey {
-        DistrictKey {
-            warehouse: self.warehouse,
-            district: self.district,
-        }
-    }
-
-    fn owner_of(key: &OrderKey) -> DistrictKey {
-        DistrictKey {
-            warehouse: key.warehouse,
-            district: key.district,
-        }
-    }
-}
-
-impl Owned for OrderLineRow {
-    fn owner(&self) -> DistrictKey {
-        DistrictKey {
-            warehouse: self.warehouse,
-            district: self.district,
-        }
-    }
-
-    fn owner_of(key: &OrderLineKey) -> DistrictKey {
-        DistrictKey {
-            warehouse: key.warehouse,
-            district: key.district,
-        }
-    }
-}
-
-impl Owned for NewOrderRow {
-    fn owner(&self) -> DistrictKey {
-        DistrictKey {
-            warehouse: self.warehouse,
-            district: self.district,
-        }
-    }
-
-    fn owner_of(key: &NewOrderKey) -> DistrictKey {
-        DistrictKey {
-            warehouse: key.warehouse,
-            district: key.district,
-        }
     }
 }

@@ -11,7 +11,7 @@ use crate::scale::Scale;
 use crate::seeded::tables::*;
 use crate::seeded::{Seed, is_sound};
 use std::alloc::Global;
-use tpcc_keyed::Parts;
+use tpcc_district_rows::Parts;
 use tpcc_money::NoMemory;
 use tpcc_tables::{Lists, Tables};
 

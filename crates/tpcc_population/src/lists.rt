@@ -2,7 +2,8 @@
 ghost use Rattle.std.specs.Prelude.{◌≡◌};
 ghost use Rattle.tpcc_tables.specs.Listed.{listed};
 
-use tpcc_keyed::{KeyedRows, Listed, NewOrders};
+use tpcc_district_rows::{Listed, NewOrders};
+use tpcc_keyed::KeyedRows;
 use tpcc_rows::{
     CustomerRow, DistrictRow, HistoryRow, ItemRow, NewOrderRow, OrderLineRow, OrderRow, StockRow,
     WarehouseRow,

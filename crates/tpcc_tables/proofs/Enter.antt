@@ -20,7 +20,7 @@ use Rattle.tpcc_rows.proofs.Booleans.{split, both_true}
 use Rattle.tpcc_laws.proofs.DeliveryKeeps.{some_of}
 use Rattle.std.proofs.lemmas.Bool.Decides.{nat_tests}
 use Rattle.tpcc_rows.specs.declared.keys.DistrictKey.{DistrictKey}
-use Rattle.tpcc_keyed.specs.Parts.{has_owner}
+use Rattle.tpcc_district_rows.specs.Parts.{has_owner}
 use Rattle.tpcc_tables.specs.Ready.{is_open}
 use Rattle.tpcc_tables.proofs.Ready.{open-found}
 use Rattle.tpcc_laws.proofs.Remove.{found_passes}

@@ -11,7 +11,7 @@ use Rattle.tpcc_rows.specs.Tables.{Rows, is_line_of, lines_of, order_lines_in, o
 use Rattle.tpcc_rows.specs.WellKeyed.{IsWellKeyed}
 use Rattle.tpcc_laws.proofs.Numbers.{within}
 use Rattle.tpcc_rows.proofs.Booleans.{split}
-use Rattle.tpcc_keyed.specs.Runs.{is_line_between}
+use Rattle.tpcc_district_rows.specs.Runs.{is_line_between}
 use Rattle.tpcc_tables.specs.Loads.{is_order_line, find_order_line}
 use Rattle.tpcc_tables.proofs.Filter.{below, exactly, filter-next, filter-key, filter-agree, filter-same, filter-nothing, filter-twice}
 

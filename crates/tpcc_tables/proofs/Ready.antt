@@ -12,7 +12,7 @@ use Rattle.tpcc_rows.specs.declared.rows.NewOrderRow.{NewOrderRow}
 use Rattle.tpcc_rows.specs.Lists.{updated}
 use Rattle.tpcc_rows.specs.Tables.{district_key}
 use Rattle.tpcc_laws.proofs.List.{list_all-mono, key-chosen}
-use Rattle.tpcc_keyed.specs.Parts.{PartsView, has_owner}
+use Rattle.tpcc_district_rows.specs.Parts.{PartsView, has_owner}
 use Rattle.tpcc_tables.specs.Ready.{is_open, IsOpen, IsReady, IsOpening}
 
 -- no district loses its part

@@ -7,7 +7,7 @@ use Rattle.tpcc_rows.specs.Lists.{updated, inserted, by_key, key_before, is_asce
 use Rattle.tpcc_keyed.specs.Searches.{is_same_key}
 use Rattle.tpcc_keyed.proofs.Keys.{same_keys, same_swapped, not_before_itself}
 use Rattle.tpcc_laws.proofs.List.{list_all-map}
-use Rattle.tpcc_keyed.proofs.Shown.{ascending-shown}
+use Rattle.tpcc_district_rows.proofs.Shown.{ascending-shown}
 use Rattle.tpcc_keyed.proofs.Place.{written_row, unwritten}
 use Rattle.tpcc_tables.specs.Sums.{has_key}
 

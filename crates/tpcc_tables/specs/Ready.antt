@@ -7,7 +7,7 @@ use Rattle.tpcc_rows.specs.declared.rows.OrderRow.{OrderRow}
 use Rattle.tpcc_rows.specs.declared.rows.OrderLineRow.{OrderLineRow}
 use Rattle.tpcc_rows.specs.declared.rows.NewOrderRow.{NewOrderRow}
 use Rattle.tpcc_rows.specs.Tables.{district_key}
-use Rattle.tpcc_keyed.specs.Parts.{PartsView, has_owner}
+use Rattle.tpcc_district_rows.specs.Parts.{PartsView, has_owner}
 
 -- each district has a part
 abbrev pub is_open : List DistrictKey → List DistrictRow → Bool

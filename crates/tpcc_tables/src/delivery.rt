@@ -13,7 +13,8 @@ ghost use Rattle.tpcc_tables.specs.Sums.{is_order_amount};
 ghost use Rattle.tpcc_tables.specs.Writes.{IsCreditable};
 
 use crate::find;
-use tpcc_keyed::{KeyedRows, Listed, NewOrders, RowChange};
+use tpcc_district_rows::{Listed, NewOrders};
+use tpcc_keyed::{KeyedRows, RowChange};
 use tpcc_money::Cents;
 use tpcc_rows::{
     CustomerKey, CustomerRow, NewOrderKey, NewOrderRow, OrderKey, OrderLineRow, OrderRow,

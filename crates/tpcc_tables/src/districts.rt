@@ -3,7 +3,7 @@ ghost use Rattle.std.specs.Prelude.{◌≡◌, ◌==◌, ◌&&◌, filter, lengt
 ghost use Rattle.tpcc_rows.specs.Lists.{largest, smallest, is_ascending};
 ghost use Rattle.tpcc_rows.specs.Tables.{new_order_key, order_key};
 
-use tpcc_keyed::{Listed, NewOrders};
+use tpcc_district_rows::{Listed, NewOrders};
 use tpcc_rows::{DistrictKey, NewOrderRow, OrderLineRow, OrderRow};
 
 /// The ORDER rows of a district.

@@ -1,6 +1,7 @@
 //! Nine lists of rows that stand ready to be tables.
 
-use tpcc_keyed::{KeyedRows, Listed, NewOrders};
+use tpcc_district_rows::{Listed, NewOrders};
+use tpcc_keyed::KeyedRows;
 use tpcc_rows::{
     CustomerRow, DistrictRow, HistoryRow, ItemRow, NewOrderRow, OrderLineRow, OrderRow, StockRow,
     WarehouseRow,

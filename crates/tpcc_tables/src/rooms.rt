@@ -2,7 +2,8 @@
 ghost use Rattle.std.specs.Prelude.{◌≡◌, ◌≤◌, OnOk, true};
 ghost use Rattle.tpcc_tables.specs.Ready.{is_open, IsKept, IsOpen};
 
-use tpcc_keyed::{Listed, NewOrders, Owned, Parts, Store};
+use tpcc_district_rows::{Listed, NewOrders, Parts, Store};
+use tpcc_district_rows::Owned;
 use tpcc_money::NoMemory;
 use tpcc_rows::{DistrictKey, DistrictRow, OrderLineRow, OrderRow};
 

@@ -21,7 +21,8 @@ use crate::sums::Sums;
 use crate::{delivery, districts, find, levels};
 use std::alloc::Global;
 use std::marker::Model;
-use tpcc_keyed::{KeyedRows, Listed, Names, NewOrders, Parts};
+use tpcc_district_rows::{Listed, NewOrders, Parts};
+use tpcc_keyed::{KeyedRows, Names};
 use tpcc_money::Cents;
 use tpcc_rows::{
     CustomerRow, DistrictRow, Few, HistoryRow, ItemRow, NewOrderRow, OrderLineRow, OrderRow,

@@ -1,0 +1,11 @@
+pub mod Flat
+pub mod Side
+pub mod Shown
+pub mod Part
+pub mod Put
+pub mod Owner
+pub mod Open
+pub mod Read
+pub mod Line
+pub mod Range
+pub mod Run

@@ -1,0 +1,32 @@
+use Rattle.std.proofs.Common.{◌∙◌, ap, sym, Some, None, filter}
+use Rattle.std.specs.Prelude.{flat_map}
+use Rattle.std.specs.Option.{option_copied}
+use Rattle.tpcc_district_rows.specs.Parts.{PartsView, district_numbers, is_of, rows_or_none}
+use Rattle.tpcc_district_rows.specs.PartWords.{rows_in, is_part}
+use Rattle.tpcc_district_rows.proofs.Flat.{no_rows}
+use Rattle.tpcc_district_rows.proofs.Part.{asks_district, no_row, part_is, part_owns, placed, rows_chosen, whole_part}
+use Rattle.tpcc_district_rows.proofs.parts.Parts.part_of.Goals as goal
+
+pub returns-in_err-place : goal.returns-in_err-place
+unfolding rows_or_none
+returns-in_err-place g c =
+    let k = district_numbers c.args.owner in
+    let parts = c.self.inside.parts.items in
+    ap (λ found. rows_or_none (option_copied found)) c.from_residual.ensures
+    ∙ sym (no_rows rows_in (is_part k) (λ row. is_of c.args.owner (g.T.Keyed.key row)) (flat_map rows_in parts)
+    (no_row g.T.Keyed.key c.self.inside.len c.self.inside.room parts c.self.invariant k (λ row. is_of c.args.owner (g.T.Keyed.key row)) (asks_district g.T.Keyed.key c.args.owner)
+    (placed (is_part k) c.as_slice.result.now parts c.place_of.result None c.as_slice.ensures.value c.place_of.ensures c.in_err-place.was)))
+    ∙ ap (λ (t : PartsView g.row.T.Denot). filter (λ row. is_of c.args.owner (g.T.Keyed.key row)) t.rows) c.self.view_is
+
+pub returns : goal.returns
+unfolding rows_or_none
+returns g c =
+    let k = district_numbers c.args.owner in
+    let parts = c.self.inside.parts.items in
+    let at = placed (is_part k) c.as_slice.result.now parts c.place_of.result (Some c.in_ok-place.place) c.as_slice.ensures.value c.place_of.ensures c.in_ok-place.was in
+    sym (whole_part g.T.Keyed.key c.args.owner c.index.result.now
+    (part_owns g.T.Keyed.key c.self.inside.len c.self.inside.room parts c.self.invariant k c.in_ok-place.place c.index.result.now at c.index.ensures)
+    (part_is g.T.Keyed.key c.self.inside.len c.self.inside.room parts c.self.invariant k c.in_ok-place.place c.index.result.now at c.index.ensures))
+    ∙ sym (rows_chosen g.T.Keyed.key c.self.inside.len c.self.inside.room parts c.self.invariant k c.in_ok-place.place c.index.result.now at
+    c.index.ensures (λ row. is_of c.args.owner (g.T.Keyed.key row)) (asks_district g.T.Keyed.key c.args.owner))
+    ∙ ap (λ (t : PartsView g.row.T.Denot). filter (λ row. is_of c.args.owner (g.T.Keyed.key row)) t.rows) c.self.view_is

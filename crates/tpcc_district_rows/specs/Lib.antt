@@ -1,0 +1,10 @@
+pub mod KeptRows
+pub mod DistrictRows
+pub mod DistrictRowsView
+pub mod OrderRange
+pub mod OrderRangeView
+pub mod WaitingView
+pub mod Parts
+pub mod PartWords
+pub mod PartsView
+pub mod Runs
