@@ -2,8 +2,7 @@
 ghost use Rattle.std.specs.Prelude.{◌≡◌, ◌≤◌, OnOk, true};
 ghost use Rattle.tpcc_tables.specs.Ready.{is_open, IsKept, IsOpen};
 
-use tpcc_district_rows::{Listed, NewOrders, Parts, Store};
-use tpcc_district_rows::Owned;
+use tpcc_district_rows::{Listed, NewOrders, Owned, Parts, Store};
 use tpcc_money::NoMemory;
 use tpcc_rows::{DistrictKey, DistrictRow, OrderLineRow, OrderRow};
 

@@ -9,8 +9,8 @@ ghost use Rattle.tpcc_district_rows.specs.PartWords.{is_part, part_numbers, IsOp
 use crate::owned::Owned;
 use crate::parts::part::DistrictPart;
 use crate::parts::store::Store;
-use tpcc_keyed::places;
 use std::alloc::Global;
+use tpcc_keyed::places;
 use tpcc_money::NoMemory;
 use tpcc_rows::DistrictKey;
 

@@ -4,8 +4,8 @@ ghost use Rattle.tpcc_rows.specs.Lists.{is_ascending};
 ghost use Rattle.tpcc_rows.specs.Tables.{new_order_key};
 ghost use Rattle.tpcc_keyed.specs.Searches.{is_same_key};
 
-use tpcc_keyed::Keyed;
 use std::marker::Model;
+use tpcc_keyed::Keyed;
 use tpcc_rows::{NewOrderKey, NewOrderRow};
 
 /// NEW-ORDER rows of one district, of which each has the number after the one before it: they are

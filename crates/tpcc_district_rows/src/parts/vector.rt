@@ -3,8 +3,8 @@ ghost use Rattle.std.specs.Prelude.{vec_capacity};
 
 use crate::owned::Owned;
 use crate::parts::store::Store;
-use tpcc_keyed::{insertion, search};
 use std::alloc::Global;
+use tpcc_keyed::{insertion, search};
 use tpcc_money::NoMemory;
 
 impl<T: Owned> Store<T> for Vec<T> {

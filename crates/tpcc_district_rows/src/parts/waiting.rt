@@ -4,9 +4,9 @@ ghost use Rattle.std.specs.Prelude.{◌≡◌, ◌+◌, ◌++◌, ◌<◌, ◌�
 use crate::parts::Parts;
 use crate::parts::range::OrderRange;
 use crate::parts::store::Store;
-use tpcc_keyed::{insertion, search};
 use std::alloc::Global;
 use std::marker::Model;
+use tpcc_keyed::{insertion, search};
 use tpcc_money::NoMemory;
 use tpcc_rows::{NewOrderKey, NewOrderRow};
 
