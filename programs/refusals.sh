@@ -1,18 +1,13 @@
 #!/usr/bin/env bash
-# Each allocation refused in turn under the tests of refused.rt in three crates of tests, each of which makes a call, looks that a refused one has
+# Each allocation refused in turn under the tests of refused.rt in tpcc_tests, each of which makes a call, looks that a refused one has
 # changed nothing, and makes it again. Prints test by test how many allocations were refused within its call; those before it end the test, and say
 # so. Stops at the first that differs.
 #
-# TESTS are the programs of tests (out/ of the three crates, where `rt ci` leaves them), with spaces between; STEP (1) tries each STEP-th
-# allocation alone.
+# TESTS is the program of tests (in out/ of the crate, where `rt ci` leaves it); STEP (1) tries each STEP-th allocation alone.
 set -u -o pipefail
 top=$(cd "$(dirname "$0")/.." && pwd)
-programs=("$top/crates/tpcc_table_tests/out/tpcc_table_tests_tests" "$top/crates/tpcc_mailbox_tests/out/tpcc_mailbox_tests_tests" "$top/crates/tpcc_tests/out/tpcc_tests_tests")
-[ -z "${TESTS:-}" ] || read -r -a programs <<< "$TESTS"
-for tests in "${!programs[@]}"; do
-    [ -x "${programs[tests]}" ] || { echo "refusals: there is no program at ${programs[tests]}; rt test in its crate's folder builds it"; exit 1; }
-    programs[tests]=$(realpath "${programs[tests]}")
-done
+tests=$(realpath -m "${TESTS:-$top/crates/tpcc_tests/out/tpcc_tests_tests}")
+[ -x "$tests" ] || { echo "refusals: there is no program at $tests; rt test in its crate's folder builds it"; exit 1; }
 scratch=$(mktemp -d)
 trap 'rm -rf "$scratch"' EXIT
 trap 'exit 1' INT TERM
@@ -27,7 +22,7 @@ done
 # One test with one allocation refused: 0 where it passed, 1 where it was refused before its call, 2 where it differs, 3 where there is
 # no such allocation.
 tried() {
-    timeout 60 env FAILING="alloc $3" LD_PRELOAD="$scratch/failing.so" "$1" "$2" > said 2>&1 9> hit
+    timeout 60 env FAILING="alloc $2" LD_PRELOAD="$scratch/failing.so" "$tests" "$1" > said 2>&1 9> hit
     local status=$?
     [ -s hit ] || return 3
     [ $status -eq 0 ] && return 0
@@ -35,29 +30,27 @@ tried() {
     return 2
 }
 
-# Every allocation of one test refused in turn, of this program.
+# Every allocation of one test refused in turn.
 refuse() {
     local within=0
     for ((call = 1; ; call += ${STEP:-1})); do
-        tried "$1" "$2" "$call" 2> /dev/null
+        tried "$1" "$call" 2> /dev/null
         case $? in
             0) within=$((within + 1)) ;;
-            2) echo "refusals: '$2' differs where allocation $call is refused:"; cat said; exit 1 ;;
+            2) echo "refusals: '$1' differs where allocation $call is refused:"; cat said; exit 1 ;;
             3) break ;;
         esac
     done
-    [ "$within" -gt 0 ] || { echo "refusals: no allocation was refused within the call of '$2'"; exit 1; }
-    echo "refusals: $2: $within"
+    [ "$within" -gt 0 ] || { echo "refusals: no allocation was refused within the call of '$1'"; exit 1; }
+    echo "refusals: $1: $within"
     all=$((all + within))
 }
 
 begun=$SECONDS
 all=0
-for tests in "${programs[@]}"; do
-    names=$("$tests" --list | sed -n '/^refused::/s/: test$//p')
-    [ -n "$names" ] || { echo "refusals: $tests lists no test"; exit 1; }
-    for name in $names; do
-        refuse "$tests" "$name"
-    done
+names=$("$tests" --list | sed -n '/^refused::/s/: test$//p')
+[ -n "$names" ] || { echo "refusals: $tests lists no test"; exit 1; }
+for name in $names; do
+    refuse "$name"
 done
 echo "refusals: $all refused allocations, in $((SECONDS - begun)) seconds"

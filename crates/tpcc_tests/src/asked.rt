@@ -26,17 +26,22 @@ pub fn opening(rt: &impl Abort) -> Opening {
     }
 }
 
-/// Customer 1 of district 1 pays at home.
-pub fn payment(cents: i64) -> Request {
-    Request::Payment(Payment {
+/// A customer of district 1 pays at home.
+pub fn payment_by(customer: u32, cents: i64) -> Payment {
+    Payment {
         warehouse: 1,
         district: 1,
         customer_warehouse: 1,
         customer_district: 1,
-        who: Who::Number(1),
+        who: Who::Number(customer),
         amount: Cents::new(cents),
         moment: Moment::new(60),
-    })
+    }
+}
+
+/// Customer 1 of district 1 pays at home.
+pub fn payment(cents: i64) -> Request {
+    Request::Payment(payment_by(1, cents))
 }
 
 /// The last order of customer 1 of district 1.
@@ -48,19 +53,39 @@ pub fn status() -> Request {
     })
 }
 
-/// Customer 1 of district 1 orders ten of one item on each of five lines.
-fn order(rt: &(impl Abort + AllocGlobal)) -> Order {
-    let line = Line {
-        item: 20,
+/// A line of warehouse 1.
+fn line(item: u32, quantity: u32) -> Line {
+    Line {
+        item,
         supply: 1,
-        quantity: 10,
-    };
+        quantity,
+    }
+}
+
+/// Customer 1 of district 1 orders five items.
+pub fn order(rt: &(impl Abort + AllocGlobal)) -> Order {
+    let lines = [
+        line(20, 10),
+        line(26, 8),
+        line(12, 10),
+        line(21, 5),
+        line(11, 10),
+    ];
     Order {
         warehouse: 1,
         district: 1,
         customer: 1,
         moment: Moment::new(0),
-        lines: Lines::new(Vec::from_array(rt.alloc(), [line; 5]).expect(rt, BEFORE)),
+        lines: Lines::new(Vec::from_array(rt.alloc(), lines).expect(rt, BEFORE)),
+    }
+}
+
+/// A delivery of warehouse 1 by carrier 3.
+pub fn ticket() -> Ticket {
+    Ticket {
+        warehouse: 1,
+        carrier: 3,
+        queued: Moment::new(60),
     }
 }
 
@@ -75,11 +100,7 @@ pub fn requests(rt: &(impl Abort + AllocGlobal)) -> [Request; 6] {
             district: 1,
             threshold: 20,
         }),
-        Request::Delivery(Ticket {
-            warehouse: 1,
-            carrier: 3,
-            queued: Moment::new(60),
-        }),
+        Request::Delivery(ticket()),
         Request::Deliver(Moment::new(120)),
     ]
 }

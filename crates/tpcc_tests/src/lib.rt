@@ -1,5 +1,4 @@
-//! Tests by public calls alone of all that stands on the tables and below the server: what no script and no run brings about, and each
-//! call that wants memory.
+//! Tests by public calls alone, layer by layer: what no script and no run of the program brings about, and each call that wants memory.
 #![tactic(auto)]
 
 #[cfg(test)]
@@ -9,13 +8,29 @@ mod books;
 #[cfg(test)]
 mod desk;
 #[cfg(test)]
+mod dumps;
+#[cfg(test)]
+mod faults;
+#[cfg(test)]
+mod mailboxes;
+#[cfg(test)]
+mod plain_turn;
+#[cfg(test)]
 mod printed;
+#[cfg(test)]
+mod progress;
 #[cfg(test)]
 mod refused;
 #[cfg(test)]
+mod runs;
+#[cfg(test)]
 mod screens;
 #[cfg(test)]
+mod server;
+#[cfg(test)]
 mod sizes;
+#[cfg(test)]
+mod tables;
 #[cfg(test)]
 mod terminals;
 #[cfg(test)]

@@ -2,7 +2,8 @@
 ghost use Rattle.std.specs.Prelude.{◌≡◌, [], ◌∷◌};
 ghost use Rattle.tpcc_mailbox.specs.Tokens.{identity, client_origin, idle_origin, waiting_origin, serving_origin};
 
-use super::{CountedTurn, One, Story, let_go, make_one, payment, post, tell};
+use super::{CountedTurn, One, Story, make_one, post, tell};
+use crate::asked::{let_go, payment};
 use std::alloc::Global;
 use std::process::Abort;
 use std::sync::Wait;
@@ -26,7 +27,7 @@ pub(super) fn ask_closed_mailboxes<N: Naming, T: Seating, R: Wait + Abort>(
     one: SeatedPurse<N, T>,
 ) {
     let made = AtomicU64::new(0);
-    let job = Job::of(payment(), one, CountedTurn { made: &made });
+    let job = Job::of(payment(100), one, CountedTurn { made: &made });
     let seen = given_back(no_answer(rt, alloc, job));
     assert!(rt; seen == (true, 0) && made.load(Ordering::SeqCst) == 0);
 }
@@ -34,7 +35,7 @@ pub(super) fn ask_closed_mailboxes<N: Naming, T: Seating, R: Wait + Abort>(
 /// Whether the payment comes back, and the entries of its purse.
 fn given_back<N: Naming, T: Seating, C: OneTurn>(job: Job<N, T, C>) -> (bool, u64) {
     let (request, purse) = job.give_back();
-    let seen = (request == payment(), purse.entries());
+    let seen = (request == payment(100), purse.entries());
     let_go(purse);
     seen
 }

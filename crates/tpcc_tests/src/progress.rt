@@ -1,4 +1,5 @@
 //! When progress is told, and what its lines say.
+use crate::asked::opening;
 use crate::plain_turn::PlainTurn;
 use std::fmt::Display;
 use std::io;
@@ -7,7 +8,6 @@ use std::sync::atomic::{AtomicU64, Ordering};
 use std::time::{Clock, Duration};
 use tpcc_book::Register;
 use tpcc_money::Moment;
-use tpcc_population::{Opening, Scale};
 use tpcc_progress::{Progress, ProgressLine};
 use tpcc_rows::{Request, StockQuery};
 use tpcc_run::{Plan, Service};
@@ -114,8 +114,7 @@ fn told(progress: &Progress) -> (u64, u64) {
 
 #[test]
 fn a_turn_is_counted_as_done(rt: HostRuntime) {
-    let scale = Scale::new(1, 10, 100).expect(&rt, "a scale");
-    let started = Register::start(rt.alloc(), &Opening::Plain { scale });
+    let started = Register::start(rt.alloc(), &opening(&rt));
     let mut register = started.expect(&rt, "memory for a register");
     let progress = Progress::begin(&rt, &plan());
     let before = told(&progress);

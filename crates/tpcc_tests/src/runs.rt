@@ -1,6 +1,7 @@
 //! Runs whose calls are refused memory. Other runs are cases of the built program.
 ghost use Rattle.std.specs.Prelude.{◌≡◌, ◌≤◌};
 
+use crate::asked::opening;
 use crate::plain_turn::PlainTurn;
 use std::alloc::{AllocError, Global};
 use std::process::Abort;
@@ -8,7 +9,6 @@ use std::sync::Wait;
 use std::sync::atomic::{AtomicU64, Ordering};
 use std::thread::Threads;
 use tpcc_money::Moment;
-use tpcc_population::{Opening, Scale};
 use tpcc_run::{Plan, RunFault, Service, run};
 
 /// Whether a run of 23 cards wants memory, where the calls behind the first ones are refused it.
@@ -32,10 +32,7 @@ fn is_refused_after<R: Threads + Wait + Abort + Sync>(rt: &R, alloc: Global, gra
         seed: 1,
         moment: Moment::new(0),
     };
-    let opening = Opening::Plain {
-        scale: Scale::new(1, 10, 100).expect(rt, "a scale"),
-    };
-    let ended = run(rt, alloc, &opening, &plan, Vec::new(alloc), make);
+    let ended = run(rt, alloc, &opening(rt), &plan, Vec::new(alloc), make);
     matches!(ended, Err(RunFault::NoMemory))
 }
 

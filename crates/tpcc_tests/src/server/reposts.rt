@@ -2,7 +2,8 @@
 ghost use Rattle.std.specs.Prelude.{◌≡◌};
 ghost use Rattle.tpcc_mailbox.specs.Tokens.{identity, serving_origin, waiting_origin};
 
-use super::{One, Story, let_go, make_one, post, tell};
+use super::{One, Story, make_one, post, tell};
+use crate::asked::{let_go, purse_of};
 use crate::plain_turn::PlainTurn;
 use std::alloc::Global;
 use std::process::Abort;
@@ -56,11 +57,6 @@ impl<'a, N: Naming, T: Seating> Reposter<'a, N, T> {
         mailboxes.close(&mut closer);
         let_go(closer)
     }
-}
-
-fn purse_of<N: Naming, T: Seating>(answer: JobAnswer<N, T>) -> SeatedPurse<N, T> {
-    let (_, _, _, purse) = answer.into_parts();
-    purse
 }
 
 #[test]

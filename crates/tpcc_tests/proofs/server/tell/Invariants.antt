@@ -1,4 +1,4 @@
-use Rattle.tpcc_server_tests.proofs.server.tell.Given as goal
+use Rattle.tpcc_tests.proofs.server.tell.Given as goal
 
 -- the book that is started
 abbrev pub ghosts-at_a_book : goal.ghosts-at_a_book

@@ -8,6 +8,7 @@ mod left;
 mod reposts;
 mod rounds;
 
+use crate::asked::{let_go, opening, payment};
 use gates::hold_up_first;
 use left::{ask_closed_mailboxes, collect_no_answer};
 use reposts::close_meanwhile;
@@ -20,9 +21,8 @@ use std::sync::atomic::{AtomicU64, Ordering};
 use std::thread::Threads;
 use std::time::Clock;
 use tpcc_book::{Blanks, Naming, Register, Turned};
-use tpcc_money::{Cents, Moment};
-use tpcc_population::{Opening, Scale};
-use tpcc_rows::{Payment, Request, Who};
+use tpcc_money::Cents;
+use tpcc_rows::Request;
 use tpcc_server::{Job, JobAnswer, JobIdle, JobMailboxes, JobServing, JobWaiting, OneTurn};
 use tpcc_turns::{SeatedPurse, Seating, Turns, UnnamedTurns};
 
@@ -51,9 +51,7 @@ fn at_a_book<N: Naming + Send + Sync, R: Threads + Wait + Clock + Abort + Sync>(
     requires entries { blanks.entries.name ≡ N.entries }
     requires cents { blanks.cents.name ≡ N.cents }
 {
-    let scale = Scale::new(1, 10, 100).expect(rt, "a scale");
-    let opening = Opening::Plain { scale };
-    let Ok(turns) = UnnamedTurns::<N>::start(alloc, &opening, blanks) else {
+    let Ok(turns) = UnnamedTurns::<N>::start(alloc, &opening(rt), blanks) else {
         panic!(rt; "memory for the opening")
     };
     at_its_turns::<N, Brand, R>(rt, alloc, turns, story)
@@ -130,22 +128,6 @@ impl<'a> OneTurn for CountedTurn<'a> {
     }
 }
 
-/// Customer 1 of district 1 pays 1.00.
-fn payment() -> Request {
-    Request::Payment(Payment {
-        warehouse: 1,
-        district: 1,
-        customer_warehouse: 1,
-        customer_district: 1,
-        who: Who::Number(1),
-        amount: Cents::new(100),
-        moment: Moment::new(60),
-    })
-}
-
-/// Lets a value go, in one place for all of its type.
-pub fn let_go<X: Drop>(_value: X) {}
-
 /// The token of the last client of these. The mailboxes are lent for the clauses alone, which name their identity.
 fn last_of<N: Naming, T: Seating, C, R: Abort>(
     rt: &R,
@@ -192,7 +174,7 @@ fn post<N: Naming, T: Seating, C: OneTurn>(
     requires { idle_origin idle ≡ identity mailboxes.now }
     ensures { waiting_origin result ≡ identity mailboxes.now }
 {
-    mailboxes.post(idle, Job::of(payment(), purse, call))
+    mailboxes.post(idle, Job::of(payment(100), purse, call))
 }
 
 /// Three mailboxes, with payments in the first and in the last one, and a server.

@@ -1,4 +1,4 @@
-use Rattle.tpcc_server_tests.proofs.server.at_a_book.Given as goal
+use Rattle.tpcc_tests.proofs.server.at_a_book.Given as goal
 
 -- the turns that are named
 abbrev pub ghosts-at_its_turns : goal.ghosts-at_its_turns

@@ -2,7 +2,8 @@
 ghost use Rattle.std.specs.Prelude.{◌≡◌, None};
 ghost use Rattle.tpcc_mailbox.specs.Tokens.{identity, serving_origin, serving_hand};
 
-use super::{CountedTurn, Opened, Story, are_paid, let_go, open, tell};
+use super::{CountedTurn, Opened, Story, are_paid, open, tell};
+use crate::asked::let_go;
 use std::alloc::Global;
 use std::process::Abort;
 use std::sync::Wait;

@@ -3,7 +3,8 @@ ghost use Rattle.std.specs.Prelude.{◌≡◌, None};
 ghost use Rattle.std.specs.Thread.{IsSync};
 ghost use Rattle.tpcc_mailbox.specs.Tokens.{identity, serving_origin, serving_hand};
 
-use super::{Opened, Story, are_paid, let_go, open, tell};
+use super::{Opened, Story, are_paid, open, tell};
+use crate::asked::let_go;
 use crate::plain_turn::PlainTurn;
 use std::alloc::Global;
 use std::process::Abort;
