@@ -29,7 +29,7 @@ fn is_next(row: &DistrictRow, number: u32) -> bool
 fn follows_orders(tables: &Tables, row: &DistrictRow) -> bool
     ensures { result ≡ (row.now.next_order == largest_order tables.now.rows row.now + 1) }
 {
-    match tables.newest_order(row.warehouse, row.id) {
+    match tables.district_counts(row.warehouse, row.id).newest_order {
         Some(newest) => is_next(row, newest),
         None => is_next(row, 0),
     }
@@ -42,7 +42,7 @@ fn follows_new_orders(tables: &Tables, row: &DistrictRow) -> bool
         || (row.now.next_order
         == unwrap_or (largest (new_order_numbers tables.now.rows row.now)) 0 + 1)) }
 {
-    match tables.newest_new(row.warehouse, row.id) {
+    match tables.district_counts(row.warehouse, row.id).newest_new {
         Some(newest) => is_next(row, newest),
         None => true,
     }
@@ -61,7 +61,7 @@ fn is_span(tables: &Tables, row: &DistrictRow, oldest: u32, newest: u32) -> bool
     ensures { result ≡ (newest + 1
         == oldest + length (new_order_numbers tables.now.rows row.now)) }
 {
-    let count = tables.new_order_count(row.warehouse, row.id);
+    let count = tables.district_counts(row.warehouse, row.id).new_orders;
     u128::from(newest) + 1 == u128::from(oldest) + count as u128
 }
 
@@ -73,7 +73,7 @@ pub fn no_gap(tables: &Tables, row: &DistrictRow) -> bool
     let Some(oldest) = tables.oldest_new(row.warehouse, row.id) else {
         return true;
     };
-    let Some(newest) = tables.newest_new(row.warehouse, row.id) else {
+    let Some(newest) = tables.district_counts(row.warehouse, row.id).newest_new else {
         return true;
     };
     is_span(tables, row, oldest, newest)
@@ -85,9 +85,8 @@ pub fn delivered_orders(tables: &Tables, row: &DistrictRow, customers: u32) -> b
     ensures { result ≡ keeps_11 customers tables.now.rows row.now }
 {
     let delivered = 7 * u64::from(customers) / 10;
-    let orders = tables.order_count(row.warehouse, row.id);
-    let new_orders = tables.new_order_count(row.warehouse, row.id);
-    orders as u128 == new_orders as u128 + u128::from(delivered)
+    let counts = tables.district_counts(row.warehouse, row.id);
+    counts.orders as u128 == counts.new_orders as u128 + u128::from(delivered)
 }
 
 /// Condition 4: the sum of O_OL_CNT is the number of ORDER-LINE rows.

@@ -7,6 +7,7 @@ ghost use Rattle.tpcc_rows.specs.Conditions.{delivered_amount};
 ghost use Rattle.tpcc_tables.specs.Sums.{warehouse_sums, district_sums, customer_sums};
 
 use super::Tables;
+use crate::district_counts::DistrictCounts;
 use crate::districts;
 use crate::sums::entry::{CustomerSums, DistrictSums, WarehouseSums};
 use crate::sums::found;
@@ -91,33 +92,21 @@ impl Tables {
         self.order_lines.lines_of(warehouse, district, order).len()
     }
 
-    /// How many ORDER rows a district has (3.3.2.11).
-    pub fn order_count(&self, warehouse: u32, district: u32) -> usize
-        ensures { result ≡ length (orders_in self.now.rows warehouse district) }
-    {
-        districts::orders(&self.orders, warehouse, district).len()
-    }
-
-    /// How many NEW-ORDER rows a district has (3.3.2.3).
-    pub fn new_order_count(&self, warehouse: u32, district: u32) -> usize
-        ensures { result ≡ length (new_orders_in self.now.rows warehouse district) }
-    {
-        districts::count_new(&self.new_orders, warehouse, district)
-    }
-
-    /// The largest O_ID of a district (3.3.2.2), if there is an order.
-    pub fn newest_order(&self, warehouse: u32, district: u32) -> Option<u32>
-        ensures { result
+    /// What is counted and compared of a district's orders.
+    pub fn district_counts(&self, warehouse: u32, district: u32) -> DistrictCounts
+        ensures orders { result.orders ≡ length (orders_in self.now.rows warehouse district) }
+        ensures new_orders { result.new_orders
+            ≡ length (new_orders_in self.now.rows warehouse district) }
+        ensures newest_order { result.newest_order
             ≡ largest (map (λ o. o.id) (orders_in self.now.rows warehouse district)) }
-    {
-        districts::newest_order(&self.orders, warehouse, district)
-    }
-
-    /// The largest NO_O_ID of a district (3.3.2.2), if there is a row.
-    pub fn newest_new(&self, warehouse: u32, district: u32) -> Option<u32>
-        ensures { result
+        ensures newest_new { result.newest_new
             ≡ largest (map (λ n. n.order) (new_orders_in self.now.rows warehouse district)) }
     {
-        districts::newest_new(&self.new_orders, warehouse, district)
+        DistrictCounts {
+            orders: districts::orders(&self.orders, warehouse, district).len(),
+            new_orders: districts::count_new(&self.new_orders, warehouse, district),
+            newest_order: districts::newest_order(&self.orders, warehouse, district),
+            newest_new: districts::newest_new(&self.new_orders, warehouse, district),
+        }
     }
 }

@@ -17,6 +17,7 @@ type Place = [u32; 4];
 /// orders; the newest order, the newest and the oldest new order, and the customer's last one, or 0.
 fn sums(tables: &Tables, place: Place) -> [i128; 13] {
     let [warehouse, district, customer, order] = place;
+    let counts = tables.district_counts(warehouse, district);
     [
         tables.warehouse_paid(warehouse),
         tables.district_paid(warehouse, district),
@@ -25,10 +26,10 @@ fn sums(tables: &Tables, place: Place) -> [i128; 13] {
         tables.counted_lines(warehouse, district),
         tables.line_count(warehouse, district) as i128,
         tables.order_line_count(warehouse, district, order) as i128,
-        tables.order_count(warehouse, district) as i128,
-        tables.new_order_count(warehouse, district) as i128,
-        number(tables.newest_order(warehouse, district)),
-        number(tables.newest_new(warehouse, district)),
+        counts.orders as i128,
+        counts.new_orders as i128,
+        number(counts.newest_order),
+        number(counts.newest_new),
         number(tables.oldest_new(warehouse, district)),
         number(tables.last_order(warehouse, district, customer)),
     ]
