@@ -9,8 +9,7 @@
 //! delivery runner   --ask-->   either, deliveries alone
 //! ```
 //!
-//! Here a run makes the book and ends it; between the two `tpcc_threads` starts and joins the threads, and `tpcc_operator` asks at each
-//! terminal.
+//! Here a run makes the book and ends it; between the two `tpcc_threads` starts and joins the threads.
 #![tactic(auto)]
 
 mod lent;
@@ -21,4 +20,4 @@ pub use runs::{run, run_shown};
 pub use tpcc_asked::{
     GREATEST_RETIRE, GREATEST_TERMINAL, MOST_CARDS, MOST_SERVERS, MOST_TERMINALS, Plan, Service,
 };
-pub use tpcc_terminal_threads::RunFault;
+pub use tpcc_threads::RunFault;

@@ -16,8 +16,7 @@ use tpcc_book::{Blanks, Naming};
 use tpcc_population::{Opening, Scale};
 use tpcc_screens::Report;
 use tpcc_server::OneTurn;
-use tpcc_terminal_threads::{RunContext, RunFault};
-use tpcc_threads::RunThreads;
+use tpcc_threads::{RunFault, RunThreads};
 use tpcc_turns::{Seating, UnnamedTurns};
 
 /// Runs terminals, a delivery runner and the plan's servers on the book of an opening, each in a thread of its own;
@@ -137,14 +136,12 @@ impl<
     {
         let (turns, first) = turns.name::<T>();
         let threads = RunThreads {
-            context: RunContext {
-                rt: self.rt,
-                alloc: self.alloc,
-                turns: &turns,
-                make: self.make,
-                scale,
-                plan: self.plan,
-            },
+            rt: self.rt,
+            alloc: self.alloc,
+            turns: &turns,
+            make: self.make,
+            scale,
+            plan: self.plan,
         };
         let all = threads.run(first);
         end_run(turns, all)

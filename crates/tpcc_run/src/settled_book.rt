@@ -12,7 +12,7 @@ use tpcc_population::Opening;
 use tpcc_screens::Report;
 use tpcc_show::{Part, show};
 use tpcc_terminal::Receipt;
-use tpcc_terminal_threads::{RunFault, ThreadResults};
+use tpcc_threads::{RunFault, ThreadResults};
 use tpcc_turns::{SeatedPurse, Seating, Turns};
 
 /// The book of a run at its end, and what it comes to.

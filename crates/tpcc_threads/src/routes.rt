@@ -2,9 +2,9 @@
 ghost use Rattle.std.specs.Prelude.{◌≡◌, ◌<◌, All, IfSome, IsSome, vec_len};
 ghost use Rattle.tpcc_mailbox.specs.Tokens.{identity, idle_origin};
 
+use crate::route::{MailboxRoute, Route};
 use std::alloc::{AllocError, Global};
 use tpcc_book::Naming;
-use tpcc_operator::{MailboxRoute, Route};
 use tpcc_server::{JobIdle, JobMailboxes};
 use tpcc_turns::{Seating, Turns};
 

@@ -3,13 +3,13 @@ ghost use Rattle.std.specs.Prelude.{◌≡◌, ◌+◌, ◌≤◌, None};
 ghost use Rattle.tpcc_mailbox.specs.Tokens.{identity, serving_origin, serving_hand};
 ghost use Rattle.tpcc_audit.specs.Settlement.{AllSeen, all_receipts};
 
+use crate::results::ThreadResults;
 use crate::threads::RunThreads;
 use std::alloc::{AllocError, Global};
 use std::sync::Wait;
 use std::thread::{JoinHandle, Scope, Threads};
 use tpcc_book::Naming;
 use tpcc_server::{JobMailboxes, JobServing, OneTurn, OpenGate, serve_until_closed};
-use tpcc_terminal_threads::ThreadResults;
 use tpcc_turns::{SeatedPurse, Seating};
 
 /// The thread of a server, which gives the server's purse back.
@@ -35,17 +35,6 @@ impl Servers {
     }
 }
 
-// Keeps the handle of a server that was started. One that finds no room is let go: the scope joins its thread, and the
-// caller sees that one is missing.
-fn keep_started<N: Naming, T: Seating>(
-    handles: &mut Vec<ServerHandle<N, T>>,
-    started: Option<ServerHandle<N, T>>,
-) {
-    if let Some(handle) = started {
-        let _ = handles.push(handle);
-    }
-}
-
 impl<
     's,
     N: Naming + Send + Sync,
@@ -68,13 +57,16 @@ impl<
         ensures origin { serving_origin serving.new ≡ identity mailboxes.now }
         ensures room { first.old.purse.room ≤ first.new.purse.room + servers.count }
     {
-        let mut handles = Vec::new(self.context.alloc);
+        let mut handles = Vec::new(self.alloc);
         for number in 0..servers.count {
             let limit = servers.limit(handles.is_empty());
-            let purse = first.split(self.context.turns, number);
+            let purse = first.split(self.turns, number);
             let one = serving.split(mailboxes);
             let started = self.start_server(scope, mailboxes, one, purse, limit);
-            keep_started(&mut handles, started);
+            if let Some(handle) = started {
+                // One that finds no room is let go: the scope joins its thread, and the caller sees that one is missing.
+                let _ = handles.push(handle);
+            }
         }
         handles
     }
@@ -94,13 +86,7 @@ impl<
         scope
             .spawn(move || {
                 serve_until_closed(
-                    self.context.rt,
-                    mailboxes,
-                    serving,
-                    self.context.turns,
-                    OpenGate,
-                    limit,
-                    purse,
+                    self.rt, mailboxes, serving, self.turns, OpenGate, limit, purse,
                 )
                 .3
             })

@@ -3,28 +3,42 @@ ghost use Rattle.std.specs.Prelude.{◌≡◌, ◌+◌, ◌≤◌, ◌<◌, All,
 ghost use Rattle.tpcc_book.specs.Purses.{most_purses};
 ghost use Rattle.tpcc_mailbox.specs.Tokens.{identity, idle_origin, serving_origin};
 ghost use Rattle.tpcc_audit.specs.Settlement.{AllSeen, all_receipts};
-ghost use Rattle.tpcc_asked.specs.Plans.{IsService};
+ghost use Rattle.tpcc_asked.specs.Plans.{IsPlan, IsService, plan_once};
 ghost use Rattle.tpcc_asked.specs.declared.plan.TheConstants.{MOST_SERVERS};
 
+use crate::results::ThreadResults;
+use crate::route::Route;
 use crate::routes::{by_mailboxes, by_turns};
 use crate::server_threads::{Servers, join_servers};
 use std::alloc::{AllocError, Global};
 use std::sync::Wait;
 use std::thread;
 use std::thread::{Scope, Threads};
-use tpcc_asked::Service;
+use tpcc_asked::{Plan, Service};
 use tpcc_book::Naming;
 use tpcc_mailbox::Mailboxes;
-use tpcc_operator::Route;
+use tpcc_population::Scale;
 use tpcc_server::{Job, JobAnswer, JobIdle, JobMailboxes, JobServing, OneTurn};
-use tpcc_terminal_threads::{RunContext, ThreadResults};
-use tpcc_turns::{SeatedPurse, Seating};
+use tpcc_turns::{SeatedPurse, Seating, Turns};
 
-/// All threads of a run, which its plan tells.
+/// All threads of a run, and what each of them is lent: the turns are those of the run's book, and `make` gives the call of
+/// each request. That it may always be called no ghost field can say of a type parameter, so each method asks for it.
 #[derive(Drop)]
 pub struct RunThreads<'r, N: Naming, T: Seating, F, R> {
-    /// What each of them is lent.
-    pub context: RunContext<'r, N, T, F, R>,
+    /// Threads, clock and waiting.
+    pub rt: &'r R,
+    /// Where the run takes memory.
+    pub alloc: Global,
+    /// The turns of the run's book.
+    pub turns: &'r Turns<N, T>,
+    /// Makes the call of each request.
+    pub make: &'r F,
+    /// The scale of the opening.
+    pub scale: Scale,
+    /// How many terminals, servers and cards, and from which seed.
+    pub plan: Plan,
+    /// The plan is in its ranges.
+    pub ghost planned: { IsPlan plan } by { plan_once plan },
 }
 
 impl<
@@ -38,19 +52,19 @@ impl<
     /// Starts all threads, waits for their ends, and gives the purses and receipts that came back. Each receipt stands in one of these
     /// purses. The fault, if any: NoMemory where a growth or a thread was refused, else Missing where a purse did not come back.
     pub fn run(&self, first: SeatedPurse<N, T>) -> ThreadResults<N, T>
-        requires make { F.IsAlwaysCallable self.now.context.make.now }
+        requires make { F.IsAlwaysCallable self.now.make.now }
         requires room { first.purse.room ≡ most_purses }
         ensures seen { AllSeen result.purses.items (all_receipts result.receipts.items) }
     {
-        let Some(servers) = servers_of(self.context.plan.service) else {
+        let Some(servers) = servers_of(self.plan.service) else {
             return self.serve_directly(first);
         };
-        let boxes = self.context.plan.terminals as usize + 1;
-        match Mailboxes::<Job<N, T, C>, JobAnswer<N, T>>::new(self.context.alloc, boxes) {
+        let boxes = self.plan.terminals as usize + 1;
+        match Mailboxes::<Job<N, T, C>, JobAnswer<N, T>>::new(self.alloc, boxes) {
             Ok((mailboxes, idles, serving)) => {
                 self.serve_by_servers(&mailboxes, idles, serving, first, servers)
             }
-            Err(_) => ThreadResults::without_memory(self.context.alloc),
+            Err(_) => ThreadResults::without_memory(self.alloc),
         }
     }
 
@@ -65,20 +79,20 @@ impl<
     ) -> ThreadResults<N, T>
         requires idles { All (λ idle. idle_origin idle ≡ identity mailboxes.now) idles.items }
         requires serving { serving_origin serving ≡ identity mailboxes.now }
-        requires room { self.now.context.plan.terminals + servers.count < first.purse.room }
-        requires make { F.IsAlwaysCallable self.now.context.make.now }
+        requires room { self.now.plan.terminals + servers.count < first.purse.room }
+        requires make { F.IsAlwaysCallable self.now.make.now }
         ensures seen { AllSeen result.purses.items (all_receipts result.receipts.items) }
     {
-        let Ok(routes) = by_mailboxes(self.context.alloc, mailboxes, idles) else {
-            return ThreadResults::without_memory(self.context.alloc);
+        let Ok(routes) = by_mailboxes(self.alloc, mailboxes, idles) else {
+            return ThreadResults::without_memory(self.alloc);
         };
         thread::scope(
             thread::scope_env(),
-            self.context.rt,
+            self.rt,
             |scope| -> ThreadResults<N, T>
                 requires serving { serving_origin serving ≡ identity mailboxes.now }
-                requires room { self.now.context.plan.terminals + servers.count < first.purse.room }
-                requires make { F.IsAlwaysCallable self.now.context.make.now }
+                requires room { self.now.plan.terminals + servers.count < first.purse.room }
+                requires make { F.IsAlwaysCallable self.now.make.now }
                 ensures seen { AllSeen result.purses.items (all_receipts result.receipts.items) }
             { self.drive(scope, mailboxes, routes, serving, first, servers) },
         )
@@ -95,8 +109,8 @@ impl<
         servers: Servers,
     ) -> ThreadResults<N, T>
         requires serving { serving_origin serving ≡ identity mailboxes.now }
-        requires room { self.now.context.plan.terminals + servers.count < first.purse.room }
-        requires make { F.IsAlwaysCallable self.now.context.make.now }
+        requires room { self.now.plan.terminals + servers.count < first.purse.room }
+        requires make { F.IsAlwaysCallable self.now.make.now }
         ensures seen { AllSeen result.purses.items (all_receipts result.receipts.items) }
     {
         let mut serving = serving;
@@ -104,31 +118,31 @@ impl<
         let handles = self.start_servers(scope, mailboxes, &mut serving, &mut first, servers);
         let started = handles.len();
         close_unserved(mailboxes, &mut serving, started);
-        let mut all = self.context.ask_everything(scope, routes, first);
+        let mut all = self.ask_everything(scope, routes, first);
         all.note_started(started, servers.count);
         mailboxes.close(&mut serving);
-        join_servers(self.context.rt, self.context.alloc, handles, &mut all);
+        join_servers(self.rt, self.alloc, handles, &mut all);
         all
     }
 
     // Runs all terminals and the delivery runner to their end, each making its own turns.
     fn serve_directly(&self, first: SeatedPurse<N, T>) -> ThreadResults<N, T>
-        requires room { self.now.context.plan.terminals < first.purse.room }
-        requires make { F.IsAlwaysCallable self.now.context.make.now }
+        requires room { self.now.plan.terminals < first.purse.room }
+        requires make { F.IsAlwaysCallable self.now.make.now }
         ensures seen { AllSeen result.purses.items (all_receipts result.receipts.items) }
     {
-        let count = self.context.plan.terminals as usize + 1;
-        let Ok(routes) = by_turns::<N, T, C>(self.context.alloc, self.context.turns, count) else {
-            return ThreadResults::without_memory(self.context.alloc);
+        let count = self.plan.terminals as usize + 1;
+        let Ok(routes) = by_turns::<N, T, C>(self.alloc, self.turns, count) else {
+            return ThreadResults::without_memory(self.alloc);
         };
         thread::scope(
             thread::scope_env(),
-            self.context.rt,
+            self.rt,
             |scope| -> ThreadResults<N, T>
-                requires room { self.now.context.plan.terminals < first.purse.room }
-                requires make { F.IsAlwaysCallable self.now.context.make.now }
+                requires room { self.now.plan.terminals < first.purse.room }
+                requires make { F.IsAlwaysCallable self.now.make.now }
                 ensures seen { AllSeen result.purses.items (all_receipts result.receipts.items) }
-            { self.context.ask_everything(scope, routes, first) },
+            { self.ask_everything(scope, routes, first) },
         )
     }
 }

@@ -1,3 +1,0 @@
-mod Asked
-mod Kept
-mod Turned

@@ -1,5 +1,0 @@
-use Rattle.std.proofs.Common.{◌≤◌, ◌+◌}
-use Rattle.tpcc_terminal_threads.proofs.context.RunContext.start_terminals.Given as goal
-
-abbrev pub invariant-loop-number : goal.invariant-loop-number
-invariant-loop-number g l = l.self.plan.terminals ≤ l.first.purse.room + l.number

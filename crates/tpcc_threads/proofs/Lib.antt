@@ -1,0 +1,5 @@
+mod Asked
+mod Kept
+mod StandAfter
+mod Turned
+mod Worked

@@ -1,0 +1,50 @@
+//! The delivery runner, a terminal that asks for deliveries alone (2.7.2).
+ghost use Rattle.tpcc_audit.specs.Settlement.{AllSeen, all_receipts};
+
+use crate::asking::Back;
+use crate::duty::Duty;
+use crate::fault::RunFault;
+use crate::promises::TerminalHandle;
+use crate::results::ThreadResults;
+use crate::threads::RunThreads;
+use std::alloc::{AllocError, Global};
+use std::sync::Wait;
+use std::thread::Threads;
+use tpcc_book::Naming;
+use tpcc_server::OneTurn;
+use tpcc_turns::Seating;
+
+impl<
+    's,
+    N: Naming + Send + Sync,
+    T: Seating + Send + Sync,
+    C: OneTurn + Send,
+    F: Fn(Global) -> Result<C, AllocError> + Sync,
+    R: Threads + Wait + Sync,
+> RunThreads<'s, N, T, F, R> {
+    /// Joins the delivery runner, which then asks for what is still queued; notes where there is none.
+    pub(crate) fn join_runner(
+        &self,
+        runner: Option<TerminalHandle<'s, N, T, C>>,
+        all: &mut ThreadResults<N, T>,
+    )
+        requires make { F.IsAlwaysCallable self.now.make.now }
+        requires seen { AllSeen all.old.purses.items (all_receipts all.old.receipts.items) }
+        ensures seen { AllSeen all.new.purses.items (all_receipts all.new.receipts.items) }
+    {
+        match runner {
+            Some(runner) => all.take_in(self.drain_back(runner.join(self.rt))),
+            None => all.note(RunFault::NoMemory),
+        }
+    }
+
+    // What a runner that nothing stopped still asks.
+    fn drain_back(&self, back: Back<'s, N, T, C>) -> Back<'s, N, T, C>
+        requires make { F.IsAlwaysCallable self.now.make.now }
+    {
+        match back {
+            Back::All(operator) => self.ask_all(operator, Duty::Rest, u32::MAX),
+            other => other,
+        }
+    }
+}

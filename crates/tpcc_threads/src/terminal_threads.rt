@@ -1,0 +1,136 @@
+//! The threads of terminals: how they are started and joined.
+ghost use Rattle.std.specs.Prelude.{◌≡◌, ◌≤◌, ◌<◌, ◌+◌};
+ghost use Rattle.tpcc_terminal.specs.Terminals.{IsStarted};
+ghost use Rattle.tpcc_audit.specs.Settlement.{AllSeen, all_receipts};
+ghost use Rattle.tpcc_threads.specs.Working.{HasComeBack};
+
+use crate::asking::Back;
+use crate::duty::Duty;
+use crate::operator::Operator;
+use crate::promises::{ComesBack, TerminalHandle};
+use crate::results::ThreadResults;
+use crate::route::Route;
+use crate::threads::RunThreads;
+use std::alloc::{AllocError, Global};
+use std::sync::Wait;
+use std::thread::{Scope, Threads};
+use tpcc_book::Naming;
+use tpcc_server::OneTurn;
+use tpcc_terminal::Terminal;
+use tpcc_turns::{SeatedPurse, Seating};
+
+impl<
+    's,
+    N: Naming + Send + Sync,
+    T: Seating + Send + Sync,
+    C: OneTurn + Send,
+    F: Fn(Global) -> Result<C, AllocError> + Sync,
+    R: Threads + Wait + Sync,
+> RunThreads<'s, N, T, F, R> {
+    // Asks all cards of the plan, as the thread promises.
+    fn work<'o>(&self, operator: Operator<'o, N, T, C>, duty: Duty) -> Back<'o, N, T, C>
+        requires started { IsStarted operator.purse.purse.terminal
+            self.now.scale self.now.plan.seed operator.station }
+        requires make { F.IsAlwaysCallable self.now.make.now }
+        ensures kept { HasComeBack (record {
+          duty = duty;
+          scale = self.now.scale;
+          seed = self.now.plan.seed;
+          moment = self.now.plan.moment;
+          cards = self.now.plan.cards;
+        }) result }
+    {
+        self.ask_all(operator, duty, self.plan.cards)
+    }
+
+    // Starts the thread of one terminal; None where it can't be made.
+    fn start_thread<E>(
+        &'s self,
+        scope: &Scope<'s, E>,
+        operator: Operator<'s, N, T, C>,
+        duty: Duty,
+    ) -> Option<TerminalHandle<'s, N, T, C>>
+        requires started { IsStarted operator.purse.purse.terminal
+            self.now.scale self.now.plan.seed operator.station }
+        requires make { F.IsAlwaysCallable self.now.make.now }
+    {
+        let promise = ComesBack {
+            duty,
+            scale: self.scale,
+            seed: self.plan.seed,
+            moment: self.plan.moment,
+            cards: self.plan.cards,
+        };
+        scope
+            .spawn_with(
+                promise,
+                move || -> Back<'_, N, T, C>
+                    requires started { IsStarted operator.purse.purse.terminal
+                        self.now.scale self.now.plan.seed operator.station }
+                    requires make { F.IsAlwaysCallable self.now.make.now }
+                { self.work(operator, duty) },
+            )
+            .ok()
+    }
+
+    /// Starts the thread of one terminal of this number, with an empty purse of its own; None where there is no route, or
+    /// the terminal or its thread can't be made.
+    pub(crate) fn start_next<E>(
+        &'s self,
+        scope: &Scope<'s, E>,
+        route: Option<Route<'s, N, T, C>>,
+        first: &mut SeatedPurse<N, T>,
+        number: u32,
+        duty: Duty,
+    ) -> Option<TerminalHandle<'s, N, T, C>>
+        requires number { 1 ≤ number }
+        requires room { 0 < first.old.purse.room }
+        requires make { F.IsAlwaysCallable self.now.make.now }
+        ensures room { first.old.purse.room ≡ first.new.purse.room + 1 }
+    {
+        let purse = first.split(self.turns, number);
+        let route = route?;
+        let Ok(terminal) = Terminal::new(self.alloc, number, self.scale, self.plan.seed) else {
+            return None;
+        };
+        self.start_thread(scope, Operator::new(route, purse, terminal), duty)
+    }
+
+    /// Starts the plan's terminals, as many as can be made.
+    pub(crate) fn start_terminals<E>(
+        &'s self,
+        scope: &Scope<'s, E>,
+        routes: Vec<Route<'s, N, T, C>>,
+        first: &mut SeatedPurse<N, T>,
+    ) -> Vec<TerminalHandle<'s, N, T, C>>
+        requires room { self.now.plan.terminals ≤ first.old.purse.room }
+        requires make { F.IsAlwaysCallable self.now.make.now }
+    {
+        let mut routes = routes;
+        let mut handles = Vec::new(self.alloc);
+        for number in 0..self.plan.terminals {
+            let route = routes.pop();
+            let Some(handle) = self.start_next(scope, route, first, number + 1, Duty::Cards) else {
+                break;
+            };
+            // A handle that finds no room is let go: the scope joins its thread, and the caller sees that one is missing.
+            let _ = handles.push(handle);
+        }
+        handles
+    }
+}
+
+/// Joins the threads of all terminals, and keeps their purses and receipts.
+pub(crate) fn join_terminals<N: Naming, T: Seating, C, R: Threads>(
+    rt: &R,
+    handles: Vec<TerminalHandle<'_, N, T, C>>,
+    all: &mut ThreadResults<N, T>,
+)
+    requires seen { AllSeen all.old.purses.items (all_receipts all.old.receipts.items) }
+    ensures seen { AllSeen all.new.purses.items (all_receipts all.new.receipts.items) }
+{
+    let mut handles = handles;
+    while let Some(handle) = handles.pop() {
+        all.take_in(handle.join(rt));
+    }
+}
