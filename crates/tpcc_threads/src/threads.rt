@@ -132,7 +132,7 @@ impl<
         ensures seen { AllSeen result.purses.items (all_receipts result.receipts.items) }
     {
         let count = self.plan.terminals as usize + 1;
-        let Ok(routes) = by_turns::<N, T, C>(self.alloc, self.turns, count) else {
+        let Ok(routes) = by_turns::<N, T, C>(self.alloc, count) else {
             return ThreadResults::without_memory(self.alloc);
         };
         thread::scope(
