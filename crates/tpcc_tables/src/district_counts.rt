@@ -1,6 +1,7 @@
 //! What is counted of one district.
 
 /// What the consistency conditions count and compare of a district's orders.
+#[derive(Clone, Copy)]
 pub struct DistrictCounts {
     /// How many ORDER rows there are (3.3.2.11).
     pub orders: usize,
