@@ -19,6 +19,7 @@ mod asking;
 mod delivery_runner;
 mod duty;
 mod fault;
+mod job_turns;
 mod operator;
 mod promises;
 mod results;
@@ -29,5 +30,6 @@ mod terminal_threads;
 mod threads;
 
 pub use fault::RunFault;
+pub use job_turns::JobTurns;
 pub use results::ThreadResults;
 pub use threads::RunThreads;
