@@ -30,6 +30,5 @@ mod terminal_threads;
 mod threads;
 
 pub use fault::RunFault;
-pub use job_turns::JobTurns;
 pub use results::ThreadResults;
 pub use threads::RunThreads;
