@@ -3,7 +3,6 @@ ghost use Rattle.tpcc_threads.specs.Asking.{HasAskedAll, HasAskedNext};
 ghost use Rattle.tpcc_threads.specs.Answered.{IfAll, IfAnswered};
 
 use crate::duty::Duty;
-use crate::job_turns::JobTurns;
 use crate::operator::{Asked, Operator};
 use crate::threads::RunThreads;
 use std::alloc::{AllocError, Global};
@@ -28,10 +27,9 @@ impl<
     N: Naming,
     T: Seating,
     C: OneTurn,
-    Q: JobTurns<N, T, C>,
     F: Fn(Global) -> Result<C, AllocError>,
     R: Wait,
-> RunThreads<'r, N, T, Q, F, R> {
+> RunThreads<'r, N, T, F, R> {
     /// Asks so many requests, each by a call of its own, or up to the duty's end.
     pub(crate) fn ask_all<'s>(
         &self,

@@ -51,15 +51,3 @@ fn next_idle<N: Naming, T: Seating, C>(
     let _ = mailboxes;
     idles.pop()
 }
-
-/// So many routes by own turns.
-pub(crate) fn by_turns<'s, N: Naming, T: Seating, C>(
-    alloc: Global,
-    count: usize,
-) -> Result<Vec<Route<'s, N, T, C>>, AllocError> {
-    let mut routes = Vec::new(alloc);
-    for _ in 0..count {
-        routes.push(Route::ByTurn)?;
-    }
-    Ok(routes)
-}

@@ -6,13 +6,11 @@ ghost use Rattle.tpcc_audit.specs.Settlement.{AllSeen, all_receipts};
 ghost use Rattle.tpcc_asked.specs.Plans.{IsPlan, IsService, plan_once};
 ghost use Rattle.tpcc_asked.specs.declared.plan.TheConstants.{MOST_SERVERS};
 
-use crate::job_turns::JobTurns;
 use crate::results::ThreadResults;
 use crate::route::Route;
-use crate::routes::{by_mailboxes, by_turns};
+use crate::routes::by_mailboxes;
 use crate::server_threads::{Servers, join_servers};
 use std::alloc::{AllocError, Global};
-use std::marker::PhantomData;
 use std::sync::Wait;
 use std::thread;
 use std::thread::{Scope, Threads};
@@ -21,20 +19,18 @@ use tpcc_book::Naming;
 use tpcc_mailbox::Mailboxes;
 use tpcc_population::Scale;
 use tpcc_server::{Job, JobAnswer, JobIdle, JobMailboxes, JobServing, OneTurn};
-use tpcc_turns::{SeatedPurse, Seating};
+use tpcc_turns::{SeatedPurse, Seating, Turns};
 
 /// All threads of a run, and what each of them is lent: the turns are those of the run's book, and `make` gives the call of
 /// each request. That it may always be called no ghost field can say of a type parameter, so each method asks for it.
 #[derive(Drop)]
-pub struct RunThreads<'r, N: Naming, T: Seating, Q, F, R> {
+pub struct RunThreads<'r, N: Naming, T: Seating, F, R> {
     /// Threads, clock and waiting.
     pub rt: &'r R,
     /// Where the run takes memory.
     pub alloc: Global,
     /// The turns of the run's book.
-    pub turns: &'r Q,
-    /// Which book and which table these are of, for its type alone.
-    pub of: PhantomData<(N, T)>,
+    pub turns: &'r Turns<N, T>,
     /// Makes the call of each request.
     pub make: &'r F,
     /// The scale of the opening.
@@ -50,10 +46,9 @@ impl<
     N: Naming + Send + Sync,
     T: Seating + Send + Sync,
     C: OneTurn + Send,
-    Q: JobTurns<N, T, C> + Sync,
     F: Fn(Global) -> Result<C, AllocError> + Sync,
     R: Threads + Wait + Sync,
-> RunThreads<'s, N, T, Q, F, R> {
+> RunThreads<'s, N, T, F, R> {
     /// Starts all threads, waits for their ends, and gives the purses and receipts that came back. Each receipt stands in one of these
     /// purses. The fault, if any: NoMemory where a growth or a thread was refused, else Missing where a purse did not come back.
     pub fn run(&self, first: SeatedPurse<N, T>) -> ThreadResults<N, T>
@@ -130,6 +125,15 @@ impl<
         all
     }
 
+    // So many routes by own turns.
+    fn routes_by_turns(&self, count: usize) -> Result<Vec<Route<'s, N, T, C>>, AllocError> {
+        let mut routes = Vec::new(self.alloc);
+        for _ in 0..count {
+            routes.push(Route::ByTurn)?;
+        }
+        Ok(routes)
+    }
+
     // Runs all terminals and the delivery runner to their end, each making its own turns.
     fn serve_directly(&self, first: SeatedPurse<N, T>) -> ThreadResults<N, T>
         requires room { self.now.plan.terminals < first.purse.room }
@@ -137,7 +141,7 @@ impl<
         ensures seen { AllSeen result.purses.items (all_receipts result.receipts.items) }
     {
         let count = self.plan.terminals as usize + 1;
-        let Ok(routes) = by_turns::<N, T, C>(self.alloc, count) else {
+        let Ok(routes) = self.routes_by_turns(count) else {
             return ThreadResults::without_memory(self.alloc);
         };
         thread::scope(
