@@ -64,7 +64,7 @@ impl<
             return Asked::Short(operator);
         };
         match operator.next_request(duty, self.plan.moment) {
-            Ok(request) => operator.ask_once(self.rt, self.turns, request, call),
+            Ok(request) => operator.ask_once(self.rt, request, call),
             Err(_) => Asked::Short(operator),
         }
     }

@@ -13,7 +13,7 @@ use tpcc_money::{Moment, NoMemory};
 use tpcc_rows::{Delivery, Reply, Request};
 use tpcc_server::{JobAnswer, OneTurn};
 use tpcc_terminal::{Receipt, Terminal, receipts_stand};
-use tpcc_turns::{SeatedPurse, Seating, Turns};
+use tpcc_turns::{SeatedPurse, Seating};
 
 /// Who asks at a terminal. It is seen as its purse and its terminal, whose receipts all stand in the purse's front;
 /// by which route its requests come to the book no contract says.
@@ -105,13 +105,7 @@ impl<'s, N: Naming, T: Seating, C> Operator<'s, N, T, C> {
 
 impl<'s, N: Naming, T: Seating, C: OneTurn> Operator<'s, N, T, C> {
     /// Asks one request, by a call of its own, and keeps its receipt.
-    pub(crate) fn ask_once<R: Wait>(
-        self,
-        rt: &R,
-        turns: &Turns<N, T>,
-        request: Request,
-        call: C,
-    ) -> Asked<'s, N, T, C>
+    pub(crate) fn ask_once<R: Wait>(self, rt: &R, request: Request, call: C) -> Asked<'s, N, T, C>
         ensures answered { IfAnswered result (HasAnswered request self.entry) }
     {
         let Operator {
@@ -120,7 +114,7 @@ impl<'s, N: Naming, T: Seating, C: OneTurn> Operator<'s, N, T, C> {
             terminal,
         } = self;
         let mut terminal = terminal;
-        let Some((route, answer)) = route.ask(rt, turns, request, purse, call) else {
+        let Some((route, answer)) = route.ask(rt, request, purse, call) else {
             return Asked::Missing;
         };
         receipts_stand();

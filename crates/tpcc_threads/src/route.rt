@@ -14,7 +14,7 @@ pub(crate) enum Route<'s, N: Naming, T: Seating, C> {
     /// By a job in the terminal's mailbox, which a server takes.
     ByMailbox(MailboxRoute<'s, N, T, C>),
     /// By a turn that the terminal's own thread makes.
-    ByTurn,
+    ByTurn(&'s Turns<N, T>),
 }
 
 /// The right to post in one mailbox.
@@ -31,7 +31,7 @@ pub(crate) struct MailboxRoute<'s, N: Naming, T: Seating, C> {
 impl<'s, N: Naming, T: Seating, C> Drop for Route<'s, N, T, C> {
     fn drop(self) {
         match self {
-            Route::ByMailbox(_) | Route::ByTurn => {}
+            Route::ByMailbox(_) | Route::ByTurn(_) => {}
         }
     }
 }
@@ -52,7 +52,6 @@ impl<'s, N: Naming, T: Seating, C: OneTurn> Route<'s, N, T, C> {
     pub(crate) fn ask<R: Wait>(
         self,
         rt: &R,
-        turns: &Turns<N, T>,
         request: Request,
         purse: SeatedPurse<N, T>,
         call: C,
@@ -61,9 +60,9 @@ impl<'s, N: Naming, T: Seating, C: OneTurn> Route<'s, N, T, C> {
     {
         let job = Job::of(request, purse, call);
         match self {
-            Route::ByTurn => {
+            Route::ByTurn(turns) => {
                 let answer = job.run(turns, rt);
-                Some((Route::ByTurn, answer))
+                Some((Route::ByTurn(turns), answer))
             }
             Route::ByMailbox(route) => {
                 let (route, answer) = route.ask(rt, job)?;

@@ -6,7 +6,7 @@ use crate::route::{MailboxRoute, Route};
 use std::alloc::{AllocError, Global};
 use tpcc_book::Naming;
 use tpcc_server::{JobIdle, JobMailboxes};
-use tpcc_turns::Seating;
+use tpcc_turns::{Seating, Turns};
 
 /// The routes by all mailboxes.
 pub(crate) fn by_mailboxes<'s, N: Naming, T: Seating, C>(
@@ -50,4 +50,17 @@ fn next_idle<N: Naming, T: Seating, C>(
 {
     let _ = mailboxes;
     idles.pop()
+}
+
+/// So many routes by own turns.
+pub(crate) fn by_turns<'s, N: Naming, T: Seating, C>(
+    alloc: Global,
+    turns: &'s Turns<N, T>,
+    count: usize,
+) -> Result<Vec<Route<'s, N, T, C>>, AllocError> {
+    let mut routes = Vec::new(alloc);
+    for _ in 0..count {
+        routes.push(Route::ByTurn(turns))?;
+    }
+    Ok(routes)
 }

@@ -8,7 +8,7 @@ ghost use Rattle.tpcc_asked.specs.declared.plan.TheConstants.{MOST_SERVERS};
 
 use crate::results::ThreadResults;
 use crate::route::Route;
-use crate::routes::by_mailboxes;
+use crate::routes::{by_mailboxes, by_turns};
 use crate::server_threads::{Servers, join_servers};
 use std::alloc::{AllocError, Global};
 use std::sync::Wait;
@@ -125,15 +125,6 @@ impl<
         all
     }
 
-    // So many routes by own turns.
-    fn routes_by_turns(&self, count: usize) -> Result<Vec<Route<'s, N, T, C>>, AllocError> {
-        let mut routes = Vec::new(self.alloc);
-        for _ in 0..count {
-            routes.push(Route::ByTurn)?;
-        }
-        Ok(routes)
-    }
-
     // Runs all terminals and the delivery runner to their end, each making its own turns.
     fn serve_directly(&self, first: SeatedPurse<N, T>) -> ThreadResults<N, T>
         requires room { self.now.plan.terminals < first.purse.room }
@@ -141,7 +132,7 @@ impl<
         ensures seen { AllSeen result.purses.items (all_receipts result.receipts.items) }
     {
         let count = self.plan.terminals as usize + 1;
-        let Ok(routes) = self.routes_by_turns(count) else {
+        let Ok(routes) = by_turns::<N, T, C>(self.alloc, self.turns, count) else {
             return ThreadResults::without_memory(self.alloc);
         };
         thread::scope(
