@@ -191,8 +191,9 @@ impl<T: Owned, S: Store<T>> Parts<T, S> {
         if self.len == usize::MAX {
             return Err(NoMemory);
         }
-        self.open(row.owner())?;
-        let place = place_of(self.parts.as_slice(), &row.owner()).unwrap();
+        let owner = row.owner();
+        self.open(owner)?;
+        let place = place_of(self.parts.as_slice(), &owner).unwrap();
         self.parts[place].put(row)?;
         self.len += 1;
         self.room = 0;
