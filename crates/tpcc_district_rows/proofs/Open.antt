@@ -4,6 +4,7 @@ use Rattle.std.specs.Prelude.{All, None, ◌&&◌, ◌||◌, flat_map, if◌then
 use Rattle.std.specs.List.{list_all, list_any}
 use Rattle.std.proofs.lemmas.Bool.Decides.{nat_tests}
 use Rattle.std.proofs.Math.Seq.{map-set_same}
+use Rattle.std.proofs.lemmas.List.{length-map}
 use Rattle.std.proofs.lemmas.List.Elements.{All-set, AllWithin-kept, AllWithin-more_set}
 use Rattle.std.proofs.lemmas.List.Folds.{flat_map-map}
 use Rattle.tpcc_rows.specs.declared.keys.DistrictKey.{DistrictKey}
@@ -127,3 +128,6 @@ module _ {T : Type 0} (room n : ℕ) (old now : List (DistrictRows T)) (grown : 
 
   pub grown_more : HasRoom room changed → IsGrown room (n + 1) old (set now n changed)
   grown_more h = record { same = still_shown; kept = still_roomy; first = AllWithin-more_set now n changed lt (HasRoom room) grown.first h }
+
+pub same_long : {T : Type 0} (old now : List (DistrictRows T)) → map owner_and_rows now ≡ map owner_and_rows old → length now ≡ length old
+same_long old now same = sym (length-map now owner_and_rows) ∙ ap length same ∙ length-map old owner_and_rows

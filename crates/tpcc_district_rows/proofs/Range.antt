@@ -1,7 +1,8 @@
 -- Orders that wait, numbered one after another.
-use Rattle.std.proofs.Common.{◌≡◌, ◌∙◌, ℕ, zero, suc, ◌+◌, ◌<◌, ◌≤◌, Bool, true, false, List, [], ◌∷◌, ◌++◌, length, remove, refl, ap, sym, arith, slice_get, Some, None}
+use Rattle.std.proofs.Common.{◌≡◌, ◌∙◌, ℕ, zero, suc, ◌+◌, ◌<◌, ◌≤◌, Bool, true, false, List, [], ◌∷◌, ◌++◌, length, remove, refl, ap, sym, arith, slice_get, take, Some, None}
 use Rattle.std.specs.Prelude.{◌&&◌, position}
 use Rattle.std.specs.List.{list_all, position_or_len}
+use Rattle.std.proofs.lemmas.List.{take_all}
 use Rattle.std.proofs.lemmas.Bool.Decides.{nat_tests}
 use Rattle.tpcc_rows.specs.declared.rows.NewOrderRow.{NewOrderRow}
 use Rattle.tpcc_rows.specs.Lists.{by_key, inserted, is_ascending, key_before}
@@ -110,3 +111,10 @@ range_put before pushed [] grown rows row none same is up whole =
     ∙ sym (inserted_last new_order_key before row (ap (is_ascending new_order_key) (sym is) ∙ up))
     ∙ ap (inserted (by_key new_order_key) row) (sym (append_nil before) ∙ whole)
 range_put before pushed (x ∷ listed) grown rows row none same is up whole = absurd (omega (arith, none))
+
+-- all rows of a range listed behind those of a list, which has none where the range has one
+pub all_listed : {X : Type 0} (range old now : List X) (n : ℕ) → (0 < length range → old ≡ []) → length range ≤ n → now ≡ old ++ take n range → now ≡ range ++ old
+all_listed [] old now n alone le e = e ∙ ap (λ rows. old ++ rows) (take_all n [] le) ∙ append_nil old
+all_listed (x ∷ xs) old now n alone le e =
+    let none : old ≡ [] = alone (omega arith) in
+    e ∙ ap (λ rows. old ++ rows) (take_all n (x ∷ xs) le) ∙ ap (λ rows. rows ++ (x ∷ xs)) none ∙ sym (append_nil (x ∷ xs)) ∙ ap (λ rows. (x ∷ xs) ++ rows) (sym none)

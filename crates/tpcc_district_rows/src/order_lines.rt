@@ -5,8 +5,8 @@ ghost use Rattle.tpcc_rows.specs.Tables.{is_line_of, order_line_key};
 ghost use Rattle.tpcc_district_rows.specs.Runs.{is_line_between};
 
 use crate::parts::listed::Listed;
-use crate::parts::place::place_of;
 use crate::runs;
+use tpcc_keyed::search::place_of;
 use tpcc_money::Moment;
 use tpcc_rows::{DistrictKey, OrderLineRow};
 
@@ -55,7 +55,7 @@ impl Listed<OrderLineRow> {
             warehouse,
             district,
         };
-        let Some(place) = place_of(self.parts.as_slice(), owner) else {
+        let Some(place) = place_of(self.parts.as_slice(), &owner) else {
             return;
         };
         self.parts[place].stamp(warehouse, district, order, moment);

@@ -2,13 +2,13 @@
 ghost use Rattle.std.specs.Prelude.{◌≡◌, take};
 ghost use Rattle.tpcc_district_rows.specs.Parts.{district_numbers};
 
-use tpcc_keyed::Keyed;
+use tpcc_keyed::Searched;
 use tpcc_rows::{
     DistrictKey, NewOrderKey, NewOrderRow, OrderKey, OrderLineKey, OrderLineRow, OrderRow,
 };
 
 /// A row of a district: the key begins with the district's two numbers.
-pub trait Owned: Keyed {
+pub trait Owned: Searched + Copy {
     /// The district of the row.
     fn owner(&self) -> DistrictKey
         ensures { district_numbers result ≡ take 2 (Self.key self.now) };

@@ -20,11 +20,12 @@ pub(crate) mod waiting;
 use crate::owned::Owned;
 use growth::grow_all;
 use part::DistrictPart;
-use place::{open_part, place_of};
+use place::open_part;
 use reading::read_run;
 use std::alloc::Global;
 use std::marker::Model;
 use store::Store;
+use tpcc_keyed::search::place_of;
 use tpcc_money::NoMemory;
 use tpcc_rows::DistrictKey;
 
@@ -113,7 +114,7 @@ impl<T: Owned, S: Store<T>> Parts<T, S> {
         ensures { rows_or_none (option_copied result)
             ≡ filter (λ row. is_of owner (T.key row)) self.now.rows }
     {
-        let place = place_of(self.parts.as_slice(), owner)?;
+        let place = place_of(self.parts.as_slice(), &owner)?;
         Some(&self.parts[place])
     }
 
@@ -153,7 +154,7 @@ impl<T: Owned, S: Store<T>> Parts<T, S> {
             → has_owner self.old.owners k ≡ true → has_owner self.new.owners k ≡ true }
         ensures opened { OnOk result (has_owner self.new.owners (district_numbers owner) ≡ true) }
     {
-        if place_of(self.parts.as_slice(), owner).is_some() {
+        if place_of(self.parts.as_slice(), &owner).is_some() {
             return Ok(());
         }
         let alloc = *self.parts.allocator();
@@ -190,8 +191,9 @@ impl<T: Owned, S: Store<T>> Parts<T, S> {
         if self.len == usize::MAX {
             return Err(NoMemory);
         }
-        self.open(row.owner())?;
-        let place = place_of(self.parts.as_slice(), row.owner()).unwrap();
+        let owner = row.owner();
+        self.open(owner)?;
+        let place = place_of(self.parts.as_slice(), &owner).unwrap();
         self.parts[place].put(row)?;
         self.len += 1;
         self.room = 0;
@@ -207,7 +209,7 @@ impl<T: Owned, S: Store<T>> Parts<T, S> {
         ensures owners { self.new.owners ≡ self.old.owners }
         ensures room { self.new.room + 1 ≡ self.old.room }
     {
-        let place = place_of(self.parts.as_slice(), row.owner()).unwrap();
+        let place = place_of(self.parts.as_slice(), &row.owner()).unwrap();
         self.parts[place].put_in_room(row);
         self.len += 1;
         self.room -= 1;
@@ -236,7 +238,7 @@ impl<T: Owned, S: Store<T>> Parts<T, S> {
         ensures owners { self.new.owners ≡ self.old.owners }
         ensures room { self.new.room ≡ self.old.room }
     {
-        let Some(place) = place_of(self.parts.as_slice(), T::owner_of(key)) else {
+        let Some(place) = place_of(self.parts.as_slice(), &T::owner_of(key)) else {
             return;
         };
         let Some(line) = self.parts[place].place_of(key) else {

@@ -9,12 +9,6 @@ ghost use Rattle.tpcc_district_rows.specs.Runs.{is_line_between};
 use tpcc_money::Moment;
 use tpcc_rows::OrderLineRow;
 
-fn is_before(row: &OrderLineRow, warehouse: u32, district: u32, order: u32) -> bool
-    ensures { result ≡ key_before (order_line_key row.now) (warehouse ∷ district ∷ order ∷ []) }
-{
-    (row.warehouse, row.district, row.order) < (warehouse, district, order)
-}
-
 fn is_after(row: &OrderLineRow, warehouse: u32, district: u32, order: u32) -> bool
     ensures { result ≡ key_before (warehouse ∷ district ∷ order ∷ []) (order_line_key row.now) }
 {
@@ -32,7 +26,7 @@ fn start_of(rows: &[OrderLineRow], warehouse: u32, district: u32, order: u32) ->
         |row: &OrderLineRow| -> bool
             ensures { result
                 ≡ key_before (order_line_key row.now) (warehouse ∷ district ∷ order ∷ []) }
-        { is_before(row, warehouse, district, order) },
+        { (row.warehouse, row.district, row.order) < (warehouse, district, order) },
     )
 }
 

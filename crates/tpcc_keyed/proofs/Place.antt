@@ -54,3 +54,7 @@ got (x ∷ xs) (suc i) d lt = got xs i d (omega arith)
 pub got_there : {X : Type 0} (passes : X → Bool) (xs : List X) (i : ℕ) → position passes xs ≡ Some i → slice_get xs i ≡ find passes xs
 got_there passes [] i e = cc
 got_there passes (x ∷ xs) i e = got (x ∷ xs) i x (position-Some passes (x ∷ xs) i x e).0 ∙ sym (found_there passes (x ∷ xs) i x e)
+
+pub place_within : {X : Type 0} (passes : X → Bool) (xs : List X) (i : ℕ) → position passes xs ≡ Some i → i < length xs
+place_within passes [] i e = cc
+place_within passes (x ∷ xs) i e = (position-Some passes (x ∷ xs) i x e).0

@@ -42,7 +42,7 @@ pub(crate) fn place_for<T: Keyed>(rows: &[T], added: &T) -> usize
 }
 
 /// Puts a new row at its place; refuses only for want of memory.
-pub fn insert<T: Keyed>(rows: &mut Vec<T>, added: T) -> Result<(), NoMemory>
+pub fn insert<T: Keyed + Drop>(rows: &mut Vec<T>, added: T) -> Result<(), NoMemory>
     requires keyed { is_ascending T.key rows.old.items ≡ true }
     ensures inserted { OnOk result (rows.new.items ≡ inserted (by_key T.key) added rows.old.items) }
     ensures same { OnErr result (rows.new.items ≡ rows.old.items) }
@@ -67,7 +67,7 @@ pub fn push<T: Copy>(rows: &mut Vec<T>, added: T) -> Result<(), NoMemory>
 }
 
 /// Puts a new row at its place, for which there is room.
-pub fn insert_one<T: Keyed>(rows: &mut Vec<T>, added: T)
+pub fn insert_one<T: Keyed + Drop>(rows: &mut Vec<T>, added: T)
     requires keyed { is_ascending T.key rows.old.items ≡ true }
     requires room { vec_len rows.old < vec_capacity rows.old }
     ensures { rows.new.items ≡ inserted (by_key T.key) added rows.old.items }

@@ -11,7 +11,7 @@ use tpcc_rows::{
 };
 
 /// A row whose key is a list of numbers; the first that differs decides.
-pub trait Keyed: Copy {
+pub trait Keyed: Sized {
     ghost use Rattle.std.specs.Prelude.{ℕ, List};
 
     /// The columns of the key alone.
@@ -27,10 +27,6 @@ pub trait Keyed: Copy {
     fn comes_before(&self, other: &Self) -> bool
         ensures { result ≡ key_before (key self.now) (key other.now) };
 
-    /// Whether this row's key is before a sought one.
-    fn is_before(&self, sought: &Self::Key) -> bool
-        ensures { result ≡ key_before (key self.now) (numbers sought.now) };
-
     /// Whether this row is the one of a key.
     fn has_key(&self, sought: &Self::Key) -> bool
         ensures { result ≡ is_same_key (key self.now) (numbers sought.now) };
@@ -38,6 +34,13 @@ pub trait Keyed: Copy {
     /// Where the row of a key stands, if no number is missing before it. It may be any place: a
     /// search looks whether the row is there.
     fn likely_place(rows: &[Self], sought: &Self::Key) -> usize;
+}
+
+/// A row of lists, in which it is searched by halves where the likely place has another one.
+pub trait Searched: Keyed {
+    /// Whether this row's key is before a sought one.
+    fn is_before(&self, sought: &Self::Key) -> bool
+        ensures { result ≡ key_before (Self.key self.now) (Self.numbers sought.now) };
 }
 
 impl Keyed for WarehouseRow {
@@ -51,10 +54,6 @@ impl Keyed for WarehouseRow {
 
     fn comes_before(&self, other: &WarehouseRow) -> bool {
         self.id < other.id
-    }
-
-    fn is_before(&self, sought: &WarehouseKey) -> bool {
-        self.id < sought.warehouse
     }
 
     fn has_key(&self, sought: &WarehouseKey) -> bool {
@@ -79,10 +78,6 @@ impl Keyed for DistrictRow {
         (self.warehouse, self.id) < (other.warehouse, other.id)
     }
 
-    fn is_before(&self, sought: &DistrictKey) -> bool {
-        (self.warehouse, self.id) < (sought.warehouse, sought.district)
-    }
-
     fn has_key(&self, sought: &DistrictKey) -> bool {
         self.warehouse == sought.warehouse && self.id == sought.district
     }
@@ -103,11 +98,6 @@ impl Keyed for CustomerRow {
 
     fn comes_before(&self, other: &CustomerRow) -> bool {
         (self.warehouse, self.district, self.id) < (other.warehouse, other.district, other.id)
-    }
-
-    fn is_before(&self, sought: &CustomerKey) -> bool {
-        (self.warehouse, self.district, self.id)
-            < (sought.warehouse, sought.district, sought.customer)
     }
 
     fn has_key(&self, sought: &CustomerKey) -> bool {
@@ -140,10 +130,6 @@ impl Keyed for OrderRow {
         (self.warehouse, self.district, self.id) < (other.warehouse, other.district, other.id)
     }
 
-    fn is_before(&self, sought: &OrderKey) -> bool {
-        (self.warehouse, self.district, self.id) < (sought.warehouse, sought.district, sought.order)
-    }
-
     fn has_key(&self, sought: &OrderKey) -> bool {
         self.warehouse == sought.warehouse
             && self.district == sought.district
@@ -155,6 +141,12 @@ impl Keyed for OrderRow {
             return 0;
         };
         places::after_first(first.id, sought.order)
+    }
+}
+
+impl Searched for OrderRow {
+    fn is_before(&self, sought: &OrderKey) -> bool {
+        (self.warehouse, self.district, self.id) < (sought.warehouse, sought.district, sought.order)
     }
 }
 
@@ -172,16 +164,6 @@ impl Keyed for OrderLineRow {
             < (other.warehouse, other.district, other.order, other.number)
     }
 
-    fn is_before(&self, sought: &OrderLineKey) -> bool {
-        (self.warehouse, self.district, self.order, self.number)
-            < (
-                sought.warehouse,
-                sought.district,
-                sought.order,
-                sought.number,
-            )
-    }
-
     fn has_key(&self, sought: &OrderLineKey) -> bool {
         self.warehouse == sought.warehouse
             && self.district == sought.district
@@ -191,6 +173,18 @@ impl Keyed for OrderLineRow {
 
     fn likely_place(rows: &[OrderLineRow], _sought: &OrderLineKey) -> usize {
         rows.len()
+    }
+}
+
+impl Searched for OrderLineRow {
+    fn is_before(&self, sought: &OrderLineKey) -> bool {
+        (self.warehouse, self.district, self.order, self.number)
+            < (
+                sought.warehouse,
+                sought.district,
+                sought.order,
+                sought.number,
+            )
     }
 }
 
@@ -207,11 +201,6 @@ impl Keyed for NewOrderRow {
         (self.warehouse, self.district, self.order) < (other.warehouse, other.district, other.order)
     }
 
-    fn is_before(&self, sought: &NewOrderKey) -> bool {
-        (self.warehouse, self.district, self.order)
-            < (sought.warehouse, sought.district, sought.order)
-    }
-
     fn has_key(&self, sought: &NewOrderKey) -> bool {
         self.warehouse == sought.warehouse
             && self.district == sought.district
@@ -226,6 +215,13 @@ impl Keyed for NewOrderRow {
     }
 }
 
+impl Searched for NewOrderRow {
+    fn is_before(&self, sought: &NewOrderKey) -> bool {
+        (self.warehouse, self.district, self.order)
+            < (sought.warehouse, sought.district, sought.order)
+    }
+}
+
 impl Keyed for ItemRow {
     type Key = ItemKey;
 
@@ -237,10 +233,6 @@ impl Keyed for ItemRow {
 
     fn comes_before(&self, other: &ItemRow) -> bool {
         self.id < other.id
-    }
-
-    fn is_before(&self, sought: &ItemKey) -> bool {
-        self.id < sought.item
     }
 
     fn has_key(&self, sought: &ItemKey) -> bool {
@@ -263,10 +255,6 @@ impl Keyed for StockRow {
 
     fn comes_before(&self, other: &StockRow) -> bool {
         (self.warehouse, self.item) < (other.warehouse, other.item)
-    }
-
-    fn is_before(&self, sought: &StockKey) -> bool {
-        (self.warehouse, self.item) < (sought.warehouse, sought.item)
     }
 
     fn has_key(&self, sought: &StockKey) -> bool {

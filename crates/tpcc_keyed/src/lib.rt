@@ -10,7 +10,7 @@ pub mod places;
 mod row_change;
 pub mod search;
 
-pub use keyed::Keyed;
+pub use keyed::{Keyed, Searched};
 pub use keyed_rows::KeyedRows;
 pub use mapped::Mapped;
 pub use names::{CustomerName, Names};

@@ -9,7 +9,7 @@ use tpcc_rows::{
 };
 
 /// A row that can tell its key, so that it can stand in a map under it.
-pub trait Mapped: Keyed {
+pub trait Mapped: Keyed + Copy {
     /// The key of this row.
     fn key_of(&self) -> Self::Key
         ensures { Self.numbers result ≡ Self.key self.now };

@@ -62,18 +62,6 @@ impl CustomerName {
         by_last.then(by_first.then(self.id.cmp(&other.id)))
     }
 
-    fn comes_before(&self, other: &CustomerName) -> bool
-        ensures { result ≡ name_before self.now other.now }
-    {
-        self.compare(other) == Ordering::Less
-    }
-
-    fn is_before(&self, warehouse: u32, district: u32, last: &[u8]) -> bool
-        ensures { result ≡ is_lt (last_cmp self.now warehouse district last.now) }
-    {
-        self.compare_last(warehouse, district, last) == Ordering::Less
-    }
-
     fn is_after(&self, warehouse: u32, district: u32, last: &[u8]) -> bool
         ensures { result ≡ is_gt (last_cmp self.now warehouse district last.now) }
     {
@@ -107,7 +95,7 @@ fn place_for(names: &[CustomerName], added: &CustomerName) -> usize
     names.partition_point(
         |name: &CustomerName| -> bool
             ensures { result ≡ not (name_before added.entry.now name.now) }
-        { !added.comes_before(name) },
+        { added.compare(name) != Ordering::Less },
     )
 }
 
@@ -133,7 +121,7 @@ fn start_of(names: &[CustomerName], warehouse: u32, district: u32, last: &[u8]) 
     names.partition_point(
         |name: &CustomerName| -> bool
             ensures { result ≡ is_lt (last_cmp name.now warehouse district last.entry.now) }
-        { name.is_before(warehouse, district, last) },
+        { name.compare_last(warehouse, district, last) == Ordering::Less },
     )
 }
 

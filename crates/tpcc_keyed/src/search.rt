@@ -4,7 +4,7 @@ ghost use Rattle.std.specs.Option.{option_copied};
 ghost use Rattle.tpcc_rows.specs.Lists.{is_ascending, key_before};
 ghost use Rattle.tpcc_keyed.specs.Searches.{is_same_key};
 
-use crate::keyed::Keyed;
+use crate::keyed::{Keyed, Searched};
 
 /// The place of the row of a key, where it stands at the place that its key tells.
 #[inline]
@@ -22,7 +22,7 @@ pub(crate) fn try_likely_place<T: Keyed>(rows: &[T], key: &T::Key) -> Option<usi
 }
 
 /// The place of the row of a key, searched by halves.
-fn search_by_halves<T: Keyed>(rows: &[T], key: &T::Key) -> Option<usize>
+fn search_by_halves<T: Searched>(rows: &[T], key: &T::Key) -> Option<usize>
     requires keyed { is_ascending T.key rows.now ≡ true }
     ensures { result ≡ position (λ row. is_same_key (T.key row) (T.numbers key.now)) rows.now }
 {
@@ -39,7 +39,7 @@ fn search_by_halves<T: Keyed>(rows: &[T], key: &T::Key) -> Option<usize>
 }
 
 /// The place of the row of a key: in one step where keys have no gaps.
-pub fn place_of<T: Keyed>(rows: &[T], key: &T::Key) -> Option<usize>
+pub fn place_of<T: Searched>(rows: &[T], key: &T::Key) -> Option<usize>
     requires keyed { is_ascending T.key rows.now ≡ true }
     ensures { result ≡ position (λ row. is_same_key (T.key row) (T.numbers key.now)) rows.now }
 {
@@ -50,7 +50,7 @@ pub fn place_of<T: Keyed>(rows: &[T], key: &T::Key) -> Option<usize>
 }
 
 /// The row of a key.
-pub fn find<'a, T: Keyed>(rows: &'a [T], key: &T::Key) -> Option<&'a T>
+pub fn find<'a, T: Searched>(rows: &'a [T], key: &T::Key) -> Option<&'a T>
     requires keyed { is_ascending T.key rows.now ≡ true }
     ensures { option_copied result
         ≡ find (λ row. is_same_key (T.key row) (T.numbers key.now)) rows.now }

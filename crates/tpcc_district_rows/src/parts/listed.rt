@@ -7,8 +7,7 @@ ghost use Rattle.tpcc_district_rows.specs.Parts.{is_of};
 
 use crate::owned::Owned;
 use crate::parts::Parts;
-use crate::parts::place::place_of;
-use tpcc_keyed::search::find;
+use tpcc_keyed::search::{find, place_of};
 use tpcc_rows::DistrictKey;
 
 /// Rows that are kept in one vector for each district.
@@ -66,7 +65,7 @@ impl<T: Owned> Listed<T> {
         ensures owners { self.new.owners ≡ self.old.owners }
         ensures room { self.new.room ≡ self.old.room }
     {
-        let Some(place) = place_of(self.parts.as_slice(), T::owner_of(key)) else {
+        let Some(place) = place_of(self.parts.as_slice(), &T::owner_of(key)) else {
             return;
         };
         let Some(line) = self.parts[place].place_of(key) else {

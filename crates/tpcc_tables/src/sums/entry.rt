@@ -3,7 +3,7 @@ ghost use Rattle.std.specs.Prelude.{◌≡◌, pos, None, ◌∷◌, []};
 ghost use Rattle.tpcc_tables.specs.Sums.{no_warehouse_sums, no_district_sums, no_customer_sums};
 
 use super::total::Total;
-use tpcc_keyed::{Keyed, places};
+use tpcc_keyed::{Keyed, Searched, places};
 use tpcc_money::Cents;
 use tpcc_rows::{CustomerKey, DistrictKey, WarehouseKey};
 
@@ -101,16 +101,18 @@ impl Keyed for WarehouseSums {
         self.warehouse < other.warehouse
     }
 
-    fn is_before(&self, sought: &WarehouseKey) -> bool {
-        self.warehouse < sought.warehouse
-    }
-
     fn has_key(&self, sought: &WarehouseKey) -> bool {
         self.warehouse == sought.warehouse
     }
 
     fn likely_place(_sums: &[WarehouseSums], sought: &WarehouseKey) -> usize {
         places::after_first(1, sought.warehouse)
+    }
+}
+
+impl Searched for WarehouseSums {
+    fn is_before(&self, sought: &WarehouseKey) -> bool {
+        self.warehouse < sought.warehouse
     }
 }
 
@@ -127,16 +129,18 @@ impl Keyed for DistrictSums {
         (self.warehouse, self.district) < (other.warehouse, other.district)
     }
 
-    fn is_before(&self, sought: &DistrictKey) -> bool {
-        (self.warehouse, self.district) < (sought.warehouse, sought.district)
-    }
-
     fn has_key(&self, sought: &DistrictKey) -> bool {
         self.warehouse == sought.warehouse && self.district == sought.district
     }
 
     fn likely_place(_sums: &[DistrictSums], sought: &DistrictKey) -> usize {
         places::of_district(sought.warehouse, sought.district)
+    }
+}
+
+impl Searched for DistrictSums {
+    fn is_before(&self, sought: &DistrictKey) -> bool {
+        (self.warehouse, self.district) < (sought.warehouse, sought.district)
     }
 }
 
@@ -154,11 +158,6 @@ impl Keyed for CustomerSums {
             < (other.warehouse, other.district, other.customer)
     }
 
-    fn is_before(&self, sought: &CustomerKey) -> bool {
-        (self.warehouse, self.district, self.customer)
-            < (sought.warehouse, sought.district, sought.customer)
-    }
-
     fn has_key(&self, sought: &CustomerKey) -> bool {
         self.warehouse == sought.warehouse
             && self.district == sought.district
@@ -173,5 +172,12 @@ impl Keyed for CustomerSums {
         before
             .wrapping_mul(last.customer as usize)
             .wrapping_add(places::after_first(1, sought.customer))
+    }
+}
+
+impl Searched for CustomerSums {
+    fn is_before(&self, sought: &CustomerKey) -> bool {
+        (self.warehouse, self.district, self.customer)
+            < (sought.warehouse, sought.district, sought.customer)
     }
 }

@@ -60,3 +60,6 @@ pub returns-clause-owners : goal.returns-clause-owners
 returns-clause-owners c =
     owners_kept order_line_key c.self.inside.len c.self.inside.room c.self.inside.parts.items c.self.invariant c.in-Some.place c.index_mut.result.now c.stamp.new.self c.index_mut.ensures.value c.stamp.ensures.owner
     ∙ ap (λ (t : PartsView OrderLineRow). t.owners) c.self.view_is
+
+pub index_mut-requires : goal.index_mut-requires
+index_mut-requires c = omega (arith, c.as_slice.ensures.len, line_within (is_part (c.args.warehouse ∷ c.args.district ∷ [])) c.as_slice.result.now c.in-Some.place (sym c.place_of.ensures ∙ c.in-Some.is))

@@ -5,7 +5,7 @@ use Rattle.tpcc_district_rows.specs.Parts.{PartsView, district_numbers}
 use Rattle.tpcc_district_rows.specs.PartWords.{is_part, HasRoom}
 use Rattle.tpcc_district_rows.proofs.Owner.{part_placed}
 use Rattle.tpcc_district_rows.proofs.Part.{part_found, part_is, part_owns, placed}
-use Rattle.tpcc_district_rows.proofs.Put.{length_inserted, length_set, owners_kept, owns_inserted, part_keyed, parts_kept, room_there, rows_inserted}
+use Rattle.tpcc_district_rows.proofs.Put.{length_inserted, length_set, line_within, owners_kept, owns_inserted, part_keyed, parts_kept, room_there, rows_inserted}
 use Rattle.tpcc_district_rows.proofs.parts.Parts.append.Goals as goal
 
 pub unwrap-place-requires : goal.unwrap-place-requires
@@ -49,3 +49,22 @@ pub returns-clause-owners : goal.returns-clause-owners
 returns-clause-owners g c =
     owners_kept g.T.Keyed.key c.self.inside.len c.self.inside.room c.self.inside.parts.items c.self.invariant c.unwrap-place.result c.index_mut.result.now c.put_in_room.new.self c.index_mut.ensures.value c.put_in_room.ensures.owner
     ∙ ap (λ (t : PartsView g.row.T.Denot). t.owners) c.self.view_is
+
+pub index_mut-requires : goal.index_mut-requires
+index_mut-requires g c = omega (arith, c.as_slice.ensures.len, line_within (is_part (district_numbers c.owner.result)) c.as_slice.result.now c.unwrap-place.result (sym c.place_of.ensures ∙ c.unwrap-place.ensures))
+
+pub put_in_room-requires-clause-room : goal.put_in_room-requires-clause-room
+put_in_room-requires-clause-room g c =
+    let k = district_numbers c.owner.result in
+    let at = placed (is_part k) c.as_slice.result.now c.self.inside.parts.items c.place_of.result (Some c.unwrap-place.result) c.as_slice.ensures.value c.place_of.ensures c.unwrap-place.ensures in
+    let room : HasRoom c.self.inside.room c.index_mut.result.now = room_there c.self.inside.room c.self.inside.parts.items c.unwrap-place.result c.index_mut.result.now c.self.invariant.roomy (line_within (is_part k) c.self.inside.parts.items c.unwrap-place.result at) c.index_mut.ensures.value in
+    omega (arith, room, c.requires.room, ap (λ (t : PartsView g.row.T.Denot). t.room) c.self.view_is)
+
+pub overflow_add-self : goal.overflow_add-self
+overflow_add-self g c = omega (arith, c.self.invariant.bound, c.requires.room, ap (λ (t : PartsView g.row.T.Denot). t.room) c.self.view_is)
+
+pub overflow_sub-self : goal.overflow_sub-self
+overflow_sub-self g c = omega (arith, c.requires.room, ap (λ (t : PartsView g.row.T.Denot). t.room) c.self.view_is)
+
+pub returns-clause-room : goal.returns-clause-room
+returns-clause-room g c = omega (arith, c.requires.room, ap (λ (t : PartsView g.row.T.Denot). t.room) c.self.view_is)

@@ -1,5 +1,6 @@
 use Rattle.std.proofs.Common.{◌+◌, ◌-◌, ◌∙◌, ap, sym, arith, drop, slice_get}
 use Rattle.std.specs.Prelude.{flat_map}
+use Rattle.tpcc_district_rows.specs.Parts.{PartsView}
 use Rattle.tpcc_district_rows.specs.PartWords.{rows_in}
 use Rattle.tpcc_district_rows.proofs.Read.{row_past, row_within}
 use Rattle.tpcc_district_rows.proofs.parts.Parts.copy_at.Goals as goal
@@ -15,4 +16,10 @@ loop-part-preserved g c = record {
   row = ap (λ n. slice_get (flat_map rows_in (drop (c.loop-part.part-index + 1) c.deref-part-items.result.now)) (c.loop-part.before - n)) c.len-before.ensures
       ∙ sym (row_past c.deref-part-items.result.now c.loop-part.part-index c.part-item.result (omega arith) c.part-item.is c.loop-part.before (omega arith))
       ∙ c.loop-part.invariant.row;
+}
+
+pub loop-part-init : goal.loop-part-init
+loop-part-init g c = record {
+  row = ap (λ parts. slice_get (flat_map rows_in parts) c.args.position) c.deref-part-items.ensures.value
+      ∙ ap (λ (t : PartsView g.row.T.Denot). slice_get t.rows c.args.position) c.self.view_is;
 }

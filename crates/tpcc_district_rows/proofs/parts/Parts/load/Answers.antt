@@ -1,4 +1,4 @@
-use Rattle.std.proofs.Common.{◌≡◌, ◌+◌, ◌∙◌, ap, sym, arith, length, Some}
+use Rattle.std.proofs.Common.{◌≡◌, ◌+◌, ◌∙◌, ap, sym, refl, arith, length, Some}
 use Rattle.tpcc_rows.specs.Lists.{by_key, inserted, is_ascending}
 use Rattle.tpcc_district_rows.specs.Parts.{PartsView, district_numbers, has_owner}
 use Rattle.tpcc_district_rows.specs.PartWords.{is_part, HasRoom}
@@ -9,11 +9,11 @@ use Rattle.tpcc_district_rows.proofs.parts.Parts.load.Goals as goal
 
 pub unwrap-place-requires : goal.unwrap-place-requires
 unwrap-place-requires g c =
-    part_placed c.self-2.inside.parts.items c.open.new.self.owners c.owner-2.result (district_numbers c.owner.result) c.as_slice.result.now c.place_of.result (ap (λ (t : PartsView g.row.T.Denot). t.owners) c.self-2.view_is) c.in_ok-open.ensures.opened (c.owner-2.ensures ∙ sym c.owner.ensures) c.as_slice.ensures.value c.place_of.ensures
+    part_placed c.self-2.inside.parts.items c.open.new.self.owners c.owner-owner.result (district_numbers c.owner-owner.result) c.as_slice.result.now c.place_of.result (ap (λ (t : PartsView g.row.T.Denot). t.owners) c.self-2.view_is) c.in_ok-open.ensures.opened refl c.as_slice.ensures.value c.place_of.ensures
 
 pub put-requires : goal.put-requires
 put-requires g c =
-    let k = district_numbers c.owner-2.result in
+    let k = district_numbers c.owner-owner.result in
     let parts = c.self-2.inside.parts.items in
     let at = placed (is_part k) c.as_slice.result.now parts c.place_of.result (Some c.unwrap-place.result) c.as_slice.ensures.value c.place_of.ensures c.unwrap-place.ensures in
     record {
@@ -24,7 +24,7 @@ put-requires g c =
 
 pub invariant_of-self : goal.invariant_of-self
 invariant_of-self g c =
-    let k = district_numbers c.owner-2.result in
+    let k = district_numbers c.owner-owner.result in
     let parts = c.self-2.inside.parts.items in
     let at = placed (is_part k) c.as_slice.result.now parts c.place_of.result (Some c.unwrap-place.result) c.as_slice.ensures.value c.place_of.ensures c.unwrap-place.ensures in
     let within = line_within (is_part k) parts c.unwrap-place.result at in
@@ -51,7 +51,7 @@ returns-in_err-put-clause-kept g c = λ k has.
 
 pub invariant_of-self-2 : goal.invariant_of-self-2
 invariant_of-self-2 g c =
-    let k = district_numbers c.owner-2.result in
+    let k = district_numbers c.owner-owner.result in
     let parts = c.self-2.inside.parts.items in
     let at = placed (is_part k) c.as_slice.result.now parts c.place_of.result (Some c.unwrap-place.result) c.as_slice.ensures.value c.place_of.ensures c.unwrap-place.ensures in
     let within = line_within (is_part k) parts c.unwrap-place.result at in
@@ -62,15 +62,15 @@ invariant_of-self-2 g c =
     let count : c.self-2.inside.len ≡ c.self.inside.len = c.self-2.invariant.counted ∙ ap (λ (t : PartsView g.row.T.Denot). length t.rows) c.self-2.view_is ∙ ap length c.open.ensures.rows ∙ sym (c.self.invariant.counted ∙ ap (λ (t : PartsView g.row.T.Denot). length t.rows) c.self.view_is) in
     parts_kept g.T.Keyed.key c.self-2.inside.len c.self-2.inside.room parts c.self-2.invariant c.unwrap-place.result c.index_mut.result.now c.put.new.self c.index_mut.ensures.value c.put.ensures.owner
     (c.self-2.inside.len + 1) 0 (omega arith) (omega (arith, count, c.if-self.false, c.self.invariant.bound)) (omega (arith, longer, all, c.self-2.invariant.counted))
-    (owns_inserted g.T.Keyed.key c.index_mut.result.now c.put.new.self c.put.ensures.owner own c.args.row (sym c.owner-2.ensures ∙ sym numbers) c.in_ok-put.ensures.put)
+    (owns_inserted g.T.Keyed.key c.index_mut.result.now c.put.new.self c.put.ensures.owner own c.args.row (sym c.owner-owner.ensures ∙ sym numbers) c.in_ok-put.ensures.put)
     c.in_ok-put.ensures.room
 
 pub returns-clause-loaded : goal.returns-clause-loaded
 returns-clause-loaded g c =
-    let k = district_numbers c.owner-2.result in
+    let k = district_numbers c.owner-owner.result in
     let parts = c.self-2.inside.parts.items in
     let at = placed (is_part k) c.as_slice.result.now parts c.place_of.result (Some c.unwrap-place.result) c.as_slice.ensures.value c.place_of.ensures c.unwrap-place.ensures in
-    rows_inserted g.T.Keyed.key c.args.row k (sym c.owner-2.ensures) c.self-2.inside.len c.self-2.inside.room parts c.self-2.invariant c.unwrap-place.result c.index_mut.result.now at c.index_mut.ensures.value c.put.new.self c.in_ok-put.ensures.put
+    rows_inserted g.T.Keyed.key c.args.row k (sym c.owner-owner.ensures) c.self-2.inside.len c.self-2.inside.room parts c.self-2.invariant c.unwrap-place.result c.index_mut.result.now at c.index_mut.ensures.value c.put.new.self c.in_ok-put.ensures.put
     ∙ ap (λ (t : PartsView g.row.T.Denot). inserted (by_key g.T.Keyed.key) c.args.row t.rows) c.self-2.view_is
     ∙ ap (inserted (by_key g.T.Keyed.key) c.args.row) c.open.ensures.rows
 
@@ -79,3 +79,6 @@ returns-clause-kept g c = λ k has.
     ap (λ owners. has_owner owners k) (owners_kept g.T.Keyed.key c.self-2.inside.len c.self-2.inside.room c.self-2.inside.parts.items c.self-2.invariant c.unwrap-place.result c.index_mut.result.now c.put.new.self c.index_mut.ensures.value c.put.ensures.owner)
     ∙ ap (λ (t : PartsView g.row.T.Denot). has_owner t.owners k) c.self-2.view_is
     ∙ c.open.ensures.kept k has
+
+pub index_mut-requires : goal.index_mut-requires
+index_mut-requires g c = omega (arith, c.as_slice.ensures.len, line_within (is_part (district_numbers c.owner-owner.result)) c.as_slice.result.now c.unwrap-place.result (sym c.place_of.ensures ∙ c.unwrap-place.ensures))

@@ -1,10 +1,11 @@
-use Rattle.std.proofs.Common.{◌∙◌, ap, sym, Some, None, filter}
+use Rattle.std.proofs.Common.{◌∙◌, ap, sym, arith, Some, None, filter}
 use Rattle.std.specs.Prelude.{flat_map}
 use Rattle.std.specs.Option.{option_copied}
 use Rattle.tpcc_district_rows.specs.Parts.{PartsView, district_numbers, is_of, rows_or_none}
 use Rattle.tpcc_district_rows.specs.PartWords.{rows_in, is_part}
 use Rattle.tpcc_district_rows.proofs.Flat.{no_rows}
 use Rattle.tpcc_district_rows.proofs.Part.{asks_district, no_row, part_is, part_owns, placed, rows_chosen, whole_part}
+use Rattle.tpcc_district_rows.proofs.Put.{line_within}
 use Rattle.tpcc_district_rows.proofs.parts.Parts.part_of.Goals as goal
 
 pub returns-in_err-place : goal.returns-in_err-place
@@ -30,3 +31,6 @@ returns g c =
     ∙ sym (rows_chosen g.T.Keyed.key c.self.inside.len c.self.inside.room parts c.self.invariant k c.in_ok-place.place c.index.result.now at
     c.index.ensures (λ row. is_of c.args.owner (g.T.Keyed.key row)) (asks_district g.T.Keyed.key c.args.owner))
     ∙ ap (λ (t : PartsView g.row.T.Denot). filter (λ row. is_of c.args.owner (g.T.Keyed.key row)) t.rows) c.self.view_is
+
+pub index-requires : goal.index-requires
+index-requires g c = omega (arith, c.as_slice.ensures.len, line_within (is_part (district_numbers c.args.owner)) c.as_slice.result.now c.in_ok-place.place (sym c.place_of.ensures ∙ c.in_ok-place.was))

@@ -28,3 +28,6 @@ returns-clause-rows g c =
 pub returns-clause-owners : goal.returns-clause-owners
 returns-clause-owners g c =
     owners_shown c.self.inside.parts.items c.grow_all.new.parts.items c.grow_all.ensures.same ∙ ap (λ (t : PartsView g.row.T.Denot). t.owners) c.self.view_is
+
+pub returns-clause-kept : goal.returns-clause-kept
+returns-clause-kept g c = omega (arith, c.if-room-self.false, ap (λ (t : PartsView g.row.T.Denot). t.room) c.self.view_is)

@@ -1,5 +1,9 @@
 use Rattle.std.proofs.Common.{◌∙◌, ◌+◌, ap, arith, ◌-◌, subst, sym, take, drop, length}
-use Rattle.std.proofs.lemmas.List.{take_rest}
+use Rattle.std.specs.Prelude.{not}
+use Rattle.std.proofs.lemmas.List.{length-take-le, take_rest}
+use Rattle.std.proofs.lemmas.List.Sums.{prefix_len-le-length}
+use Rattle.tpcc_rows.specs.Lists.{key_before}
+use Rattle.tpcc_district_rows.specs.Parts.{district_numbers}
 use Rattle.tpcc_district_rows.specs.DistrictRows.{DistrictRows}
 use Rattle.tpcc_district_rows.specs.PartWords.{HasRoom, AreRead}
 use Rattle.tpcc_district_rows.proofs.Read.{ascending_rest, run_further, run_read}
@@ -21,3 +25,9 @@ returns g c =
       subst (AreRead g.T.Keyed.key c.args.rows.now (c.args.start + c.run_len-count.result)) (sym c.in_ok-push.ensures.items)
           (run_read g.T.Keyed.key c.args.rows.now c.requires.keyed c.args.start c.args.parts.now.items c.requires.read c.requires.more seen (take_rest c.args.rows.now c.args.start) c.index-rest-0.result c.index-rest-0.is c.owner-owner.result c.owner-owner.ensures c.run_len-count.result c.run_len-count.ensures run owner holds within),
     )
+
+pub slice_bounds-of_rows-end : goal.slice_bounds-of_rows-end
+slice_bounds-of_rows-end g c =
+    let seen = take (length c.args.rows.now - c.args.start) (drop c.args.start c.args.rows.now) in
+    let within = prefix_len-le-length (λ row. not (key_before (district_numbers c.owner-owner.result) (take 2 (g.T.Keyed.key row)))) seen in
+    sym (length-take-le c.run_len-count.result seen (omega (arith, c.run_len-count.ensures, within)))

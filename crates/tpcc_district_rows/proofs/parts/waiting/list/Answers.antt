@@ -1,6 +1,7 @@
-use Rattle.std.proofs.Common.{◌∙◌, ◌++◌, ◌∷◌, [], ap, sym, arith, take}
-use Rattle.std.proofs.lemmas.List.{append_assoc, take_more}
+use Rattle.std.proofs.Common.{◌∙◌, ◌++◌, ◌∷◌, [], ap, sym, arith, length, take}
+use Rattle.std.proofs.lemmas.List.{append_assoc, length-append, length-take-le, take_more}
 use Rattle.tpcc_keyed.proofs.Halves.{at_place}
+use Rattle.tpcc_district_rows.proofs.Range.{all_listed}
 use Rattle.tpcc_district_rows.proofs.parts.waiting.list.Goals as goal
 
 pub loop-place-preserved : goal.loop-place-preserved
@@ -13,3 +14,13 @@ loop-place-preserved c =
           ∙ ap (λ rows. c.args.listed.now.items ++ rows) (sym (take_more c.args.range.now c.loop-place.place c.unwrap.result there.0 ∙ ap (λ row. take c.loop-place.place c.args.range.now ++ row ∷ []) (sym there.1)));
       capacity = omega (arith, c.push_reserved.ensures.capacity, c.loop-place.invariant.capacity);
     }
+
+pub push_reserved-requires : goal.push_reserved-requires
+push_reserved-requires c =
+    let old = c.args.listed.now.items in
+    let put = take c.loop-place.place c.args.range.now in
+    omega (arith, c.loop-place.listed.ok, ap length c.loop-place.invariant.listed, length-append old put, length-take-le c.loop-place.place c.args.range.now (omega (arith, c.len-place-end.ensures.len)), ap length (c.requires.alone (omega (arith, c.len-place-end.ensures.len))), c.requires.room, c.loop-place.invariant.capacity, c.len-place-end.ensures.len)
+
+pub returns-clause-listed : goal.returns-clause-listed
+returns-clause-listed c =
+    all_listed c.args.range.now c.args.listed.now.items c.loop-place.listed.items c.loop-place.place c.requires.alone (omega (arith, c.len-place-end.ensures.len)) c.loop-place.invariant.listed

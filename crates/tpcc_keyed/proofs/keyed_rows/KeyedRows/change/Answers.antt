@@ -1,4 +1,4 @@
-use Rattle.std.proofs.Common.{◌∙◌, sym, ap}
+use Rattle.std.proofs.Common.{◌∙◌, sym, ap, arith}
 use Rattle.std.specs.Prelude.{find, position, is_some}
 use Rattle.std.specs.Map.{values_of}
 use Rattle.tpcc_rows.specs.Lists.{is_ascending, updated}
@@ -6,9 +6,9 @@ use Rattle.tpcc_laws.proofs.List.{one_of_key}
 use Rattle.tpcc_keyed.specs.Searches.{is_same_key}
 use Rattle.tpcc_keyed.specs.KeyedRows.{RowsView}
 use Rattle.tpcc_keyed.proofs.Change.{found_passes}
-use Rattle.tpcc_keyed.proofs.Place.{found_row, unwritten}
+use Rattle.tpcc_keyed.proofs.Place.{found_row, place_within, unwritten}
 use Rattle.tpcc_keyed.proofs.Halves.{at_place}
-use Rattle.tpcc_keyed.proofs.UnderKeys.{keys_apart, under_set, values_set}
+use Rattle.tpcc_keyed.proofs.UnderKeys.{keys_apart, length_values, under_set, values_set}
 use Rattle.tpcc_keyed.proofs.keyed_rows.KeyedRows.change.Goals as goal
 
 pub apply-requires : goal.apply-requires
@@ -39,3 +39,9 @@ returns-in-Some g c =
 pub returns-in_default : goal.returns-in_default
 returns-in_default g c =
     unwritten (λ row. is_same_key (g.T.Keyed.key row) (g.T.Keyed.numbers c.args.key.now)) (g.C.RowChange.changed c.args.change.now) c.args.self.now.items (sym c.place_of.ensures ∙ c.in_default.is)
+
+pub index_mut-requires : goal.index_mut-requires
+index_mut-requires g c =
+    let passes = λ (row : g.row.T.Denot). is_same_key (g.T.Keyed.key row) (g.T.Keyed.numbers c.args.key.now) in
+    let there = ap (λ (t : RowsView g.row.T.Denot). position passes t.items) c.self.view_is ∙ sym c.place_of.ensures ∙ c.in-Some.is in
+    omega (arith, length_values c.self.inside.rows.entries, place_within passes (values_of c.self.inside.rows.entries) c.in-Some.place there)

@@ -1,11 +1,12 @@
-use Rattle.std.proofs.Common.{◌∙◌, sym, ap}
+use Rattle.std.proofs.Common.{◌∙◌, sym, ap, arith}
 use Rattle.std.specs.Prelude.{find, position}
 use Rattle.std.specs.Map.{values_of}
 use Rattle.std.specs.Option.{option_copied}
 use Rattle.tpcc_keyed.specs.Searches.{is_same_key}
 use Rattle.tpcc_keyed.specs.KeyedRows.{RowsView}
-use Rattle.tpcc_keyed.proofs.Place.{found_row}
+use Rattle.tpcc_keyed.proofs.Place.{found_row, place_within}
 use Rattle.tpcc_keyed.proofs.Halves.{at_place, unfound}
+use Rattle.tpcc_keyed.proofs.UnderKeys.{length_values}
 use Rattle.tpcc_keyed.proofs.keyed_rows.KeyedRows.find.Goals as goal
 
 pub returns-in_err-place : goal.returns-in_err-place
@@ -19,3 +20,9 @@ returns g c =
     let there = ap (λ (t : RowsView g.row.T.Denot). position passes t.items) c.self.view_is ∙ sym c.place_of.ensures ∙ c.in_ok-place.was in
     let row = c.index.result.now in
     sym (sym (ap (λ (t : RowsView g.row.T.Denot). find passes t.items) c.self.view_is) ∙ found_row passes rows c.in_ok-place.place row there (at_place row rows c.in_ok-place.place row c.index.ensures).1)
+
+pub index-requires : goal.index-requires
+index-requires g c =
+    let passes = λ (row : g.row.T.Denot). is_same_key (g.T.Keyed.key row) (g.T.Keyed.numbers c.args.key.now) in
+    let there = ap (λ (t : RowsView g.row.T.Denot). position passes t.items) c.self.view_is ∙ sym c.place_of.ensures ∙ c.in_ok-place.was in
+    omega (arith, length_values c.self.inside.rows.entries, place_within passes (values_of c.self.inside.rows.entries) c.in_ok-place.place there)

@@ -79,3 +79,22 @@ pub returns-clause-owners : goal.returns-clause-owners
 returns-clause-owners g c =
     owners_kept g.T.Keyed.key c.self.inside.len c.self.inside.room c.self.inside.parts.items c.self.invariant c.in-Some.place c.index_mut.result.now c.exchange.new.self c.index_mut.ensures.value c.exchange.ensures.owner
     ∙ ap (λ (t : PartsView g.row.T.Denot). t.owners) c.self.view_is
+
+pub index-requires : goal.index-requires
+index-requires g c = omega (arith, c.as_slice.ensures.len, line_within (is_part (district_numbers c.owner_of.result)) c.as_slice.result.now c.in-Some.place (sym c.place_of.ensures ∙ c.in-Some.is))
+
+pub index_mut-requires : goal.index_mut-requires
+index_mut-requires g c = omega (arith, c.as_slice.ensures.len, line_within (is_part (district_numbers c.owner_of.result)) c.as_slice.result.now c.in-Some.place (sym c.place_of.ensures ∙ c.in-Some.is))
+
+pub exchange-requires : goal.exchange-requires
+exchange-requires g c =
+    let k = district_numbers c.owner_of.result in
+    let parts = c.self.inside.parts.items in
+    let numbers = g.T.Keyed.numbers c.args.key.now in
+    let at = placed (is_part k) c.as_slice.result.now parts c.place_of.result (Some c.in-Some.place) c.as_slice.ensures.value c.place_of.ensures c.in-Some.is in
+    let same = same_there (is_part k) parts c.in-Some.place c.index.result.now c.index_mut.result.now at c.index.ensures c.index_mut.ensures.value in
+    line_within (λ row. is_same_key (g.T.Keyed.key row) numbers) c.index_mut.result.now.rows.items c.in-Some-place_of.line
+    (placed (λ row. is_same_key (g.T.Keyed.key row) numbers) c.index.result.now.rows.items c.index_mut.result.now.rows.items c.place_of-2.result (Some c.in-Some-place_of.line) (ap (λ (p : DistrictRows g.row.T.Denot). p.rows.items) same) c.place_of-2.ensures c.in-Some-place_of.is)
+
+pub returns-clause-room : goal.returns-clause-room
+returns-clause-room g c = ap (λ (t : PartsView g.row.T.Denot). t.room) c.self.view_is

@@ -1,5 +1,6 @@
 use Rattle.std.proofs.Common.{◌+◌, ◌-◌, ◌∙◌, ap, sym, arith, drop, length}
 use Rattle.std.specs.Prelude.{flat_map}
+use Rattle.tpcc_district_rows.specs.Parts.{PartsView}
 use Rattle.tpcc_district_rows.specs.PartWords.{rows_in}
 use Rattle.tpcc_district_rows.proofs.Read.{rest_past}
 use Rattle.tpcc_district_rows.proofs.parts.listed.Listed+T.run_from.Goals as goal
@@ -12,3 +13,9 @@ loop-part-preserved g c =
           ∙ sym (rest_past c.deref-part-items.result.now c.loop-part.part-index c.part-item.result (omega arith) c.part-item.is c.loop-part.before (omega (arith, size)))
           ∙ c.loop-part.invariant.rest;
     }
+
+pub loop-part-init : goal.loop-part-init
+loop-part-init g c = record {
+  rest = ap (λ parts. drop c.args.position (flat_map rows_in parts)) c.deref-part-items.ensures.value
+      ∙ ap (λ (t : PartsView g.row.T.Denot). drop c.args.position t.rows) c.self.view_is;
+}
