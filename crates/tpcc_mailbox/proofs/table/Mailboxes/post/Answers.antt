@@ -1,4 +1,4 @@
-use Rattle.std.proofs.Common.{rules, ap, ◌∙◌}
+use Rattle.std.proofs.Common.{rules, arith, refl, ap, ◌∙◌}
 use Rattle.tpcc_mailbox.proofs.Keeps.{posts, slot_is_exchanged, is_seat_with}
 use Rattle.tpcc_mailbox.proofs.table.Mailboxes.post.Goals as goal
 
@@ -13,3 +13,19 @@ invariant_of-result g c = let put_in = slot_is_exchanged _ _ _ _ _ _ (ap (λ s. 
       sized = search rules;
       sent = is_seat_with _ _ _ (ap (λ m. m.0.roles) did ∙ search rules) (ap (λ m. m.1) did);
     }
+
+pub word_index-requires : goal.word_index-requires
+word_index-requires g c = omega (arith, c.args.idle.within, c.args.idle.sized.few)
+
+pub returns-clause-origin : goal.returns-clause-origin
+returns-clause-origin g c = c.compare_exchange.ensures.0 ∙ c.exchange-was.ensures.0
+
+pub returns-clause-mailbox : goal.returns-clause-mailbox
+returns-clause-mailbox g c = refl
+
+pub returns-clause-letter : goal.returns-clause-letter
+returns-clause-letter g c = c.of-kept.ensures
+
+pub returns-clause-closed : goal.returns-clause-closed
+returns-clause-closed g c = let put_in = slot_is_exchanged _ _ _ _ _ _ (ap (λ s. s.me.0.roles) c.args.idle.free) (ap (λ s. s.me.1) c.args.idle.free) c.exchange-was.ensures.3 in
+    let did = c.compare_exchange.ensures.2 _ c.new.result put_in.0 put_in.1 in ap (λ m. m.0.closed) did ∙ ap (λ m. m.0.closed) c.exchange-was.ensures.3
