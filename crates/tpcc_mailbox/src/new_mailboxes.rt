@@ -9,7 +9,7 @@ use crate::answers::Answers;
 use crate::plays::{FirstCollecting, MakingClient, MakingServer};
 use crate::room::Room;
 use crate::rule::{ANSWERED, FREE, OPEN};
-use crate::table::{MailboxSeat, MailboxTable, Mailboxes, word_count, word_index};
+use crate::table::{MailboxSeat, MailboxTable, Mailboxes, step_word, word_count, word_index};
 use crate::tokens::{Idle, Serving};
 use atomic_table::Table;
 use std::alloc::{AllocError, Global};
@@ -70,9 +70,7 @@ fn first_idle<J, A: Answers<J>>(
     ensures open { idle_saw_closed result ≡ false }
 {
     let mut seat = table.shared.split_seat::<MakingClient>(first);
-    table
-        .shared
-        .compare_exchange::<FirstCollecting>(&mut seat, word_index(mailbox), ANSWERED, FREE);
+    step_word::<J, A, FirstCollecting>(&table.shared, &mut seat, mailbox, ANSWERED, FREE);
     Idle {
         seat,
         mailbox,

@@ -5,7 +5,7 @@ ghost use Rattle.tpcc_mailbox.specs.Tokens.{identity, mailbox_count, serving_ori
 use crate::answers::Answers;
 use crate::plays::{Answering, Closing, Reading, SplittingServer, Taking};
 use crate::rule::{ANSWERED, CLOSED, Mail, POSTED, TAKEN};
-use crate::table::{Mailboxes, word_index};
+use crate::table::{Mailboxes, step_word, word_index};
 use crate::tokens::{Serving, Taken};
 use std::snapshot::Snapshot;
 
@@ -29,11 +29,10 @@ impl<J, A: Answers<J>> Mailboxes<J, A> {
         }
         let shared = &self.table.shared;
         // A plain load first: a failed exchange would take the cache line from the client or the server there.
-        let word = word_index(k);
-        if shared.peek(word) != POSTED {
+        if shared.peek(word_index(k)) != POSTED {
             return None;
         }
-        if shared.compare_exchange::<Taking>(&mut serving.seat, word, POSTED, TAKEN) != POSTED {
+        if step_word::<J, A, Taking>(shared, &mut serving.seat, k, POSTED, TAKEN) != POSTED {
             return None;
         }
         let found = shared.exchange(&mut serving.seat, k, None);
@@ -71,12 +70,7 @@ impl<J, A: Answers<J>> Mailboxes<J, A> {
         let shared = &self.table.shared;
         let was = shared.exchange(&mut serving.seat, mailbox, Some(answered));
         let None = was else { unreachable!() };
-        shared.compare_exchange::<Answering>(
-            &mut serving.seat,
-            word_index(mailbox),
-            TAKEN,
-            ANSWERED,
-        );
+        step_word::<J, A, Answering>(shared, &mut serving.seat, mailbox, TAKEN, ANSWERED);
     }
 
     /// Closes the mailboxes, which may be closed already. It raises a flag and stops nothing: letters

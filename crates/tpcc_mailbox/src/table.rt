@@ -1,11 +1,14 @@
 //! The mailboxes as threads share them.
-ghost use Rattle.std.specs.Prelude.{◌≡◌, ◌≤◌};
+ghost use Rattle.std.specs.Prelude.{◌≡◌, ◌<◌, ◌≤◌};
+ghost use mathlib.Core.Option.{none};
+ghost use Rattle.atomic_table.specs.Table.{step};
+ghost use Rattle.tpcc_mailbox.specs.Steps.{MayStep};
 ghost use Rattle.tpcc_mailbox.specs.declared.table.TheConstants.{MOST_MAILBOXES};
 ghost use Rattle.tpcc_mailbox.specs.Rule.{IsSized, word_of, words_of};
 
 use crate::answers::Answers;
 use crate::rule::{Mail, MailboxRule, View};
-use atomic_table::{Seat, Shared, Table};
+use atomic_table::{Play, Seat, Shared, Table};
 use std::alloc::Global;
 
 pub(crate) type MailboxTable<J, A> = Table<Option<Mail<J, A>>, View<J>, (), MailboxRule<A>, Global>;
@@ -49,4 +52,26 @@ pub(crate) fn word_count(mailboxes: usize) -> usize
     ensures { result ≡ words_of mailboxes }
 {
     APART * (mailboxes + 1)
+}
+
+// A step on the word of a mailbox, and what the word was before.
+pub(crate) fn step_word<J, A: Answers<J>, P: Play<Option<Mail<J, A>>, View<J>>>(
+    shared: &SharedTable<J, A>,
+    seat: &mut MailboxSeat<J, A>,
+    mailbox: usize,
+    old: u64,
+    new: u64,
+) -> u64
+    requires own { seat.old.table_id ≡ shared.now.table_id }
+    requires sized { IsSized shared.now.table_id }
+    requires within { mailbox < shared.now.table_id.slots }
+    requires allowed { MayStep (λ j a. A.fits (A.label j) a) P.then shared.now.table_id.slots seat.old mailbox old new }
+    ensures seat { (seat.new.table_id ≡ seat.old.table_id) × (seat.new.id ≡ seat.old.id) }
+    ensures told { P.then
+        (step shared.now.table_id.slots (word_of mailbox) old new none)
+        seat.old.me
+        result
+        seat.new.me }
+{
+    shared.compare_exchange::<P>(seat, word_index(mailbox), old, new)
 }

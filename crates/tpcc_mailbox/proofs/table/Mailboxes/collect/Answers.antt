@@ -4,24 +4,28 @@ use Rattle.tpcc_mailbox.specs.declared.rule.Mail.TheVariants.{Reply}
 use Rattle.tpcc_mailbox.proofs.Keeps.{collects, slot_is_exchanged, is_seat_with}
 use Rattle.tpcc_mailbox.proofs.table.Mailboxes.collect.Goals as goal
 
-pub compare_exchange-requires : goal.compare_exchange-requires
-compare_exchange-requires g c = (search rules, search rules, rw c.word_index-word.ensures (collects (λ j a. g.A.Answers.fits (g.A.Answers.label j) a) _ _ _ _ c.args.waiting.letter.value (search rules) (ap (λ s. s.me.0.roles) c.args.waiting.sent)))
+pub step_word-requires-clause-allowed : goal.step_word-requires-clause-allowed
+step_word-requires-clause-allowed g c = collects (λ j a. g.A.Answers.fits (g.A.Answers.label j) a) _ _ _ _ c.args.waiting.letter.value (search rules) (ap (λ s. s.me.0.roles) c.args.waiting.sent)
 
 pub invariant_of-result : goal.invariant_of-result
-invariant_of-result g c = let same = (c.compare_exchange.ensures.2 _ _ (ap (λ s. s.me.0.roles) c.args.waiting.sent)).1 (search rules) in record {
+invariant_of-result g c = let same = (c.step_word.ensures.told _ _ (ap (λ s. s.me.0.roles) c.args.waiting.sent)).1 c.if-step_word-ne-ANSWERED.true in record {
   within = search rules;
   sized = search rules;
   sent = is_seat_with _ _ _ (ap (λ m. m.0.roles) same ∙ ap (λ s. s.me.0.roles) c.args.waiting.sent) (ap (λ m. m.1) same ∙ ap (λ s. s.me.1) c.args.waiting.sent);
 }
 
 pub exchange-found-requires : goal.exchange-found-requires
-exchange-found-requires g c = let got = (c.compare_exchange.ensures.2 _ _ (ap (λ s. s.me.0.roles) c.args.waiting.sent)).0 (search rules) in
+exchange-found-requires g c = let got = (c.step_word.ensures.told _ _ (ap (λ s. s.me.0.roles) c.args.waiting.sent)).0 c.if-step_word-ne-ANSWERED.false in
     (search rules, (Some (Reply got.0), ap (λ m. m.1) got.2 ∙ ap (λ l. (c.args.waiting.mailbox, Some (Reply got.0)) ∷ rest l) (sym (ap (λ m. m.1) got.2))))
 
 pub invariant_of-idle : goal.invariant_of-idle
-invariant_of-idle g c = let got = (c.compare_exchange.ensures.2 _ _ (ap (λ s. s.me.0.roles) c.args.waiting.sent)).0 (search rules) in
+invariant_of-idle g c = let got = (c.step_word.ensures.told _ _ (ap (λ s. s.me.0.roles) c.args.waiting.sent)).0 c.if-step_word-ne-ANSWERED.false in
     let took = slot_is_exchanged _ _ _ _ (Some (Reply got.0)) _ (ap (λ m. m.0.roles) got.2) (ap (λ m. m.1) got.2 ∙ ap (λ s. (c.args.waiting.mailbox, Some (Reply got.0)) ∷ s.me.1) c.args.waiting.sent) c.exchange-found.ensures.3 in record {
       within = search rules;
       sized = search rules;
       free = is_seat_with _ _ _ took.0 took.1;
     }
+
+pub returns-clause-closed : goal.returns-clause-closed
+returns-clause-closed g c = let got = (c.step_word.ensures.told _ _ (ap (λ s. s.me.0.roles) c.args.waiting.sent)).0 c.if-step_word-ne-ANSWERED.false in
+    ap (λ m. m.0.closed) c.exchange-found.ensures.3 ∙ ap (λ m. m.0.closed) got.2
