@@ -1,7 +1,7 @@
-use Rattle.std.proofs.Common.{rules, sym, ap, ◌∙◌, ◌∷◌, Some}
+use Rattle.std.proofs.Common.{rules, sym, ap, subst, ◌∙◌, ◌∷◌, Some}
 use Rattle.atomic_table.specs.Table.{rest}
 use Rattle.tpcc_mailbox.specs.declared.rule.Mail.TheVariants.{Reply}
-use Rattle.tpcc_mailbox.proofs.Keeps.{collects, slot_is_exchanged, is_seat_with}
+use Rattle.tpcc_mailbox.proofs.Keeps.{collects, reply_or, slot_is_exchanged, is_seat_with}
 use Rattle.tpcc_mailbox.proofs.table.Mailboxes.collect.Goals as goal
 
 pub step_word-requires-clause-allowed : goal.step_word-requires-clause-allowed
@@ -29,3 +29,11 @@ invariant_of-idle g c = let got = (c.step_word.ensures.told _ _ (ap (λ s. s.me.
 pub returns-clause-closed : goal.returns-clause-closed
 returns-clause-closed g c = let got = (c.step_word.ensures.told _ _ (ap (λ s. s.me.0.roles) c.args.waiting.sent)).0 c.if-step_word-ne-ANSWERED.false in
     ap (λ m. m.0.closed) c.exchange-found.ensures.3 ∙ ap (λ m. m.0.closed) got.2
+
+pub returns-clause-fits : goal.returns-clause-fits
+returns-clause-fits g c = let got = (c.step_word.ensures.told _ _ (ap (λ s. s.me.0.roles) c.args.waiting.sent)).0 c.if-step_word-ne-ANSWERED.false in
+    let is = ap (reply_or got.0) (sym (ap (λ m. m.1) got.2) ∙ (c.exchange-found.ensures.2 ∙ ap (λ x. (c.args.waiting.mailbox, x) ∷ rest c.step_word.new.seat.me.1) (c.in-Some-Reply.is ∙ ap Some c.in-Some-Reply.field-0-is))) in
+    subst (λ a. g.A.Answers.fits (g.A.Answers.label c.args.waiting.letter.value) a) (is ∙ sym c.take_out-answer.ensures.answer) got.1
+
+pub unreachable-requires : goal.unreachable-requires
+unreachable-requires g c = let got = (c.step_word.ensures.told _ _ (ap (λ s. s.me.0.roles) c.args.waiting.sent)).0 c.if-step_word-ne-ANSWERED.false in search rules

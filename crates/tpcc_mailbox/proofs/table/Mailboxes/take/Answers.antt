@@ -2,7 +2,7 @@ use Rattle.std.proofs.Common.{rules, refl, sym, ap, ◌∙◌, ◌∷◌, ◌≤
 use Rattle.tpcc_mailbox.specs.Rule.{hand_bound, hand_in, splits_in}
 use Rattle.atomic_table.specs.Table.{rest}
 use Rattle.tpcc_mailbox.specs.declared.rule.Mail.TheVariants.{Letter}
-use Rattle.tpcc_mailbox.proofs.Keeps.{takes_letter, slot_is_exchanged, free_server, seated_server, seated_holder}
+use Rattle.tpcc_mailbox.proofs.Keeps.{takes_letter, letter_or, slot_is_exchanged, free_server, seated_server, seated_holder}
 use Rattle.tpcc_mailbox.proofs.table.Mailboxes.take.Goals as goal
 
 pub step_word-requires-clause-allowed : goal.step_word-requires-clause-allowed
@@ -31,7 +31,9 @@ pub unreachable-requires : goal.unreachable-requires
 unreachable-requires g c = let was = free_server _ c.args.serving.now.serves c.requires.free in let got = (c.step_word.ensures.told _ was.0).0 c.if-step_word-ne-POSTED.false c.args.k refl in search rules
 
 pub returns-clause-hand : goal.returns-clause-hand
-returns-clause-hand g c = let was = free_server _ c.args.serving.now.serves c.requires.free in let got = (c.step_word.ensures.told _ was.0).0 c.if-step_word-ne-POSTED.false c.args.k refl in search rules
+returns-clause-hand g c = let was = free_server _ c.args.serving.now.serves c.requires.free in let got = (c.step_word.ensures.told _ was.0).0 c.if-step_word-ne-POSTED.false c.args.k refl in
+    let is = ap (letter_or got.0) (sym (ap (λ m. m.1) got.1) ∙ (c.exchange-found.ensures.2 ∙ ap (λ x. (c.args.k, x) ∷ rest c.step_word.new.seat.me.1) (c.in-Some-Letter.is ∙ ap Some c.in-Some-Letter.field-0-is))) in
+    ap (λ m. hand_in m.0.roles) c.exchange-found.ensures.3 ∙ (ap (λ m. hand_in m.0.roles) got.1 ∙ ap (λ j. Some (c.args.k, j)) (is ∙ sym c.open-letter.ensures.letter))
 
 pub returns-clause-closed : goal.returns-clause-closed
 returns-clause-closed g c = let was = free_server _ c.args.serving.now.serves c.requires.free in let got = (c.step_word.ensures.told _ was.0).0 c.if-step_word-ne-POSTED.false c.args.k refl in ap (λ m. m.0.closed) c.exchange-found.ensures.3 ∙ ap (λ m. m.0.closed) got.1
