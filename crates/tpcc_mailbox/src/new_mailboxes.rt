@@ -9,7 +9,9 @@ use crate::answers::Answers;
 use crate::plays::{FirstCollecting, MakingClient, MakingServer};
 use crate::room::Room;
 use crate::rule::{ANSWERED, FREE, OPEN};
-use crate::table::{MailboxSeat, MailboxTable, Mailboxes, step_word, word_count, word_index};
+use crate::table::{
+    MailboxSeat, MailboxTable, Mailboxes, split_seat, step_word, word_count, word_index,
+};
 use crate::tokens::{Idle, Serving};
 use atomic_table::Table;
 use std::alloc::{AllocError, Global};
@@ -69,7 +71,7 @@ fn first_idle<J, A: Answers<J>>(
     ensures number { idle_mailbox result ≡ mailbox }
     ensures open { idle_saw_closed result ≡ false }
 {
-    let mut seat = table.shared.split_seat::<MakingClient>(first);
+    let mut seat = split_seat::<J, A, MakingClient>(&table.shared, first);
     step_word::<J, A, FirstCollecting>(&table.shared, &mut seat, mailbox, ANSWERED, FREE);
     Idle {
         seat,
@@ -153,7 +155,7 @@ impl<J, A: Answers<J> + Drop> Mailboxes<J, A> {
     {
         let (table, mut first, rooms, mut idles) = reserve_new(alloc, n)?;
         first_idles(&table, &mut first, rooms, &mut idles);
-        let seat = table.shared.split_seat::<MakingServer>(&mut first);
+        let seat = split_seat::<J, A, MakingServer>(&table.shared, &mut first);
         let mailboxes = Mailboxes {
             table,
             count: n,

@@ -5,7 +5,7 @@ ghost use Rattle.tpcc_mailbox.specs.Tokens.{identity, mailbox_count, serving_ori
 use crate::answers::Answers;
 use crate::plays::{Answering, Closing, Reading, SplittingServer, Taking};
 use crate::rule::{ANSWERED, CLOSED, Mail, POSTED, TAKEN};
-use crate::table::{Mailboxes, step_word, word_index};
+use crate::table::{Mailboxes, split_seat, step_word, word_index};
 use crate::tokens::{Serving, Taken};
 use std::snapshot::Snapshot;
 
@@ -124,10 +124,7 @@ impl<J, A: Answers<J>> Serving<J, A> {
             × (serving_saw_closed result ≡ serving_saw_closed self.old) }
     {
         Serving {
-            seat: mailboxes
-                .table
-                .shared
-                .split_seat::<SplittingServer>(&mut self.seat),
+            seat: split_seat::<J, A, SplittingServer>(&mailboxes.table.shared, &mut self.seat),
         }
     }
 }

@@ -1,14 +1,14 @@
 //! The mailboxes as threads share them.
-ghost use Rattle.std.specs.Prelude.{◌≡◌, ◌<◌, ◌≤◌};
+ghost use Rattle.std.specs.Prelude.{◌≡◌, ◌<◌, ◌≤◌, []};
 ghost use mathlib.Core.Option.{none};
-ghost use Rattle.atomic_table.specs.Table.{step};
+ghost use Rattle.atomic_table.specs.Table.{step, Splits};
 ghost use Rattle.tpcc_mailbox.specs.Steps.{MayStep};
 ghost use Rattle.tpcc_mailbox.specs.declared.table.TheConstants.{MOST_MAILBOXES};
-ghost use Rattle.tpcc_mailbox.specs.Rule.{IsSized, word_of, words_of};
+ghost use Rattle.tpcc_mailbox.specs.Rule.{IsSized, Ruled, word_of, words_of};
 
 use crate::answers::Answers;
 use crate::rule::{Mail, MailboxRule, View};
-use atomic_table::{Play, Seat, Shared, Table};
+use atomic_table::{Play, Seat, Shared, Split, Table};
 use std::alloc::Global;
 
 pub(crate) type MailboxTable<J, A> = Table<Option<Mail<J, A>>, View<J>, (), MailboxRule<A>, Global>;
@@ -74,4 +74,25 @@ pub(crate) fn step_word<J, A: Answers<J>, P: Play<Option<Mail<J, A>>, View<J>>>(
         seat.new.me }
 {
     shared.compare_exchange::<P>(seat, word_index(mailbox), old, new)
+}
+
+// Cuts a seat in two: this one, and one with nothing in hand.
+pub(crate) fn split_seat<J, A: Answers<J>, P: Split<View<J>>>(
+    shared: &SharedTable<J, A>,
+    seat: &mut MailboxSeat<J, A>,
+) -> MailboxSeat<J, A>
+    requires own { seat.old.table_id ≡ shared.now.table_id }
+    requires words { 0 < shared.now.table_id.words }
+    requires splits { Splits
+        (Ruled (λ j a. A.fits (A.label j) a))
+        seat.old.id
+        seat.old.me.0
+        (P.left seat.old.me.0)
+        (P.right seat.old.me.0) }
+    ensures left { (seat.new.table_id ≡ seat.old.table_id)
+        × (seat.new.me ≡ (P.left seat.old.me.0, seat.old.me.1)) }
+    ensures right { (result.table_id ≡ seat.old.table_id)
+        × (result.me ≡ (P.right seat.old.me.0, [])) }
+{
+    shared.split_seat::<P>(seat)
 }

@@ -1,4 +1,4 @@
-use Rattle.std.proofs.Common.{rules, sym, ap, ◌≤◌, ◌∙◌, ◌++◌, ◌∷◌, [], subst, arith}
+use Rattle.std.proofs.Common.{rules, sym, ap, ◌≤◌, ◌∙◌, ◌++◌, ◌∷◌, [], subst}
 use Rattle.tpcc_mailbox.specs.Rule.{hand_bound, hand_in, splits_in}
 use Rattle.tpcc_mailbox.proofs.Keeps.{answers, slot_is_exchanged, busy_server, seated_server}
 use Rattle.tpcc_mailbox.proofs.table.Mailboxes.answer.Goals as goal
