@@ -6,7 +6,7 @@ use crate::answers::Answers;
 use crate::plays::{Collecting, Posting, Reading};
 use crate::room::Posted;
 use crate::rule::{ANSWERED, CLOSED, FREE, Mail, POSTED};
-use crate::table::{Mailboxes, step_word, word_index};
+use crate::table::{Mailboxes, load_word, step_word, word_index};
 use crate::tokens::{Idle, Waiting};
 use std::snapshot::Snapshot;
 
@@ -88,9 +88,7 @@ impl<J, A: Answers<J>> Mailboxes<J, A> {
         ensures closed { waiting_saw_closed waiting.new ≡ result }
         ensures again { waiting_saw_closed waiting.old ≡ true → result ≡ true }
     {
-        self.table
-            .shared
-            .load::<Reading>(&mut waiting.seat, word_index(self.count))
-            == CLOSED
+        let shared = &self.table.shared;
+        load_word::<J, A, Reading>(shared, &mut waiting.seat, word_index(self.count)) == CLOSED
     }
 }

@@ -5,7 +5,7 @@ ghost use Rattle.tpcc_mailbox.specs.Tokens.{identity, mailbox_count, serving_ori
 use crate::answers::Answers;
 use crate::plays::{Answering, Closing, Reading, SplittingServer, Taking};
 use crate::rule::{ANSWERED, CLOSED, Mail, POSTED, TAKEN};
-use crate::table::{Mailboxes, split_seat, step_word, word_index};
+use crate::table::{Mailboxes, load_word, split_seat, step_word, word_index};
 use crate::tokens::{Serving, Taken};
 use std::snapshot::Snapshot;
 
@@ -99,10 +99,8 @@ impl<J, A: Answers<J>> Mailboxes<J, A> {
         ensures splits { serving_splits serving.new ≡ serving_splits serving.old }
         ensures answered { serving_answered serving.new ≡ serving_answered serving.old }
     {
-        self.table
-            .shared
-            .load::<Reading>(&mut serving.seat, word_index(self.count))
-            == CLOSED
+        let shared = &self.table.shared;
+        load_word::<J, A, Reading>(shared, &mut serving.seat, word_index(self.count)) == CLOSED
     }
 }
 

@@ -1,7 +1,7 @@
 //! The mailboxes as threads share them.
 ghost use Rattle.std.specs.Prelude.{◌≡◌, ◌<◌, ◌≤◌, []};
 ghost use mathlib.Core.Option.{none};
-ghost use Rattle.atomic_table.specs.Table.{step, Splits};
+ghost use Rattle.atomic_table.specs.Table.{step, Allows, Splits};
 ghost use Rattle.tpcc_mailbox.specs.Steps.{MayStep};
 ghost use Rattle.tpcc_mailbox.specs.declared.table.TheConstants.{MOST_MAILBOXES};
 ghost use Rattle.tpcc_mailbox.specs.Rule.{IsSized, Ruled, word_of, words_of};
@@ -74,6 +74,32 @@ pub(crate) fn step_word<J, A: Answers<J>, P: Play<Option<Mail<J, A>>, View<J>>>(
         seat.new.me }
 {
     shared.compare_exchange::<P>(seat, word_index(mailbox), old, new)
+}
+
+// A look at a word, and what it was.
+pub(crate) fn load_word<J, A: Answers<J>, P: Play<Option<Mail<J, A>>, View<J>>>(
+    shared: &SharedTable<J, A>,
+    seat: &mut MailboxSeat<J, A>,
+    word: usize,
+) -> u64
+    requires own { seat.old.table_id ≡ shared.now.table_id }
+    requires within { word < shared.now.table_id.words }
+    requires allowed { Allows
+        (Ruled (λ j a. A.fits (A.label j) a))
+        shared.now.table_id.slots
+        seat.old.id
+        seat.old.me
+        word
+        (λ n. n)
+        (P.then (step shared.now.table_id.slots word 0 0 none) seat.old.me) }
+    ensures seat { (seat.new.table_id ≡ seat.old.table_id) × (seat.new.id ≡ seat.old.id) }
+    ensures told { P.then
+        (step shared.now.table_id.slots word 0 0 none)
+        seat.old.me
+        result
+        seat.new.me }
+{
+    shared.load::<P>(seat, word)
 }
 
 // Cuts a seat in two: this one, and one with nothing in hand.
