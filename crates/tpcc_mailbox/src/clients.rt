@@ -6,7 +6,7 @@ use crate::answers::Answers;
 use crate::plays::{Collecting, Posting, Reading};
 use crate::room::Posted;
 use crate::rule::{ANSWERED, CLOSED, FREE, Mail, POSTED};
-use crate::table::{Mailboxes, load_word, step_word, word_index};
+use crate::table::{Mailboxes, exchange_slot, load_word, step_word, word_index};
 use crate::tokens::{Idle, Waiting};
 use std::snapshot::Snapshot;
 
@@ -27,7 +27,7 @@ impl<J, A: Answers<J>> Mailboxes<J, A> {
         let shared = &self.table.shared;
         let kept = Snapshot::of(&letter);
         let posted = Mail::Letter(Posted::new(letter, room));
-        let was = shared.exchange(&mut seat, mailbox, Some(posted));
+        let was = exchange_slot(shared, &mut seat, mailbox, Some(posted));
         let None = was else { unreachable!() };
         step_word::<J, A, Posting>(shared, &mut seat, mailbox, FREE, POSTED);
         Waiting {
@@ -65,7 +65,7 @@ impl<J, A: Answers<J>> Mailboxes<J, A> {
                 letter,
             });
         }
-        let found = shared.exchange(&mut seat, mailbox, None);
+        let found = exchange_slot(shared, &mut seat, mailbox, None);
         let Some(Mail::Reply(answered)) = found else {
             unreachable!()
         };

@@ -5,7 +5,7 @@ ghost use Rattle.tpcc_mailbox.specs.Tokens.{identity, mailbox_count, serving_ori
 use crate::answers::Answers;
 use crate::plays::{Answering, Closing, Reading, SplittingServer, Taking};
 use crate::rule::{ANSWERED, CLOSED, Mail, POSTED, TAKEN};
-use crate::table::{Mailboxes, load_word, split_seat, step_word, word_index};
+use crate::table::{Mailboxes, exchange_slot, load_word, split_seat, step_word, word_index};
 use crate::tokens::{Serving, Taken};
 use std::snapshot::Snapshot;
 
@@ -35,7 +35,7 @@ impl<J, A: Answers<J>> Mailboxes<J, A> {
         if step_word::<J, A, Taking>(shared, &mut serving.seat, k, POSTED, TAKEN) != POSTED {
             return None;
         }
-        let found = shared.exchange(&mut serving.seat, k, None);
+        let found = exchange_slot(shared, &mut serving.seat, k, None);
         let Some(Mail::Letter(posted)) = found else {
             unreachable!()
         };
@@ -68,7 +68,7 @@ impl<J, A: Answers<J>> Mailboxes<J, A> {
         } = taken;
         let answered = Mail::Reply(room.fill(answer));
         let shared = &self.table.shared;
-        let was = shared.exchange(&mut serving.seat, mailbox, Some(answered));
+        let was = exchange_slot(shared, &mut serving.seat, mailbox, Some(answered));
         let None = was else { unreachable!() };
         step_word::<J, A, Answering>(shared, &mut serving.seat, mailbox, TAKEN, ANSWERED);
     }

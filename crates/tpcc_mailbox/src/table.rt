@@ -1,7 +1,7 @@
 //! The mailboxes as threads share them.
-ghost use Rattle.std.specs.Prelude.{◌≡◌, ◌<◌, ◌≤◌, []};
+ghost use Rattle.std.specs.Prelude.{◌≡◌, ◌<◌, ◌≤◌, [], ◌∷◌};
 ghost use mathlib.Core.Option.{none};
-ghost use Rattle.atomic_table.specs.Table.{step, Allows, Splits};
+ghost use Rattle.atomic_table.specs.Table.{rest, step, Allows, Splits};
 ghost use Rattle.tpcc_mailbox.specs.Steps.{MayStep};
 ghost use Rattle.tpcc_mailbox.specs.declared.table.TheConstants.{MOST_MAILBOXES};
 ghost use Rattle.tpcc_mailbox.specs.Rule.{IsSized, Ruled, word_of, words_of};
@@ -100,6 +100,22 @@ pub(crate) fn load_word<J, A: Answers<J>, P: Play<Option<Mail<J, A>>, View<J>>>(
         seat.new.me }
 {
     shared.load::<P>(seat, word)
+}
+
+// Changes what lies in the slot that a seat has in hand.
+pub(crate) fn exchange_slot<J, A: Answers<J>>(
+    shared: &SharedTable<J, A>,
+    seat: &mut MailboxSeat<J, A>,
+    mailbox: usize,
+    new: Option<Mail<J, A>>,
+) -> Option<Mail<J, A>>
+    requires own { seat.old.table_id ≡ shared.now.table_id }
+    requires has { (was : _) × (seat.old.me.1 ≡ (mailbox, was) ∷ rest seat.old.me.1) }
+    ensures seat { (seat.new.table_id ≡ seat.old.table_id) × (seat.new.id ≡ seat.old.id) }
+    ensures was { seat.old.me.1 ≡ (mailbox, result) ∷ rest seat.old.me.1 }
+    ensures now { seat.new.me ≡ (seat.old.me.0, (mailbox, new) ∷ rest seat.old.me.1) }
+{
+    shared.exchange(seat, mailbox, new)
 }
 
 // Cuts a seat in two: this one, and one with nothing in hand.
