@@ -35,9 +35,18 @@ module _ {J A : Type 0} where
   letter_in z (Some (Letter j)) = j
   letter_in z _ = z
 
-  abbrev letter_or : J → List (ℕ × Option (Mail J A)) → J
+  -- the letter, or the answer, in the first slot
+  abbrev pub letter_or : J → List (ℕ × Option (Mail J A)) → J
   letter_or z (x ∷ _) = letter_in z x.1
   letter_or z [] = z
+
+  abbrev reply_in : A → Option (Mail J A) → A
+  reply_in z (Some (Reply a)) = a
+  reply_in z _ = z
+
+  abbrev pub reply_or : A → List (ℕ × Option (Mail J A)) → A
+  reply_or z (x ∷ _) = reply_in z x.1
+  reply_or z [] = z
 
 module _ {J A : Type 0} (fits : J → A → Type 0) where
   abbrev M : Type 0

@@ -6,7 +6,7 @@ use crate::answers::Answers;
 use crate::plays::{Collecting, Posting, Reading};
 use crate::room::Posted;
 use crate::rule::{ANSWERED, CLOSED, FREE, Mail, POSTED};
-use crate::table::{Mailboxes, word_index};
+use crate::table::{Mailboxes, exchange_slot, load_word, step_word, word_index};
 use crate::tokens::{Idle, Waiting};
 use std::snapshot::Snapshot;
 
@@ -27,9 +27,9 @@ impl<J, A: Answers<J>> Mailboxes<J, A> {
         let shared = &self.table.shared;
         let kept = Snapshot::of(&letter);
         let posted = Mail::Letter(Posted::new(letter, room));
-        let was = shared.exchange(&mut seat, mailbox, Some(posted));
+        let was = exchange_slot(shared, &mut seat, mailbox, Some(posted));
         let None = was else { unreachable!() };
-        shared.compare_exchange::<Posting>(&mut seat, word_index(mailbox), FREE, POSTED);
+        step_word::<J, A, Posting>(shared, &mut seat, mailbox, FREE, POSTED);
         Waiting {
             seat,
             mailbox,
@@ -50,8 +50,7 @@ impl<J, A: Answers<J>> Mailboxes<J, A> {
     {
         let shared = &self.table.shared;
         // A plain load first: a failed exchange would take the cache line from the server at work.
-        let word = word_index(waiting.mailbox);
-        if shared.peek(word) != ANSWERED {
+        if shared.peek(word_index(waiting.mailbox)) != ANSWERED {
             return Err(waiting);
         }
         let Waiting {
@@ -59,14 +58,14 @@ impl<J, A: Answers<J>> Mailboxes<J, A> {
             mailbox,
             letter,
         } = waiting;
-        if shared.compare_exchange::<Collecting>(&mut seat, word, ANSWERED, FREE) != ANSWERED {
+        if step_word::<J, A, Collecting>(shared, &mut seat, mailbox, ANSWERED, FREE) != ANSWERED {
             return Err(Waiting {
                 seat,
                 mailbox,
                 letter,
             });
         }
-        let found = shared.exchange(&mut seat, mailbox, None);
+        let found = exchange_slot(shared, &mut seat, mailbox, None);
         let Some(Mail::Reply(answered)) = found else {
             unreachable!()
         };
@@ -89,9 +88,7 @@ impl<J, A: Answers<J>> Mailboxes<J, A> {
         ensures closed { waiting_saw_closed waiting.new ≡ result }
         ensures again { waiting_saw_closed waiting.old ≡ true → result ≡ true }
     {
-        self.table
-            .shared
-            .load::<Reading>(&mut waiting.seat, word_index(self.count))
-            == CLOSED
+        let shared = &self.table.shared;
+        load_word::<J, A, Reading>(shared, &mut waiting.seat, word_index(self.count)) == CLOSED
     }
 }

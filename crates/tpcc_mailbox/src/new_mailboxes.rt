@@ -1,5 +1,5 @@
 //! Mailboxes that are made.
-ghost use Rattle.std.specs.Prelude.{◌≡◌, ◌+◌, ◌<◌, ◌≤◌, false, [], replicate, set, vec_len, All, IfOk, None};
+ghost use Rattle.std.specs.Prelude.{◌≡◌, ◌+◌, ◌<◌, ◌≤◌, false, [], replicate, set, vec_len, vec_capacity, All, IfOk, None};
 ghost use Rattle.tpcc_mailbox.specs.Rule.{IsSized, opener, view_with, word_of, words_of};
 ghost use Rattle.tpcc_mailbox.specs.Views.{Opening};
 ghost use Rattle.tpcc_mailbox.specs.declared.table.TheConstants.{MOST_MAILBOXES};
@@ -9,7 +9,9 @@ use crate::answers::Answers;
 use crate::plays::{FirstCollecting, MakingClient, MakingServer};
 use crate::room::Room;
 use crate::rule::{ANSWERED, FREE, OPEN};
-use crate::table::{MailboxSeat, MailboxTable, Mailboxes, word_count, word_index};
+use crate::table::{
+    MailboxSeat, MailboxTable, Mailboxes, split_seat, step_word, word_count, word_index,
+};
 use crate::tokens::{Idle, Serving};
 use atomic_table::Table;
 use std::alloc::{AllocError, Global};
@@ -43,10 +45,10 @@ fn open_table<J, A: Answers<J> + Drop>(
     count: usize,
 ) -> Result<(MailboxTable<J, A>, MailboxSeat<J, A>), AllocError>
     requires { count ≤ MOST_MAILBOXES }
-    ensures sized { IfOk result (λ r. IsSized r.0.shared.table_id) }
-    ensures slots { IfOk result (λ r. r.0.shared.table_id.slots ≡ count) }
-    ensures fits { IfOk result (λ r. r.1.table_id ≡ r.0.shared.table_id) }
-    ensures opens { IfOk result (λ r. r.1.me.0 ≡ opener) }
+    ensures opens { IfOk result (λ r. IsSized r.0.shared.table_id
+        × (r.0.shared.table_id.slots ≡ count)
+        × (r.1.table_id ≡ r.0.shared.table_id)
+        × (r.1.me.0 ≡ opener)) }
 {
     let words = first_words(alloc, count)?;
     Table::vacant(alloc, words.as_slice(), count, &())
@@ -69,14 +71,66 @@ fn first_idle<J, A: Answers<J>>(
     ensures number { idle_mailbox result ≡ mailbox }
     ensures open { idle_saw_closed result ≡ false }
 {
-    let mut seat = table.shared.split_seat::<MakingClient>(first);
-    table
-        .shared
-        .compare_exchange::<FirstCollecting>(&mut seat, word_index(mailbox), ANSWERED, FREE);
+    let mut seat = split_seat::<J, A, MakingClient>(&table.shared, first);
+    step_word::<J, A, FirstCollecting>(&table.shared, &mut seat, mailbox, ANSWERED, FREE);
     Idle {
         seat,
         mailbox,
         room,
+    }
+}
+
+// The memory of so many mailboxes: a table and the seat that opens them all, room for the answers, and for the tokens.
+fn reserve_new<J, A: Answers<J> + Drop>(
+    alloc: Global,
+    count: usize,
+) -> Result<
+    (
+        MailboxTable<J, A>,
+        MailboxSeat<J, A>,
+        Vec<Room<A>>,
+        Vec<Idle<J, A>>,
+    ),
+    AllocError,
+>
+    requires { count ≤ MOST_MAILBOXES }
+    ensures opens { IfOk result (λ r. IsSized r.0.shared.table_id
+        × (r.0.shared.table_id.slots ≡ count)
+        × (r.1.table_id ≡ r.0.shared.table_id)
+        × (r.1.me.0 ≡ opener)) }
+    ensures room { IfOk result (λ r. (vec_len r.2 ≡ count)
+        × (r.3.items ≡ [])
+        × (count ≤ vec_capacity r.3)) }
+{
+    let idles = Vec::with_capacity(alloc, count)?;
+    let rooms = make_rooms(alloc, count)?;
+    let (table, first) = open_table(alloc, count)?;
+    Ok((table, first, rooms, idles))
+}
+
+// The tokens of all mailboxes, in order.
+fn first_idles<J, A: Answers<J> + Drop>(
+    table: &MailboxTable<J, A>,
+    first: &mut MailboxSeat<J, A>,
+    mut rooms: Vec<Room<A>>,
+    idles: &mut Vec<Idle<J, A>>,
+)
+    requires fits { first.old.table_id ≡ table.now.shared.table_id }
+    requires sized { IsSized table.now.shared.table_id }
+    requires opens { first.old.me.0 ≡ opener }
+    requires room { (vec_len rooms ≡ table.now.shared.table_id.slots)
+        × (idles.old.items ≡ [])
+        × (table.now.shared.table_id.slots ≤ vec_capacity idles.old) }
+    ensures fits { first.new.table_id ≡ table.now.shared.table_id }
+    ensures opens { first.new.me.0 ≡ view_with (Opening table.now.shared.table_id.slots) false [] }
+    ensures len { vec_len idles.new ≡ table.now.shared.table_id.slots }
+    ensures numbers { AreNewIdles table.now.shared.table_id idles.new.items }
+{
+    for k in 0..rooms.len() {
+        let Some(room) = rooms.pop() else {
+            unreachable!()
+        };
+        idles.push_reserved(first_idle(table, first, k, room));
     }
 }
 
@@ -99,16 +153,9 @@ impl<J, A: Answers<J> + Drop> Mailboxes<J, A> {
         ensures answered { IfOk result (λ r. serving_answered r.2 ≡ []) }
         ensures open { IfOk result (λ r. serving_saw_closed r.2 ≡ false) }
     {
-        let mut idles = Vec::with_capacity(alloc, n)?;
-        let mut rooms = make_rooms(alloc, n)?;
-        let (table, mut first) = open_table(alloc, n)?;
-        for k in 0..n {
-            let Some(room) = rooms.pop() else {
-                unreachable!()
-            };
-            idles.push_reserved(first_idle(&table, &mut first, k, room));
-        }
-        let seat = table.shared.split_seat::<MakingServer>(&mut first);
+        let (table, mut first, rooms, mut idles) = reserve_new(alloc, n)?;
+        first_idles(&table, &mut first, rooms, &mut idles);
+        let seat = split_seat::<J, A, MakingServer>(&table.shared, &mut first);
         let mailboxes = Mailboxes {
             table,
             count: n,

@@ -5,7 +5,7 @@ ghost use Rattle.tpcc_mailbox.specs.Tokens.{identity, mailbox_count, serving_ori
 use crate::answers::Answers;
 use crate::plays::{Answering, Closing, Reading, SplittingServer, Taking};
 use crate::rule::{ANSWERED, CLOSED, Mail, POSTED, TAKEN};
-use crate::table::{Mailboxes, word_index};
+use crate::table::{Mailboxes, exchange_slot, load_word, split_seat, step_word, word_index};
 use crate::tokens::{Serving, Taken};
 use std::snapshot::Snapshot;
 
@@ -29,14 +29,13 @@ impl<J, A: Answers<J>> Mailboxes<J, A> {
         }
         let shared = &self.table.shared;
         // A plain load first: a failed exchange would take the cache line from the client or the server there.
-        let word = word_index(k);
-        if shared.peek(word) != POSTED {
+        if shared.peek(word_index(k)) != POSTED {
             return None;
         }
-        if shared.compare_exchange::<Taking>(&mut serving.seat, word, POSTED, TAKEN) != POSTED {
+        if step_word::<J, A, Taking>(shared, &mut serving.seat, k, POSTED, TAKEN) != POSTED {
             return None;
         }
-        let found = shared.exchange(&mut serving.seat, k, None);
+        let found = exchange_slot(shared, &mut serving.seat, k, None);
         let Some(Mail::Letter(posted)) = found else {
             unreachable!()
         };
@@ -69,14 +68,9 @@ impl<J, A: Answers<J>> Mailboxes<J, A> {
         } = taken;
         let answered = Mail::Reply(room.fill(answer));
         let shared = &self.table.shared;
-        let was = shared.exchange(&mut serving.seat, mailbox, Some(answered));
+        let was = exchange_slot(shared, &mut serving.seat, mailbox, Some(answered));
         let None = was else { unreachable!() };
-        shared.compare_exchange::<Answering>(
-            &mut serving.seat,
-            word_index(mailbox),
-            TAKEN,
-            ANSWERED,
-        );
+        step_word::<J, A, Answering>(shared, &mut serving.seat, mailbox, TAKEN, ANSWERED);
     }
 
     /// Closes the mailboxes, which may be closed already. It raises a flag and stops nothing: letters
@@ -105,10 +99,8 @@ impl<J, A: Answers<J>> Mailboxes<J, A> {
         ensures splits { serving_splits serving.new ≡ serving_splits serving.old }
         ensures answered { serving_answered serving.new ≡ serving_answered serving.old }
     {
-        self.table
-            .shared
-            .load::<Reading>(&mut serving.seat, word_index(self.count))
-            == CLOSED
+        let shared = &self.table.shared;
+        load_word::<J, A, Reading>(shared, &mut serving.seat, word_index(self.count)) == CLOSED
     }
 }
 
@@ -130,10 +122,7 @@ impl<J, A: Answers<J>> Serving<J, A> {
             × (serving_saw_closed result ≡ serving_saw_closed self.old) }
     {
         Serving {
-            seat: mailboxes
-                .table
-                .shared
-                .split_seat::<SplittingServer>(&mut self.seat),
+            seat: split_seat::<J, A, SplittingServer>(&mailboxes.table.shared, &mut self.seat),
         }
     }
 }

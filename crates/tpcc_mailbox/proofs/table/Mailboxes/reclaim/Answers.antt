@@ -1,7 +1,9 @@
-use Rattle.std.proofs.Common.{rules, ◌≡◌, arith, ap, ◌∙◌, ◌++◌, map}
+use Rattle.std.proofs.Common.{rules, ◌≡◌, ◌+◌, ◌*◌, arith, ap, sym, refl, ◌∙◌, ◌++◌, map, length}
 use Rattle.std.proofs.lemmas.Grind.{common_steps}
+use Rattle.std.proofs.lemmas.List.{length-map}
 use Rattle.std.specs.Slots.{slots_items, slots_counts}
-use Rattle.tpcc_mailbox.specs.Tokens.{client_origin}
+use Rattle.tpcc_mailbox.specs.Rule.{words_of}
+use Rattle.tpcc_mailbox.specs.Tokens.{client_origin, client_mailbox}
 use Rattle.tpcc_mailbox.specs.Roles.{client_role, server_role}
 use Rattle.tpcc_mailbox.proofs.Sorting.{all_from}
 use Rattle.tpcc_mailbox.proofs.Joins.{enters}
@@ -49,3 +51,27 @@ returns-clause-in_hand g c =
     c.gather_clients.ensures.places
     (λ i k e. let near = c.gather_clients.ensures.within i k e in let n = c.close_with.ensures.counts.1 in let m = slots_counts c.close_with.result.slots in let s = c.args.self.sized in (first_of (search rules, grind (arith, common_steps))))
     c.unload.ensures.each (search rules) c.pick_out.ensures.each
+
+pub gather_clients-requires-clause-count : goal.gather_clients-requires-clause-count
+gather_clients-requires-clause-count g c = let words : c.args.self.table.shared.table_id.words ≡ 16 * (c.args.self.table.shared.table_id.slots + 1) = c.args.self.sized.words in
+    (sym c.args.self.counted, omega (arith, words, c.args.self.counted))
+
+pub gather_clients-requires-clause-room : goal.gather_clients-requires-clause-room
+gather_clients-requires-clause-room g c = (c.in-Ok.ensures.empty.2, omega (arith, c.in-Ok.ensures.room.2, c.len.ensures))
+
+pub gather_servings-requires-clause-words : goal.gather_servings-requires-clause-words
+gather_servings-requires-clause-words g c = let words : c.args.self.table.shared.table_id.words ≡ 16 * (c.args.self.table.shared.table_id.slots + 1) = c.args.self.sized.words in omega (arith, words)
+
+pub unload-requires-clause-full : goal.unload-requires-clause-full
+unload-requires-clause-full g c = let counts = c.close_with.ensures.counts in let values = c.close_with.ensures.values in
+    (values.0, values.1, counts.0 ∙ (c.args.self.sized.words ∙ ap words_of (sym counts.1)), omega (arith, counts.1, c.args.self.sized.few))
+
+pub unload-requires-clause-room : goal.unload-requires-clause-room
+unload-requires-clause-room g c = (c.in-Ok.ensures.empty.1, omega (arith, c.in-Ok.ensures.room.1, c.close_with.ensures.counts.1, c.args.self.counted))
+
+pub pick_out-requires-clause-room : goal.pick_out-requires-clause-room
+pick_out-requires-clause-room g c = let same = ap length c.gather_clients.ensures.places ∙ length-map c.args.clients.items client_mailbox in
+    (c.in-Ok.ensures.empty.0, omega (arith, c.in-Ok.ensures.room.0, c.len.ensures, same, c.gather_clients.new.places.ok.0, c.args.clients.ok.0))
+
+pub returns-in_default-clause-kept : goal.returns-in_default-clause-kept
+returns-in_default-clause-kept g c = (refl, refl, refl)
