@@ -82,3 +82,18 @@ returns-clause-kept g c = λ k has.
 
 pub index_mut-requires : goal.index_mut-requires
 index_mut-requires g c = omega (arith, c.as_slice.ensures.len, line_within (is_part (district_numbers c.owner-owner.result)) c.as_slice.result.now c.unwrap-place.result (sym c.place_of.ensures ∙ c.unwrap-place.ensures))
+
+pub overflow_add-self : goal.overflow_add-self
+overflow_add-self g c =
+    let count : c.self-2.inside.len ≡ c.self.inside.len = c.self-2.invariant.counted ∙ ap (λ (t : PartsView g.row.T.Denot). length t.rows) c.self-2.view_is ∙ ap length c.open.ensures.rows ∙ sym (c.self.invariant.counted ∙ ap (λ (t : PartsView g.row.T.Denot). length t.rows) c.self.view_is) in
+    omega (arith, count, c.if-self.false, c.self.invariant.bound)
+
+pub returns-in_err-open-clause-same : goal.returns-in_err-open-clause-same
+returns-in_err-open-clause-same g c = on_err_any c.from_residual.result c.open.ensures.rows
+
+pub returns-in_err-open-clause-room : goal.returns-in_err-open-clause-room
+returns-in_err-open-clause-room g c = on_err_any c.from_residual.result c.open.ensures.room
+
+pub returns-in_err-put-clause-room : goal.returns-in_err-put-clause-room
+returns-in_err-put-clause-room g c =
+    on_err_any c.from_residual-in_err-put.result (ap (λ (t : PartsView g.row.T.Denot). t.room) c.self-2.view_is ∙ c.open.ensures.room)
