@@ -8,7 +8,7 @@ use crate::lent::Lent;
 use crate::settled_book::{SettledBook, end_run, show_settled};
 use std::alloc::{AllocError, Global};
 use std::io::Write;
-use std::marker::Brand;
+use std::marker::{Brand, PhantomData};
 use std::sync::Wait;
 use std::thread::Threads;
 use tpcc_asked::{Part, Plan};
@@ -139,6 +139,7 @@ impl<
             rt: self.rt,
             alloc: self.alloc,
             turns: &turns,
+            of: PhantomData,
             make: self.make,
             scale,
             plan: self.plan,

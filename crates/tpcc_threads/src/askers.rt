@@ -3,6 +3,7 @@ ghost use Rattle.std.specs.Prelude.{◌<◌};
 ghost use Rattle.tpcc_audit.specs.Settlement.{AllSeen, all_receipts};
 
 use crate::duty::Duty;
+use crate::job_turns::JobTurns;
 use crate::results::ThreadResults;
 use crate::route::Route;
 use crate::terminal_threads::join_terminals;
@@ -19,9 +20,10 @@ impl<
     N: Naming + Send + Sync,
     T: Seating + Send + Sync,
     C: OneTurn + Send,
+    Q: JobTurns<N, T> + Sync,
     F: Fn(Global) -> Result<C, AllocError> + Sync,
     R: Threads + Wait + Sync,
-> RunThreads<'s, N, T, F, R> {
+> RunThreads<'s, N, T, Q, F, R> {
     /// Starts the threads of the plan's terminals and of the delivery runner, each by a route of its own, and waits for their ends. What
     /// the runner finds queued at the end it asks for on this thread. Gives the purses and receipts that came back, and `first` last;
     /// each receipt stands in one of these purses.

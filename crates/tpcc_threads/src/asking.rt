@@ -3,6 +3,7 @@ ghost use Rattle.tpcc_threads.specs.Asking.{HasAskedAll, HasAskedNext};
 ghost use Rattle.tpcc_threads.specs.Answered.{IfAll, IfAnswered};
 
 use crate::duty::Duty;
+use crate::job_turns::JobTurns;
 use crate::operator::{Asked, Operator};
 use crate::threads::RunThreads;
 use std::alloc::{AllocError, Global};
@@ -27,9 +28,10 @@ impl<
     N: Naming,
     T: Seating,
     C: OneTurn,
+    Q: JobTurns<N, T>,
     F: Fn(Global) -> Result<C, AllocError>,
     R: Wait,
-> RunThreads<'r, N, T, F, R> {
+> RunThreads<'r, N, T, Q, F, R> {
     /// Asks so many requests, each by a call of its own, or up to the duty's end.
     pub(crate) fn ask_all<'s>(
         &self,
@@ -64,7 +66,7 @@ impl<
             return Asked::Short(operator);
         };
         match operator.next_request(duty, self.plan.moment) {
-            Ok(request) => operator.ask_once(self.rt, request, call),
+            Ok(request) => operator.ask_once(self.rt, self.turns, request, call),
             Err(_) => Asked::Short(operator),
         }
     }

@@ -4,6 +4,7 @@ ghost use Rattle.tpcc_audit.specs.Settlement.{AllSeen, all_receipts};
 use crate::asking::Back;
 use crate::duty::Duty;
 use crate::fault::RunFault;
+use crate::job_turns::JobTurns;
 use crate::promises::TerminalHandle;
 use crate::results::ThreadResults;
 use crate::threads::RunThreads;
@@ -19,9 +20,10 @@ impl<
     N: Naming + Send + Sync,
     T: Seating + Send + Sync,
     C: OneTurn + Send,
+    Q: JobTurns<N, T> + Sync,
     F: Fn(Global) -> Result<C, AllocError> + Sync,
     R: Threads + Wait + Sync,
-> RunThreads<'s, N, T, F, R> {
+> RunThreads<'s, N, T, Q, F, R> {
     /// Joins the delivery runner, which then asks for what is still queued; notes where there is none.
     pub(crate) fn join_runner(
         &self,

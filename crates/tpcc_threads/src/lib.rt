@@ -19,6 +19,7 @@ mod asking;
 mod delivery_runner;
 mod duty;
 mod fault;
+mod job_turns;
 mod operator;
 mod promises;
 mod results;

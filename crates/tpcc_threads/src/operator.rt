@@ -5,6 +5,7 @@ ghost use Rattle.tpcc_threads.specs.Asking.{HasAnswered, IsNext};
 ghost use Rattle.tpcc_threads.specs.Answered.{IfAnswered};
 
 use crate::duty::{Duty, next_request};
+use crate::job_turns::JobTurns;
 use crate::route::Route;
 use std::marker::Model;
 use std::sync::Wait;
@@ -105,7 +106,13 @@ impl<'s, N: Naming, T: Seating, C> Operator<'s, N, T, C> {
 
 impl<'s, N: Naming, T: Seating, C: OneTurn> Operator<'s, N, T, C> {
     /// Asks one request, by a call of its own, and keeps its receipt.
-    pub(crate) fn ask_once<R: Wait>(self, rt: &R, request: Request, call: C) -> Asked<'s, N, T, C>
+    pub(crate) fn ask_once<Q: JobTurns<N, T>, R: Wait>(
+        self,
+        rt: &R,
+        turns: &Q,
+        request: Request,
+        call: C,
+    ) -> Asked<'s, N, T, C>
         ensures answered { IfAnswered result (HasAnswered request self.entry) }
     {
         let Operator {
@@ -114,7 +121,7 @@ impl<'s, N: Naming, T: Seating, C: OneTurn> Operator<'s, N, T, C> {
             terminal,
         } = self;
         let mut terminal = terminal;
-        let Some((route, answer)) = route.ask(rt, request, purse, call) else {
+        let Some((route, answer)) = route.ask(rt, turns, request, purse, call) else {
             return Asked::Missing;
         };
         receipts_stand();

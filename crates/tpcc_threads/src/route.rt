@@ -3,18 +3,19 @@ ghost use Rattle.std.specs.Prelude.{◌≡◌, IfSome};
 ghost use Rattle.tpcc_turns.specs.Seats.{IsTurned};
 ghost use Rattle.tpcc_mailbox.specs.Tokens.{identity, idle_origin};
 
+use crate::job_turns::JobTurns;
 use std::sync::Wait;
 use tpcc_book::Naming;
 use tpcc_rows::Request;
-use tpcc_server::{Errand, Job, JobAnswer, JobIdle, JobMailboxes, OneTurn, ask};
-use tpcc_turns::{SeatedPurse, Seating, Turns};
+use tpcc_server::{Job, JobAnswer, JobIdle, JobMailboxes, OneTurn, ask};
+use tpcc_turns::{SeatedPurse, Seating};
 
 /// How one terminal's requests are served, one after another.
 pub(crate) enum Route<'s, N: Naming, T: Seating, C> {
     /// By a job in the terminal's mailbox, which a server takes.
     ByMailbox(MailboxRoute<'s, N, T, C>),
     /// By a turn that the terminal's own thread makes.
-    ByTurn(&'s Turns<N, T>),
+    ByTurn,
 }
 
 /// The right to post in one mailbox.
@@ -31,7 +32,7 @@ pub(crate) struct MailboxRoute<'s, N: Naming, T: Seating, C> {
 impl<'s, N: Naming, T: Seating, C> Drop for Route<'s, N, T, C> {
     fn drop(self) {
         match self {
-            Route::ByMailbox(_) | Route::ByTurn(_) => {}
+            Route::ByMailbox(_) | Route::ByTurn => {}
         }
     }
 }
@@ -49,9 +50,10 @@ impl<'s, N: Naming, T: Seating, C> Drop for MailboxRoute<'s, N, T, C> {
 impl<'s, N: Naming, T: Seating, C: OneTurn> Route<'s, N, T, C> {
     /// Serves a request for a purse by a call, and gives the route back with the answer. None where the job is
     /// still out when nobody serves any more.
-    pub(crate) fn ask<R: Wait>(
+    pub(crate) fn ask<Q: JobTurns<N, T>, R: Wait>(
         self,
         rt: &R,
+        turns: &Q,
         request: Request,
         purse: SeatedPurse<N, T>,
         call: C,
@@ -60,9 +62,9 @@ impl<'s, N: Naming, T: Seating, C: OneTurn> Route<'s, N, T, C> {
     {
         let job = Job::of(request, purse, call);
         match self {
-            Route::ByTurn(turns) => {
-                let answer = job.run(turns, rt);
-                Some((Route::ByTurn(turns), answer))
+            Route::ByTurn => {
+                let answer = turns.run(rt, job);
+                Some((Route::ByTurn, answer))
             }
             Route::ByMailbox(route) => {
                 let (route, answer) = route.ask(rt, job)?;

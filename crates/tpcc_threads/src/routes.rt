@@ -6,7 +6,7 @@ use crate::route::{MailboxRoute, Route};
 use std::alloc::{AllocError, Global};
 use tpcc_book::Naming;
 use tpcc_server::{JobIdle, JobMailboxes};
-use tpcc_turns::{Seating, Turns};
+use tpcc_turns::Seating;
 
 /// The routes by all mailboxes.
 pub(crate) fn by_mailboxes<'s, N: Naming, T: Seating, C>(
@@ -52,15 +52,16 @@ fn next_idle<N: Naming, T: Seating, C>(
     idles.pop()
 }
 
-/// So many routes by own turns.
-pub(crate) fn by_turns<'s, N: Naming, T: Seating, C>(
+/// So many routes by own turns, which are lent for their lifetime alone: it is that of the routes.
+pub(crate) fn by_turns<'s, N: Naming, T: Seating, C, Q>(
     alloc: Global,
-    turns: &'s Turns<N, T>,
+    turns: &'s Q,
     count: usize,
 ) -> Result<Vec<Route<'s, N, T, C>>, AllocError> {
+    let _ = turns;
     let mut routes = Vec::new(alloc);
     for _ in 0..count {
-        routes.push(Route::ByTurn(turns))?;
+        routes.push(Route::ByTurn)?;
     }
     Ok(routes)
 }

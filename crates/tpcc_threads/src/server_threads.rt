@@ -3,13 +3,14 @@ ghost use Rattle.std.specs.Prelude.{◌≡◌, ◌+◌, ◌≤◌, None};
 ghost use Rattle.tpcc_mailbox.specs.Tokens.{identity, serving_origin, serving_hand};
 ghost use Rattle.tpcc_audit.specs.Settlement.{AllSeen, all_receipts};
 
+use crate::job_turns::{JobTurns, ServerJob};
 use crate::results::ThreadResults;
 use crate::threads::RunThreads;
 use std::alloc::{AllocError, Global};
 use std::sync::Wait;
 use std::thread::{JoinHandle, Scope, Threads};
 use tpcc_book::Naming;
-use tpcc_server::{JobMailboxes, JobServing, OneTurn, OpenGate, serve_until_closed};
+use tpcc_server::{JobMailboxes, JobServing, OneTurn};
 use tpcc_turns::{SeatedPurse, Seating};
 
 /// The thread of a server, which gives the server's purse back.
@@ -40,9 +41,10 @@ impl<
     N: Naming + Send + Sync,
     T: Seating + Send + Sync,
     C: OneTurn + Send,
+    Q: JobTurns<N, T> + Sync,
     F: Fn(Global) -> Result<C, AllocError> + Sync,
     R: Threads + Wait + Sync,
-> RunThreads<'s, N, T, F, R> {
+> RunThreads<'s, N, T, Q, F, R> {
     /// Starts so many servers, each with an empty purse of its own, as many as can be made.
     pub(crate) fn start_servers<E>(
         &'s self,
@@ -60,7 +62,7 @@ impl<
         let mut handles = Vec::new(self.alloc);
         for number in 0..servers.count {
             let limit = servers.limit(handles.is_empty());
-            let purse = first.split(self.turns, number);
+            let purse = self.turns.split(first, number);
             let one = serving.split(mailboxes);
             let started = self.start_server(scope, mailboxes, one, purse, limit);
             if let Some(handle) = started {
@@ -83,14 +85,13 @@ impl<
         requires origin { serving_origin serving ≡ identity mailboxes.now }
         requires free { serving_hand serving ≡ None }
     {
-        scope
-            .spawn(move || {
-                serve_until_closed(
-                    self.rt, mailboxes, serving, self.turns, OpenGate, limit, purse,
-                )
-                .3
-            })
-            .ok()
+        let work = ServerJob {
+            mailboxes,
+            serving,
+            limit,
+            purse,
+        };
+        scope.spawn(move || self.turns.serve(self.rt, work)).ok()
     }
 }
 

@@ -6,6 +6,7 @@ ghost use Rattle.tpcc_threads.specs.Working.{HasComeBack};
 
 use crate::asking::Back;
 use crate::duty::Duty;
+use crate::job_turns::JobTurns;
 use crate::operator::Operator;
 use crate::promises::{ComesBack, TerminalHandle};
 use crate::results::ThreadResults;
@@ -24,9 +25,10 @@ impl<
     N: Naming + Send + Sync,
     T: Seating + Send + Sync,
     C: OneTurn + Send,
+    Q: JobTurns<N, T> + Sync,
     F: Fn(Global) -> Result<C, AllocError> + Sync,
     R: Threads + Wait + Sync,
-> RunThreads<'s, N, T, F, R> {
+> RunThreads<'s, N, T, Q, F, R> {
     // Asks all cards of the plan, as the thread promises.
     fn work<'o>(&self, operator: Operator<'o, N, T, C>, duty: Duty) -> Back<'o, N, T, C>
         requires started { IsStarted operator.purse.purse.terminal
@@ -88,7 +90,7 @@ impl<
         requires make { F.IsAlwaysCallable self.now.make.now }
         ensures room { first.old.purse.room ≡ first.new.purse.room + 1 }
     {
-        let purse = first.split(self.turns, number);
+        let purse = self.turns.split(first, number);
         let route = route?;
         let Ok(terminal) = Terminal::new(self.alloc, number, self.scale, self.plan.seed) else {
             return None;

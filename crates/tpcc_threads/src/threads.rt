@@ -6,11 +6,13 @@ ghost use Rattle.tpcc_audit.specs.Settlement.{AllSeen, all_receipts};
 ghost use Rattle.tpcc_asked.specs.Plans.{IsPlan, IsService, plan_once};
 ghost use Rattle.tpcc_asked.specs.declared.plan.TheConstants.{MOST_SERVERS};
 
+use crate::job_turns::JobTurns;
 use crate::results::ThreadResults;
 use crate::route::Route;
 use crate::routes::{by_mailboxes, by_turns};
 use crate::server_threads::{Servers, join_servers};
 use std::alloc::{AllocError, Global};
+use std::marker::PhantomData;
 use std::sync::Wait;
 use std::thread;
 use std::thread::{Scope, Threads};
@@ -19,18 +21,20 @@ use tpcc_book::Naming;
 use tpcc_mailbox::Mailboxes;
 use tpcc_population::Scale;
 use tpcc_server::{Job, JobAnswer, JobIdle, JobMailboxes, JobServing, OneTurn};
-use tpcc_turns::{SeatedPurse, Seating, Turns};
+use tpcc_turns::{SeatedPurse, Seating};
 
 /// All threads of a run, and what each of them is lent: the turns are those of the run's book, and `make` gives the call of
 /// each request. That it may always be called no ghost field can say of a type parameter, so each method asks for it.
 #[derive(Drop)]
-pub struct RunThreads<'r, N: Naming, T: Seating, F, R> {
+pub struct RunThreads<'r, N: Naming, T: Seating, Q, F, R> {
     /// Threads, clock and waiting.
     pub rt: &'r R,
     /// Where the run takes memory.
     pub alloc: Global,
     /// The turns of the run's book.
-    pub turns: &'r Turns<N, T>,
+    pub turns: &'r Q,
+    /// Which book and which table these are of, for its type alone.
+    pub of: PhantomData<(N, T)>,
     /// Makes the call of each request.
     pub make: &'r F,
     /// The scale of the opening.
@@ -46,9 +50,10 @@ impl<
     N: Naming + Send + Sync,
     T: Seating + Send + Sync,
     C: OneTurn + Send,
+    Q: JobTurns<N, T> + Sync,
     F: Fn(Global) -> Result<C, AllocError> + Sync,
     R: Threads + Wait + Sync,
-> RunThreads<'s, N, T, F, R> {
+> RunThreads<'s, N, T, Q, F, R> {
     /// Starts all threads, waits for their ends, and gives the purses and receipts that came back. Each receipt stands in one of these
     /// purses. The fault, if any: NoMemory where a growth or a thread was refused, else Missing where a purse did not come back.
     pub fn run(&self, first: SeatedPurse<N, T>) -> ThreadResults<N, T>
@@ -132,7 +137,7 @@ impl<
         ensures seen { AllSeen result.purses.items (all_receipts result.receipts.items) }
     {
         let count = self.plan.terminals as usize + 1;
-        let Ok(routes) = by_turns::<N, T, C>(self.alloc, self.turns, count) else {
+        let Ok(routes) = by_turns::<N, T, C, Q>(self.alloc, self.turns, count) else {
             return ThreadResults::without_memory(self.alloc);
         };
         thread::scope(

@@ -1,4 +1,4 @@
-use Rattle.std.proofs.Common.{◌≡◌, false, rules}
+use Rattle.std.proofs.Common.{rules}
 use Rattle.tpcc_threads.proofs.Asked.{asked_more, asked_end}
 use Rattle.tpcc_threads.proofs.threads.RunThreads.ask_all.Goals as goal
 
