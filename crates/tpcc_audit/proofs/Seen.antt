@@ -5,7 +5,7 @@ use Rattle.std.proofs.lemmas.List.Elements.{All-head, All-tail}
 use mathlib.Core.List.{IsPrefix}
 use Rattle.tpcc_rows.specs.declared.entry.Entry.{Entry}
 use Rattle.tpcc_population.specs.declared.opening.Opening.{Opening}
-use Rattle.tpcc_register.specs.Past.{Past}
+use Rattle.tpcc_turns.specs.Past.{Past}
 use Rattle.tpcc_turns.specs.Closing.{IsLeft}
 use Rattle.tpcc_turns.specs.Seats.{SeatedView}
 use Rattle.tpcc_terminal.specs.declared.receipts.Receipt.{Receipt}

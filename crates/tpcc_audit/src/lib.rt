@@ -19,3 +19,4 @@ mod settlement;
 pub use reporting::{ReportFault, report};
 pub use settlement::{Unsettled, settle, settle_terminals};
 pub use tpcc_dump::{DumpFault, dump};
+pub use tpcc_terminal::Receipt;

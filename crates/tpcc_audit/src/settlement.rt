@@ -1,15 +1,14 @@
 //! The settlement of a book with all purses.
 ghost use Rattle.std.specs.Prelude.{◌≡◌, ◌↔◌, IsOk, IfOk, IfErr, IfSome};
-ghost use Rattle.tpcc_book.specs.Purses.{all_parts};
+ghost use Rattle.tpcc_turns.specs.Purses.{all_parts};
 ghost use Rattle.tpcc_turns.specs.Seats.{purses_of};
-ghost use Rattle.tpcc_book.specs.Serve.{rooms_of};
+ghost use Rattle.tpcc_turns.specs.Serve.{rooms_of};
 ghost use Rattle.tpcc_audit.specs.Settlement.{AllSeen, IsSettled, IsUnsettled, all_receipts};
 
 use thiserror::Error;
-use tpcc_book::{Book, Naming};
 use tpcc_screens::Report;
 use tpcc_terminal::{Receipt, receipts_stay};
-use tpcc_turns::{SeatedPurse, Seating, Turns};
+use tpcc_turns::{Book, Naming, SeatedPurse, Seating, Turns};
 
 /// Why a book was not settled.
 #[derive(Clone, Copy, Debug, Error)]

@@ -12,13 +12,10 @@ use crate::purse::{Pool, Purse};
 use std::alloc::Global;
 use std::marker::Model;
 use std::sync::ledger::Book as LedgerBook;
-use tpcc_delivery::Queue;
 use tpcc_journal::Journal;
 use tpcc_money::{Cents, NoMemory};
-use tpcc_population::Opening;
-use tpcc_register::{Register, Turned};
+use tpcc_register::{Opening, Queue, Register, Tables, Turned};
 use tpcc_rows::Request;
-use tpcc_tables::Tables;
 
 /// A register, and the two totals that its purses share: the journal's length, and by how much the
 /// sum of W_YTD rose since the opening.

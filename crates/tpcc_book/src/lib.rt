@@ -27,4 +27,4 @@ pub use answer::Answer;
 pub use book::Book;
 pub use naming::{Blanks, Entries, Naming, PaidCents};
 pub use purse::{ALL_PARTS, MOST_PURSES, Pool, Purse};
-pub use tpcc_register::{MOST_ENTRIES, Register, Turned};
+pub use tpcc_register::{MOST_ENTRIES, Register, Tables, Turned};

@@ -11,3 +11,4 @@ mod screens;
 
 pub use answer_screen::screen;
 pub use screens::{check_screen, results_screen};
+pub use tpcc_book::{Book, Naming};

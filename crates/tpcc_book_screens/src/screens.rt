@@ -5,11 +5,11 @@ ghost use Rattle.tpcc_rows.specs.Replay.{results_of};
 ghost use Rattle.tpcc_screens.specs.Screens as screens;
 
 use std::alloc::Global;
+use tpcc_book::Tables;
 use tpcc_conditions::check;
 use tpcc_journal::{Journal, results};
 use tpcc_money::NoMemory;
 use tpcc_screens::{Screen, broken_screen, consistent_screen};
-use tpcc_tables::Tables;
 
 /// The screen of the consistency conditions (3.3.2). Refused only for want of memory.
 pub fn check_screen(alloc: Global, tables: &Tables) -> Result<Screen, NoMemory>

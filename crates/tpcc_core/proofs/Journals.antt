@@ -13,12 +13,12 @@ use Rattle.tpcc_rows.specs.declared.refusals.Refusal.{Refusal}
 use Rattle.tpcc_rows.specs.Replay.{count_of}
 use Rattle.tpcc_rows.specs.Turn.{reply_to}
 use Rattle.tpcc_laws.proofs.List.{filter-append}
-use Rattle.tpcc_register.specs.Past.{Past}
+use Rattle.tpcc_book.specs.Past.{Past}
 use Rattle.tpcc_book.specs.Purses.{PurseView}
 use Rattle.tpcc_book.specs.AnswerView.{AnswerView}
-use Rattle.tpcc_register.specs.Turn.{entry_of, Accepts, Refuses}
+use Rattle.tpcc_book.specs.Turn.{entry_of, Accepts, Refuses}
 use Rattle.tpcc_book.specs.Serve.{IsServed}
-use Rattle.tpcc_register.proofs.Keeps.{accepted_by}
+use Rattle.tpcc_book.proofs.Keeps.{accepted_by}
 use Rattle.tpcc_core.specs.declared.mailbox.Collected.{Collected}
 use Rattle.tpcc_core.specs.SeatSteps.{kept_of}
 use Rattle.tpcc_core.specs.Traces.{with_entry, entries_from, entries_by, StandsAt, IsRecorded}

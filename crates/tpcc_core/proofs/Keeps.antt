@@ -10,9 +10,9 @@ use Rattle.tpcc_rows.specs.declared.refusals.Refusal.{Refusal}
 use Rattle.tpcc_rows.specs.Moments.{has_moment_in_range}
 use Rattle.tpcc_population.specs.declared.opening.Opening.{Opening}
 use Rattle.tpcc_population.specs.Opening.{opening_scale, opening_rows, IsSoundOpening}
-use Rattle.tpcc_register.specs.Past.{Past, IsKept, opening_past}
-use Rattle.tpcc_register.specs.Turn.{Accepts, Refuses}
-use Rattle.tpcc_register.proofs.Keeps.{KeepLaws, PayLaws, after-kept}
+use Rattle.tpcc_book.specs.Past.{Past, IsKept, opening_past}
+use Rattle.tpcc_book.specs.Turn.{Accepts, Refuses}
+use Rattle.tpcc_book.proofs.Keeps.{KeepLaws, PayLaws, after-kept}
 use Rattle.tpcc_core.specs.declared.event.Event.{Event}
 use Rattle.tpcc_core.specs.declared.event.Event.TheVariants as event
 use Rattle.tpcc_core.specs.Desks.{DeskNow}

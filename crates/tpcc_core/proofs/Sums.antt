@@ -14,9 +14,9 @@ use Rattle.tpcc_rows.specs.declared.refusals.Refusal.{Refusal}
 use Rattle.tpcc_rows.specs.Replay.{paid_by_entries, paid_by_request}
 use Rattle.tpcc_laws.proofs.List.{total-append}
 use Rattle.tpcc_population.specs.declared.opening.Opening.{Opening}
-use Rattle.tpcc_register.specs.Past.{Past, IsKept}
+use Rattle.tpcc_book.specs.Past.{Past, IsKept}
 use Rattle.tpcc_book.specs.Purses.{PurseView, all_parts, most_purses}
-use Rattle.tpcc_register.specs.Turn.{entry_of, Accepts, Refuses}
+use Rattle.tpcc_book.specs.Turn.{entry_of, Accepts, Refuses}
 use Rattle.tpcc_book.specs.Serve.{purse_after}
 use Rattle.tpcc_core.specs.declared.event.Event.{Event}
 use Rattle.tpcc_core.specs.declared.event.Event.TheVariants as event

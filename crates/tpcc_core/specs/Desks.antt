@@ -1,6 +1,6 @@
 -- What contracts see of a desk.
 use Rattle.std.specs.Prelude.{ℕ, zero, suc, Bool, List, [], length, slice_get, option_map, unwrap_or, nat_lt, if◌then◌else◌, Option, Some, None}
-use Rattle.tpcc_register.specs.Past.{Past}
+use Rattle.tpcc_book.specs.Past.{Past}
 use Rattle.tpcc_book.specs.Purses.{PurseView}
 use Rattle.tpcc_core.specs.declared.mailbox.Hand.{Hand}
 use Rattle.tpcc_core.specs.Seats.{SeatNow, purse_at}

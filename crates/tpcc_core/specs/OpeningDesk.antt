@@ -1,7 +1,7 @@
 -- The desk of an opening.
 use Rattle.std.specs.Prelude.{ℕ, zero, suc, ◌-◌, pos, false, List, [], ◌∷◌, ◌++◌}
 use Rattle.tpcc_population.specs.declared.opening.Opening.{Opening}
-use Rattle.tpcc_register.specs.Past.{opening_past}
+use Rattle.tpcc_book.specs.Past.{opening_past}
 use Rattle.tpcc_book.specs.Purses.{PurseView, most_purses}
 use Rattle.tpcc_core.specs.declared.mailbox.Hand.{Hand}
 use Rattle.tpcc_core.specs.declared.mailbox.Hand.TheVariants as hand

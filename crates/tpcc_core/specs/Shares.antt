@@ -1,7 +1,7 @@
 -- The purses of a desk, and what they add up to.
 use Rattle.std.specs.Prelude.{◌≡◌, List, [], ◌∷◌, ◌++◌, length}
 use Rattle.std.specs.List.{flat_map}
-use Rattle.tpcc_register.specs.Past.{rise_of}
+use Rattle.tpcc_book.specs.Past.{rise_of}
 use Rattle.tpcc_book.specs.Purses.{PurseView, all_parts}
 use Rattle.tpcc_book.specs.Serve.{rooms_of, entries_of, paid_of}
 use Rattle.tpcc_core.specs.declared.mailbox.Hand.{Hand}

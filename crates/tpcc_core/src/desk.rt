@@ -1,7 +1,7 @@
 //! The desk.
 ghost use Rattle.std.specs.Prelude.{◌≡◌, take, is_ok, ◌↔◌, ◌<◌, ◌≤◌, ◌+◌, [], length, vec_len, IfOk, IfSome, IfNone, IfErr, OnOk, OnErr, IsErrOf, Option, Some, None, true, false};
 ghost use Rattle.std.specs.Option.{option_copied};
-ghost use Rattle.tpcc_register.specs.Past.{IsKept};
+ghost use Rattle.tpcc_book.specs.Past.{IsKept};
 ghost use Rattle.tpcc_book.specs.Purses.{most_purses};
 ghost use Rattle.tpcc_core.specs.OpeningDesk.{opening_desk};
 ghost use Rattle.tpcc_core.specs.Runs.{Moves, Passes, StopsAt};

@@ -1,7 +1,7 @@
 //! The laws of every list of events, each as the contract of a function with nothing to do.
 ghost use Rattle.std.specs.List.{list_all};
 ghost use Rattle.std.specs.Prelude.{◌≡◌, ◌≤◌, ℕ, List, [], ◌++◌, map, All, true};
-ghost use Rattle.tpcc_register.specs.Past.{IsKept};
+ghost use Rattle.tpcc_book.specs.Past.{IsKept};
 ghost use Rattle.tpcc_book.specs.Purses.{most_purses};
 ghost use Rattle.tpcc_population.specs.declared.opening.Opening.{Opening};
 ghost use Rattle.tpcc_core.specs.declared.event.Event.{Event};

@@ -4,7 +4,7 @@ ghost use Rattle.std.specs.List.{prefix_len};
 ghost use Rattle.tpcc_rows.specs.Lists.{by_key, is_ascending, inserted};
 
 use crate::keyed::Keyed;
-use tpcc_money::NoMemory;
+use tpcc_rows::NoMemory;
 
 /// Whether no row comes after a new one, as is so of the next number.
 fn goes_last<T: Keyed>(rows: &[T], added: &T) -> bool

@@ -14,7 +14,7 @@ use crate::search::try_likely_place;
 use indexmap::IndexMap;
 use std::alloc::Global;
 use std::marker::Model;
-use tpcc_money::NoMemory;
+use tpcc_rows::NoMemory;
 
 /// The rows of a table, each in a map under its key, in ascending order of keys.
 ///

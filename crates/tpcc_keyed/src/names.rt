@@ -8,8 +8,7 @@ ghost use Rattle.tpcc_keyed.specs.Names.{last_cmp, name_cmp, name_before, name_o
 use std::alloc::Global;
 use std::cmp::Ordering;
 use std::marker::Model;
-use tpcc_money::NoMemory;
-use tpcc_rows::{CustomerRow, Text};
+use tpcc_rows::{CustomerRow, NoMemory, Text};
 
 /// What the order of names looks at in a customer.
 #[derive(Clone, Copy)]

@@ -1,7 +1,7 @@
 -- A New-Order that nothing refuses keeps the ranges of all columns.
 use Rattle.std.proofs.Common.{◌≡◌, ℕ, ◌+◌, ◌-◌, ◌==◌, ◌≤◌, Bool, true, false, List, [], ◌∷◌, length, map, refl, sym, ap, ◌∙◌, arith, Some, None, Option}
 use Rattle.std.specs.Prelude.{pos, ◌&&◌, not, is_some, is_none, unwrap_or, slice_get, nat_lt, if◌then◌else◌}
-use Rattle.tpcc_money.specs.Amounts.{line_amount}
+use Rattle.tpcc_rows.specs.Amounts.{line_amount}
 use Rattle.std.specs.List.{list_all, list_any}
 use Rattle.std.specs.Option.{option_or}
 use Rattle.std.proofs.lemmas.Bool.Decides.{nat_tests}

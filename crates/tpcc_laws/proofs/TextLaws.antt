@@ -4,7 +4,7 @@ use Rattle.std.specs.Prelude.{ℤ, pos, negsuc, nat_le, replicate, decimal}
 use Rattle.std.proofs.lemmas.Int.{ints}
 use Rattle.std.proofs.lemmas.List.{length-take}
 use Rattle.std.proofs.lemmas.Bool.Decides.{nat_tests}
-use Rattle.tpcc_money.specs.Texts.{amount_text, padded_number}
+use Rattle.tpcc_rows.specs.Texts.{amount_text, padded_number}
 use Rattle.tpcc_rows.specs.Printable.{is_printable}
 use Rattle.tpcc_rows.specs.Ranges.{is_text, is_amount_within}
 use Rattle.tpcc_laws.proofs.Numbers.{amount_within}

@@ -11,9 +11,8 @@ use crate::scale::Scale;
 use crate::seeded::tables::*;
 use crate::seeded::{Seed, is_sound};
 use std::alloc::Global;
-use tpcc_district_rows::Parts;
 use tpcc_money::NoMemory;
-use tpcc_tables::{Lists, Tables};
+use tpcc_tables::{Lists, Parts, Tables};
 
 /// The tables as they start: each row of the opening at its place. Refuses for want of memory alone.
 pub fn fill(alloc: Global, opening: &Opening) -> Result<Tables, NoMemory>

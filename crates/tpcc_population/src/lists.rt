@@ -2,13 +2,11 @@
 ghost use Rattle.std.specs.Prelude.{◌≡◌};
 ghost use Rattle.tpcc_tables.specs.Listed.{listed};
 
-use tpcc_district_rows::{Listed, NewOrders};
-use tpcc_keyed::KeyedRows;
 use tpcc_rows::{
     CustomerRow, DistrictRow, HistoryRow, ItemRow, NewOrderRow, OrderLineRow, OrderRow, StockRow,
     WarehouseRow,
 };
-use tpcc_tables::Lists;
+use tpcc_tables::{KeyedRows, Listed, Lists, NewOrders};
 
 /// The tables of warehouses, their districts and the customers there.
 #[derive(Drop)]

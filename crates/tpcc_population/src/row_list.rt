@@ -4,8 +4,8 @@ ghost use Rattle.tpcc_rows.specs.Lists.{is_ascending};
 ghost use Rattle.tpcc_laws.proofs.List.{ascending_front};
 
 use std::alloc::Global;
-use tpcc_keyed::{KeyedRows, Mapped};
 use tpcc_money::NoMemory;
+use tpcc_tables::{KeyedRows, Mapped};
 
 /// Rows to which more are appended, each in its order.
 pub(crate) trait RowList<X: Copy>: Drop {

@@ -6,8 +6,8 @@ use Rattle.tpcc_parse.specs.declared.fault.ScriptFault.{ScriptFault}
 use Rattle.tpcc_parse.specs.declared.fault.ScriptFault.TheVariants as script
 use Rattle.tpcc_dump.specs.declared.fault.DumpFault.{DumpFault}
 use Rattle.tpcc_dump.specs.declared.fault.DumpFault.TheVariants as dump
-use Rattle.tpcc_threads.specs.declared.fault.RunFault.{RunFault}
-use Rattle.tpcc_threads.specs.declared.fault.RunFault.TheVariants as run
+use Rattle.tpcc_run.specs.RunFault.{RunFault}
+use Rattle.tpcc_run.specs.RunFault.TheVariants as run
 use Rattle.tpcc_program.specs.declared.fault.ProgramFault.{ProgramFault}
 use Rattle.tpcc_program.specs.declared.fault.ProgramFault.TheVariants as program
 

@@ -11,9 +11,8 @@ use std::time::Clock;
 use tpcc_asked::{Part, Plan};
 use tpcc_population::Opening;
 use tpcc_progress::{Counting, Progress, Timing};
-use tpcc_run::{run, run_shown};
+use tpcc_run::{OneTurn, run, run_shown};
 use tpcc_screens::Report;
-use tpcc_server::OneTurn;
 
 /// A run that is asked for: what it runs on, its opening and plan, and the parts of its book that go to standard output,
 /// or none, which is the report alone.

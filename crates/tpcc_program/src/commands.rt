@@ -13,8 +13,7 @@ use tpcc_population::{Opening, fill};
 use tpcc_progress::Timing;
 use tpcc_requests::put_requests;
 use tpcc_rows::Table;
-use tpcc_script::run_script;
-use tpcc_show_script::show_script;
+use tpcc_show_script::{run_script, show_script};
 
 /// Serves a script's requests, from standard input to standard output; writes their screens, or the
 /// parts that are asked for.

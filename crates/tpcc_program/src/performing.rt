@@ -12,7 +12,7 @@ use std::sync::Wait;
 use std::thread::Threads;
 use std::time::Clock;
 use tpcc_options::{Asked, Task, WordsFault, read_words, tell_usage};
-use tpcc_server::OneTurn;
+use tpcc_run::OneTurn;
 
 /// Does what the program's words ask, on standard input and output; `watched` is whether somebody sees standard error, who is
 /// then told how far a run has come, and `make` gives the call of each request of a run. What goes in and out no clause says:

@@ -6,9 +6,8 @@ use std::io::Eprint;
 use std::sync::atomic::{AtomicU64, Ordering};
 use std::time::Clock;
 use tpcc_asked::Plan;
-use tpcc_book::{Register, Turned};
 use tpcc_rows::Request;
-use tpcc_server::OneTurn;
+use tpcc_server::{OneTurn, Register, Turned};
 
 // Goes to the line above at a terminal, and clears it.
 const LINE_BEFORE: &str = "\x1b[1A\x1b[2K";

@@ -21,3 +21,6 @@ mod year_to_date;
 pub use outcome::Turned;
 pub use ready::MOST_ENTRIES;
 pub use register::Register;
+pub use tpcc_delivery::Queue;
+pub use tpcc_population::Opening;
+pub use tpcc_tables::Tables;

@@ -19,3 +19,5 @@ pub mod Tables
 pub mod TextView
 pub mod Turn
 pub mod WellKeyed
+pub use Rattle.tpcc_money.specs.Amounts
+pub use Rattle.tpcc_money.specs.Texts

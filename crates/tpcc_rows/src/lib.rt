@@ -33,3 +33,4 @@ pub use rows::{
     StockRow, WarehouseRow,
 };
 pub use text::{Text, TextFault, are_plain};
+pub use tpcc_money::NoMemory;

@@ -3,11 +3,11 @@ use Rattle.std.proofs.Common.{◌≡◌, refl, ℕ, List, Option, Some, None, in
 use Rattle.std.specs.Prelude.{Result, Ok, Err, OnErr}
 use Rattle.std.specs.Io.KnownBytes.{Appends}
 use Rattle.tpcc_population.specs.declared.opening.Opening.{Opening}
-use Rattle.tpcc_register.specs.Past.{Past}
-use Rattle.tpcc_book.specs.Purses.{all_parts}
-use Rattle.tpcc_book.specs.Serve.{rooms_of}
+use Rattle.tpcc_turns.specs.Past.{Past}
+use Rattle.tpcc_turns.specs.Purses.{all_parts}
+use Rattle.tpcc_turns.specs.Serve.{rooms_of}
 use Rattle.tpcc_turns.specs.Seats.{SeatedView, purses_of}
-use Rattle.tpcc_terminal.specs.declared.receipts.Receipt.{Receipt}
+use Rattle.tpcc_audit.specs.Receipt.{Receipt}
 use Rattle.tpcc_screens.specs.declared.report.Report.{Report}
 use Rattle.tpcc_audit.specs.Settlement.{IsSettled}
 use Rattle.tpcc_asked.specs.declared.parts.Part.{Part}

@@ -1,1 +1,2 @@
 pub mod Outcome
+pub use Rattle.tpcc_threads.specs.declared.fault.RunFault

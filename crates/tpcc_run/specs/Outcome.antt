@@ -2,9 +2,9 @@
 use Rattle.std.specs.Prelude.{ℕ, ◌≡◌, ◌⊎◌, List, Option, length}
 use Rattle.std.specs.Io.KnownBytes.{Appends, Keeps}
 use Rattle.tpcc_population.specs.declared.opening.Opening.{Opening}
-use Rattle.tpcc_register.specs.Past.{Past, IsKept, rise_of}
-use Rattle.tpcc_book.specs.Purses.{PurseView, all_parts}
-use Rattle.tpcc_book.specs.Serve.{rooms_of, entries_of, paid_of}
+use Rattle.tpcc_turns.specs.Past.{Past, IsKept, rise_of}
+use Rattle.tpcc_turns.specs.Purses.{PurseView, all_parts}
+use Rattle.tpcc_turns.specs.Serve.{rooms_of, entries_of, paid_of}
 use Rattle.tpcc_screens.specs.declared.report.Report.{Report}
 use Rattle.tpcc_screens.specs.Report.{report_text}
 use Rattle.tpcc_blocks.specs.Part.{AppendsPart}

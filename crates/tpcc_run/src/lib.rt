@@ -20,4 +20,4 @@ pub use runs::{run, run_shown};
 pub use tpcc_asked::{
     GREATEST_RETIRE, GREATEST_TERMINAL, MOST_CARDS, MOST_SERVERS, MOST_TERMINALS, Plan, Service,
 };
-pub use tpcc_threads::RunFault;
+pub use tpcc_threads::{OneTurn, RunFault};

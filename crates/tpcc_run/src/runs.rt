@@ -12,12 +12,10 @@ use std::marker::{Brand, PhantomData};
 use std::sync::Wait;
 use std::thread::Threads;
 use tpcc_asked::{Part, Plan};
-use tpcc_book::{Blanks, Naming};
 use tpcc_population::{Opening, Scale};
 use tpcc_screens::Report;
-use tpcc_server::OneTurn;
-use tpcc_threads::{RunFault, RunThreads};
-use tpcc_turns::{Seating, UnnamedTurns};
+use tpcc_threads::{OneTurn, RunFault, RunThreads};
+use tpcc_turns::{Blanks, Naming, Seating, UnnamedTurns};
 
 /// Runs terminals, a delivery runner and the plan's servers on the book of an opening, each in a thread of its own;
 /// `make` gives the call of each request. Where the plan has no servers each thread makes its own turns. Once all

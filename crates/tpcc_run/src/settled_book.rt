@@ -5,15 +5,13 @@ ghost use Rattle.tpcc_run.specs.Outcome.{HasCut, HasShown, HasTotals};
 
 use std::alloc::Global;
 use std::io::Write;
-use tpcc_audit::settle_terminals;
-use tpcc_book::{Book, Naming};
+use tpcc_audit::{Receipt, settle_terminals};
 use tpcc_dump::DumpFault;
 use tpcc_population::Opening;
 use tpcc_screens::Report;
 use tpcc_show::{Part, show};
-use tpcc_terminal::Receipt;
 use tpcc_threads::{RunFault, ThreadResults};
-use tpcc_turns::{SeatedPurse, Seating, Turns};
+use tpcc_turns::{Book, Naming, SeatedPurse, Seating, Turns};
 
 /// The book of a run at its end, and what it comes to.
 pub(crate) struct SettledBook<N: Naming> {

@@ -9,11 +9,11 @@ use Rattle.tpcc_rows.specs.declared.replies.Reply.{Reply}
 use Rattle.tpcc_rows.specs.Conditions.{first_broken}
 use Rattle.tpcc_rows.specs.Replay.{count_of, results_of}
 use Rattle.tpcc_rows.specs.Turn.{reply_to}
-use Rattle.tpcc_register.specs.Past.{Past}
+use Rattle.tpcc_book.specs.Past.{Past}
 use Rattle.tpcc_book.specs.Purses.{PurseView}
 use Rattle.tpcc_book.specs.Serve.{IsServed}
 use Rattle.tpcc_book.specs.AnswerView.{AnswerView}
-use Rattle.tpcc_register.specs.Turn.{after, turn_refusal}
+use Rattle.tpcc_book.specs.Turn.{after, turn_refusal}
 use Rattle.tpcc_screens.specs.Screens.{answer_screen, reply_screen, refused_screen, check_screen, results_screen}
 use Rattle.tpcc_parse.specs.declared.call.Call.TheVariants.{Ask, Check, Results}
 use Rattle.tpcc_script.specs.ScriptBook.{ScriptBook, terminal, screen_of, book_after, screen_by, book_by, book_with_entry, request_refusal}

@@ -7,7 +7,7 @@ use Rattle.tpcc_population.specs.declared.opening.Opening.{Opening}
 use Rattle.tpcc_rows.specs.Conditions.{first_broken}
 use Rattle.tpcc_rows.specs.Tables.{State}
 use Rattle.tpcc_rows.specs.Turn.{state_after, reply_to}
-use Rattle.tpcc_register.specs.Turn.{turn_refusal}
+use Rattle.tpcc_book.specs.Turn.{turn_refusal}
 use Rattle.tpcc_rows.specs.Replay.{count_of, results_of}
 use Rattle.tpcc_screens.specs.Screens.{reply_screen, refused_screen, check_screen, results_screen}
 use Rattle.tpcc_parse.specs.declared.call.Call.{Call}

@@ -1,6 +1,6 @@
 //! A book that serves the requests of one script.
 ghost use Rattle.std.specs.Prelude.{◌≡◌, IfOk, length};
-ghost use Rattle.tpcc_register.specs.Past.{opening_past};
+ghost use Rattle.tpcc_book.specs.Past.{opening_past};
 
 use crate::engine::Engine;
 use std::alloc::Global;
@@ -28,7 +28,7 @@ impl<N: Naming> Drop for Session<N> {
 }
 
 impl<N: Naming> Model for Session<N> {
-    ghost use Rattle.tpcc_register.specs.Past.{Past};
+    ghost use Rattle.tpcc_book.specs.Past.{Past};
     ghost use Rattle.tpcc_script.specs.Session.{IsAtHand};
 
     ghost Value = { Past };

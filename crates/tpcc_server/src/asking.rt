@@ -6,8 +6,7 @@ ghost use Rattle.tpcc_mailbox.specs.Tokens.{identity, idle_origin, idle_mailbox,
 use crate::job::{Job, JobAnswer, JobIdle, JobMailboxes, JobWaiting};
 use crate::pause::Pause;
 use std::sync::Wait;
-use tpcc_book::Naming;
-use tpcc_turns::Seating;
+use tpcc_turns::{Naming, Seating};
 
 /// Posts a job, and waits for its answer, or until the mailboxes are seen closed while there is none.
 /// In the error the job stays posted, and a server may still take it: its token is the right to what

@@ -13,8 +13,7 @@ use crate::one_turn::OneTurn;
 use crate::pause::Pause;
 use crate::turn_state::TurnState;
 use std::sync::Wait;
-use tpcc_book::Naming;
-use tpcc_turns::{HeldTurn, SeatedPurse, Seating, Turns};
+use tpcc_turns::{HeldTurn, Naming, SeatedPurse, Seating, Turns};
 
 /// Looks at each mailbox once, in order, and answers the jobs that it finds, each in a turn of its own. It gives
 /// their number. The server's own purse keeps the book's turn from one job to the next while nobody else waits for it,

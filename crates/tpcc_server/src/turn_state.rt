@@ -5,8 +5,7 @@ ghost use Rattle.tpcc_server.specs.TurnStates.{keeper_in};
 
 use crate::pause::Pause;
 use std::sync::Wait;
-use tpcc_book::Naming;
-use tpcc_turns::{HeldTurn, SeatedPurse, Seating, Turns};
+use tpcc_turns::{HeldTurn, Naming, SeatedPurse, Seating, Turns};
 
 /// How often a server that stands by looks again whether the book is free.
 const LOOKS: u32 = 500;

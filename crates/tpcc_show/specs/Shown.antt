@@ -3,7 +3,7 @@ use Rattle.std.specs.Prelude.{ℕ, List, [], ◌∷◌, ◌++◌, flat_map, leng
 use Rattle.tpcc_rows.specs.Conditions.{first_broken}
 use Rattle.tpcc_rows.specs.Replay.{results_of}
 use Rattle.tpcc_rows.specs.declared.entry.Entry.{Entry}
-use Rattle.tpcc_register.specs.Past.{Past, rise_of}
+use Rattle.tpcc_book_screens.specs.Past.{Past, rise_of}
 use Rattle.tpcc_screens.specs.Screens.{reply_screen, results_screen, check_screen}
 use Rattle.tpcc_screens.specs.Report.{report_text}
 use Rattle.tpcc_screens.specs.RequestLines.{journal_lines}

@@ -10,8 +10,7 @@ use std::alloc::Global;
 use std::io::Write;
 use tpcc_asked::Part;
 use tpcc_blocks::Blocks;
-use tpcc_book::{Book, Naming};
-use tpcc_book_screens::{check_screen, results_screen};
+use tpcc_book_screens::{Book, Naming, check_screen, results_screen};
 use tpcc_dump::{DumpFault, put_dump};
 use tpcc_screens::Report;
 

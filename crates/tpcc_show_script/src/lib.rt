@@ -9,3 +9,4 @@
 mod showing;
 
 pub use showing::show_script;
+pub use tpcc_script::run_script;

@@ -1,13 +1,12 @@
 //! Receipts of accepted requests.
 ghost use Rattle.std.specs.Prelude.{◌≡◌, ◌++◌, ◌<◌, ◌-◌, OnOk, OnErr, IfOk, vec_capacity, vec_len};
-ghost use Rattle.tpcc_book.specs.Purses.{PurseView};
+ghost use Rattle.tpcc_turns.specs.Purses.{PurseView};
 ghost use Rattle.tpcc_terminal.specs.Receipts.{receipts_of};
 
 use std::alloc::Global;
-use tpcc_book::{Answer, Naming, Purse};
 use tpcc_money::NoMemory;
 use tpcc_rows::{Reply, Request};
-use tpcc_turns::{SeatedPurse, Seating};
+use tpcc_turns::{Answer, Naming, Purse, SeatedPurse, Seating};
 
 /// What a terminal keeps of an accepted request, to be settled with the journal at the end.
 #[derive(Drop)]

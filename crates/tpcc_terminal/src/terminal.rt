@@ -10,11 +10,11 @@ use crate::home::Home;
 use crate::receipts::{Numbered, Receipt, keep};
 use std::alloc::Global;
 use std::marker::Model;
-use tpcc_book::Answer;
 use tpcc_draws::{Card, Stream};
 use tpcc_money::{Moment, NoMemory};
 use tpcc_population::Scale;
 use tpcc_rows::Request;
+use tpcc_turns::Answer;
 
 /// One terminal: it asks what its cards say, and keeps receipts of what was accepted (5.2.4.2). The
 /// draws of the next card are made ahead, so that a refused [`Terminal::next`] has changed nothing.

@@ -4,7 +4,7 @@ use Rattle.std.specs.Prelude.{⊤, Result, Ok, Err, OnOk, OnErr}
 use Rattle.std.proofs.lemmas.List.{length-append, get_or_append_left}
 use Rattle.tpcc_rows.specs.declared.entry.Entry.{Entry}
 use Rattle.tpcc_rows.specs.declared.requests.Request.{Request}
-use Rattle.tpcc_book.specs.AnswerView.{AnswerView}
+use Rattle.tpcc_turns.specs.AnswerView.{AnswerView}
 use Rattle.tpcc_turns.specs.Seats.{SeatedView, IsTurned}
 use Rattle.tpcc_terminal.specs.declared.receipts.Receipt.{Receipt}
 use Rattle.tpcc_terminal.specs.Receipts.{Stands, AllStand, receipts_of}

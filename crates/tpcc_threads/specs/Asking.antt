@@ -3,7 +3,7 @@ use Rattle.std.specs.Prelude.{◌≡◌, ℕ, zero, suc, ⊤, ◌++◌}
 use Rattle.tpcc_rows.specs.declared.requests.Request.{Request}
 use Rattle.tpcc_rows.specs.declared.requests.Request.TheVariants as requests
 use Rattle.tpcc_turns.specs.Seats.{SeatedView, IsTurned}
-use Rattle.tpcc_book.specs.AnswerView.{AnswerView}
+use Rattle.tpcc_turns.specs.AnswerView.{AnswerView}
 use Rattle.tpcc_terminal.specs.Receipts.{receipts_of}
 use Rattle.tpcc_terminal.specs.Terminals.{Station, IsAsked}
 use Rattle.tpcc_threads.specs.Posts.{Post}

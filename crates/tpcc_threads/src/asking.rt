@@ -8,9 +8,8 @@ use crate::operator::{Asked, Operator};
 use crate::threads::RunThreads;
 use std::alloc::{AllocError, Global};
 use std::sync::Wait;
-use tpcc_book::Naming;
 use tpcc_server::OneTurn;
-use tpcc_turns::Seating;
+use tpcc_turns::{Naming, Seating};
 
 /// What comes back of an operator that was to ask.
 #[derive(Drop)]

@@ -11,9 +11,8 @@ use crate::threads::RunThreads;
 use std::alloc::{AllocError, Global};
 use std::sync::Wait;
 use std::thread::Threads;
-use tpcc_book::Naming;
 use tpcc_server::OneTurn;
-use tpcc_turns::Seating;
+use tpcc_turns::{Naming, Seating};
 
 impl<
     's,

@@ -4,11 +4,10 @@ ghost use Rattle.tpcc_mailbox.specs.Tokens.{identity, serving_origin, serving_ha
 ghost use Rattle.tpcc_turns.specs.Seats.{IsTurned};
 
 use std::sync::Wait;
-use tpcc_book::Naming;
 use tpcc_server::{
     Errand, JobAnswer, JobMailboxes, JobServing, OneTurn, OpenGate, serve_until_closed,
 };
-use tpcc_turns::{SeatedPurse, Seating, Turns};
+use tpcc_turns::{Naming, SeatedPurse, Seating, Turns};
 
 /// What a run's threads ask of the turns of its book. They know no more of these, so that no thread's types have the
 /// book's rows and journal inside.

@@ -32,3 +32,4 @@ mod threads;
 pub use fault::RunFault;
 pub use results::ThreadResults;
 pub use threads::RunThreads;
+pub use tpcc_server::OneTurn;

@@ -9,12 +9,11 @@ use crate::job_turns::JobTurns;
 use crate::route::Route;
 use std::marker::Model;
 use std::sync::Wait;
-use tpcc_book::Naming;
 use tpcc_money::{Moment, NoMemory};
 use tpcc_rows::{Delivery, Reply, Request};
 use tpcc_server::{JobAnswer, OneTurn};
 use tpcc_terminal::{Receipt, Terminal, receipts_stand};
-use tpcc_turns::{SeatedPurse, Seating};
+use tpcc_turns::{Naming, SeatedPurse, Seating};
 
 /// Who asks at a terminal. It is seen as its purse and its terminal, whose receipts all stand in the purse's front;
 /// by which route its requests come to the book no contract says.

@@ -4,10 +4,9 @@ ghost use Rattle.tpcc_threads.specs.Working.{HasComeBack};
 use crate::asking::Back;
 use crate::duty::Duty;
 use std::thread::{Promise, PromisedHandle};
-use tpcc_book::Naming;
 use tpcc_money::Moment;
 use tpcc_population::Scale;
-use tpcc_turns::Seating;
+use tpcc_turns::{Naming, Seating};
 
 /// Where nothing stopped it, the terminal that comes back was one of this scale and seed, and has asked all that its
 /// duty asks of so many cards, each by one turn of the book.

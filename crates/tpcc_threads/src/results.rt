@@ -9,9 +9,8 @@ use crate::asking::Back;
 use crate::fault::RunFault;
 use crate::operator::Operator;
 use std::alloc::Global;
-use tpcc_book::Naming;
 use tpcc_terminal::Receipt;
-use tpcc_turns::{SeatedPurse, Seating};
+use tpcc_turns::{Naming, SeatedPurse, Seating};
 
 /// The purses that came back, with their receipts, and the fault that the run is to end with.
 #[derive(Drop)]

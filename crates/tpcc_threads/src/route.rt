@@ -5,10 +5,9 @@ ghost use Rattle.tpcc_mailbox.specs.Tokens.{identity, idle_origin};
 
 use crate::job_turns::JobTurns;
 use std::sync::Wait;
-use tpcc_book::Naming;
 use tpcc_rows::Request;
 use tpcc_server::{Job, JobAnswer, JobIdle, JobMailboxes, OneTurn, ask};
-use tpcc_turns::{SeatedPurse, Seating};
+use tpcc_turns::{Naming, SeatedPurse, Seating};
 
 /// How one terminal's requests are served, one after another.
 pub(crate) enum Route<'s, N: Naming, T: Seating, C> {

@@ -4,9 +4,8 @@ ghost use Rattle.tpcc_mailbox.specs.Tokens.{identity, idle_origin};
 
 use crate::route::{MailboxRoute, Route};
 use std::alloc::{AllocError, Global};
-use tpcc_book::Naming;
 use tpcc_server::{JobIdle, JobMailboxes};
-use tpcc_turns::Seating;
+use tpcc_turns::{Naming, Seating};
 
 /// The routes by all mailboxes.
 pub(crate) fn by_mailboxes<'s, N: Naming, T: Seating, C>(

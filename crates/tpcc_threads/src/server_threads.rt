@@ -9,9 +9,8 @@ use crate::threads::RunThreads;
 use std::alloc::{AllocError, Global};
 use std::sync::Wait;
 use std::thread::{JoinHandle, Scope, Threads};
-use tpcc_book::Naming;
 use tpcc_server::{JobMailboxes, JobServing, OneTurn};
-use tpcc_turns::{SeatedPurse, Seating};
+use tpcc_turns::{Naming, SeatedPurse, Seating};
 
 /// The thread of a server, which gives the server's purse back.
 pub(crate) type ServerHandle<N, T> = JoinHandle<SeatedPurse<N, T>>;

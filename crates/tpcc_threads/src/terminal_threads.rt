@@ -15,10 +15,9 @@ use crate::threads::RunThreads;
 use std::alloc::{AllocError, Global};
 use std::sync::Wait;
 use std::thread::{Scope, Threads};
-use tpcc_book::Naming;
 use tpcc_server::OneTurn;
 use tpcc_terminal::Terminal;
-use tpcc_turns::{SeatedPurse, Seating};
+use tpcc_turns::{Naming, SeatedPurse, Seating};
 
 impl<
     's,

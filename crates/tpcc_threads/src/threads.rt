@@ -1,6 +1,6 @@
 //! All threads of a run: of its terminals, of its delivery runner, and of its servers, if any.
 ghost use Rattle.std.specs.Prelude.{◌≡◌, ◌+◌, ◌≤◌, ◌<◌, All, IfSome};
-ghost use Rattle.tpcc_book.specs.Purses.{most_purses};
+ghost use Rattle.tpcc_turns.specs.Purses.{most_purses};
 ghost use Rattle.tpcc_mailbox.specs.Tokens.{identity, idle_origin, serving_origin};
 ghost use Rattle.tpcc_audit.specs.Settlement.{AllSeen, all_receipts};
 ghost use Rattle.tpcc_asked.specs.Plans.{IsPlan, IsService, plan_once};
@@ -17,11 +17,10 @@ use std::sync::Wait;
 use std::thread;
 use std::thread::{Scope, Threads};
 use tpcc_asked::{Plan, Service};
-use tpcc_book::Naming;
 use tpcc_mailbox::Mailboxes;
 use tpcc_population::Scale;
 use tpcc_server::{Job, JobAnswer, JobIdle, JobMailboxes, JobServing, OneTurn};
-use tpcc_turns::{SeatedPurse, Seating};
+use tpcc_turns::{Naming, SeatedPurse, Seating};
 
 /// All threads of a run, and what each of them is lent: the turns are those of the run's book, and `make` gives the call of
 /// each request. That it may always be called no ghost field can say of a type parameter, so each method asks for it.

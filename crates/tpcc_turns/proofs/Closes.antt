@@ -9,7 +9,7 @@ use Rattle.atomic_table.specs.Table.{State, Final, Seen}
 use Rattle.atomic_table.proofs.Lists.{one_turn}
 use Rattle.tpcc_rows.specs.declared.entry.Entry.{Entry}
 use Rattle.tpcc_population.specs.declared.opening.Opening.{Opening}
-use Rattle.tpcc_register.specs.Past.{Past}
+use Rattle.tpcc_book.specs.Past.{Past}
 use Rattle.tpcc_turns.specs.Seats.{SeatedView, purses_of}
 use Rattle.tpcc_book.specs.Serve.{rooms_of}
 use Rattle.tpcc_book.specs.Purses.{PoolView, all_parts}

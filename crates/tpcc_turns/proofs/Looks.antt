@@ -8,7 +8,7 @@ use lib.ListN.{get_elem?}
 use Rattle.atomic_table.specs.Table.{State, Me, Step, keeps, takes, Act, Valid, stepped, carried_after, Allows}
 use Rattle.atomic_table.proofs.Lists.{set_again, one_turn}
 use Rattle.tpcc_rows.specs.declared.entry.Entry.{Entry}
-use Rattle.tpcc_register.specs.Past.{Past}
+use Rattle.tpcc_book.specs.Past.{Past}
 use Rattle.tpcc_turns.specs.Knows.{Knows, Stage, Out, Holds}
 use Rattle.tpcc_turns.specs.TurnRule.{knows, out_of, HasTicket, Stands, IsSeated, AtHome, Away, FollowsTurnRule, HasBook, LookStep}
 use Rattle.tpcc_turns.specs.TurnSteps.{Awaits}

@@ -5,7 +5,7 @@ use Rattle.std.proofs.Math.Nat.{mod-add-mod}
 use mathlib.Core.List.{IsPrefix}
 use Rattle.atomic_table.specs.Table.{Me, rest}
 use Rattle.tpcc_rows.specs.declared.entry.Entry.{Entry}
-use Rattle.tpcc_register.specs.Past.{Past}
+use Rattle.tpcc_book.specs.Past.{Past}
 use Rattle.tpcc_turns.specs.Knows.{Knows, Idle, Holds}
 use Rattle.tpcc_turns.specs.TurnRule.{knows, HasBook}
 use Rattle.tpcc_turns.specs.TurnSteps.{HasDrawn, HasTaken, CanGive, CanEnd}
@@ -17,11 +17,11 @@ use Rattle.tpcc_rows.specs.declared.refusals.Refusal.{Refusal}
 use Rattle.tpcc_book.specs.Purses.{PurseView}
 use Rattle.tpcc_book.specs.AnswerView.{AnswerView}
 use Rattle.tpcc_book.specs.Serve.{IsServed, purse_after}
-use Rattle.tpcc_register.specs.Turn.{entry_of, Accepts, Refuses}
+use Rattle.tpcc_book.specs.Turn.{entry_of, Accepts, Refuses}
 use Rattle.std.specs.Result.{ForOk, ForErr}
 use Rattle.tpcc_turns.proofs.Seats.{prefix_self}
-use Rattle.tpcc_register.specs.Past.{IsKept}
-use Rattle.tpcc_register.proofs.Keeps.{accepted_by}
+use Rattle.tpcc_book.specs.Past.{IsKept}
+use Rattle.tpcc_book.proofs.Keeps.{accepted_by}
 use Rattle.tpcc_rows.specs.Replay.{count_of, paid_by_request}
 use Rattle.std.specs.Prelude.{Ok, Err, MatchResult}
 use Rattle.std.proofs.Common.{◌++◌, ◌==◌, true, cond, eq-eqb}

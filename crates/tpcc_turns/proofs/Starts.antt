@@ -4,7 +4,7 @@ use mathlib.Core.Option.{some, some-ne-none, some-injective}
 use lib.ListN.{get_elem?}
 use Rattle.atomic_table.specs.Table.{opening}
 use Rattle.tpcc_rows.specs.declared.entry.Entry.{Entry}
-use Rattle.tpcc_register.specs.Past.{Past, opening_past}
+use Rattle.tpcc_book.specs.Past.{Past, opening_past}
 use Rattle.std.specs.Prelude.{Option}
 use Rattle.tpcc_turns.specs.Knows.{Knows, Idle, Holds}
 use Rattle.tpcc_turns.specs.TurnRule.{first, HasTicket, IsSeated, FollowsTurnRule}

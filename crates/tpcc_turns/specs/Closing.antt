@@ -4,7 +4,7 @@ use mathlib.Core.Option.{some}
 use mathlib.Core.List.{IsPrefix}
 use lib.ListN.{get_elem?}
 use Rattle.tpcc_population.specs.declared.opening.Opening.{Opening}
-use Rattle.tpcc_register.specs.Past.{Past, IsKept, rise_of}
+use Rattle.tpcc_book.specs.Past.{Past, IsKept, rise_of}
 use Rattle.tpcc_book.specs.Purses.{PoolView}
 use Rattle.tpcc_book.specs.Serve.{entries_of, paid_of}
 use Rattle.tpcc_turns.specs.Seats.{SeatedView, purses_of}

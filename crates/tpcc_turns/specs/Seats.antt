@@ -10,7 +10,7 @@ use mathlib.Core.List.{IsPrefix}
 use Rattle.tpcc_rows.specs.declared.requests.Request.{Request}
 use Rattle.std.specs.Result.{ForOk}
 use Rattle.tpcc_rows.specs.Replay.{count_of}
-use Rattle.tpcc_register.specs.Past.{Past, IsKept}
+use Rattle.tpcc_book.specs.Past.{Past, IsKept}
 use Rattle.tpcc_book.specs.AnswerView.{AnswerView}
 use Rattle.tpcc_turns.specs.TurnRule.{knows, no_opening, first}
 use Rattle.tpcc_book.specs.Serve.{IsServed}

@@ -16,4 +16,5 @@
 
 mod turns;
 
+pub use tpcc_book::{Answer, Blanks, Book, Naming, Purse, Register, Turned};
 pub use turns::{HeldTurn, SeatedPurse, Seating, Turns, UnnamedTurns};

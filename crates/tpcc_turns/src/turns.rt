@@ -5,7 +5,7 @@
 //! are served in the order of their tickets, one at a time.
 ghost use Rattle.std.specs.Prelude.{◌≡◌};
 ghost use Rattle.tpcc_turns.specs.Seats.{IsTurned};
-ghost use Rattle.tpcc_register.specs.Turn.{TakesTurn, MakesTurn};
+ghost use Rattle.tpcc_book.specs.Turn.{TakesTurn, MakesTurn};
 
 mod boxed_book;
 mod gather;
@@ -27,9 +27,8 @@ pub use seated::{SeatedPurse, Seating};
 use std::alloc::Global;
 use std::marker::{Model, PhantomData};
 use std::sync::Wait;
-use tpcc_book::{Answer, Naming};
+use tpcc_book::{Answer, Naming, Register, Turned};
 use tpcc_population::Opening;
-use tpcc_register::{Register, Turned};
 use tpcc_rows::Request;
 pub use unnamed::UnnamedTurns;
 

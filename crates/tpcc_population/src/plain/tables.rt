@@ -14,12 +14,12 @@ use crate::new_orders::NewOrders;
 use crate::opening::plain_is_sound;
 use crate::scale::Scale;
 use std::alloc::Global;
-use tpcc_keyed::KeyedRows;
 use tpcc_money::NoMemory;
 use tpcc_rows::{
     CustomerRow, DistrictRow, HistoryRow, ItemRow, NewOrderRow, OrderLineRow, OrderRow, StockRow,
     WarehouseRow,
 };
+use tpcc_tables::KeyedRows;
 
 /// Each table is in the order of its key.
 #[tactic(auto, unfolding(tpcc_rows::specs::Opening::plain_rows))]

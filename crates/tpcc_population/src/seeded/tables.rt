@@ -13,12 +13,12 @@ use super::{Seed, is_sound};
 use crate::layout::{fill_by_district, fill_by_number, fill_by_warehouse};
 use crate::new_orders::NewOrders;
 use std::alloc::Global;
-use tpcc_keyed::KeyedRows;
 use tpcc_money::NoMemory;
 use tpcc_rows::{
     CustomerRow, DistrictRow, HistoryRow, ItemRow, NewOrderRow, OrderLineRow, OrderRow, StockRow,
     WarehouseRow,
 };
+use tpcc_tables::KeyedRows;
 
 /// Each table is in the order of its key.
 #[tactic(auto, unfolding(crate::specs::Opening::seeded_rows))]

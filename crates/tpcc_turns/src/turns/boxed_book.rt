@@ -1,16 +1,15 @@
 //! A book behind a pointer.
 ghost use Rattle.std.specs.Prelude.{◌≡◌, IfOk};
-ghost use Rattle.tpcc_register.specs.Past.{IsKept};
-ghost use Rattle.tpcc_register.specs.Turn.{TakesTurn, MakesTurn};
+ghost use Rattle.tpcc_book.specs.Past.{IsKept};
+ghost use Rattle.tpcc_book.specs.Turn.{TakesTurn, MakesTurn};
 ghost use Rattle.tpcc_book.specs.AnswerView.{answer_with};
 ghost use Rattle.tpcc_book.specs.Serve.{IsServed};
 
 use std::alloc::Global;
 use std::marker::Model;
-use tpcc_book::{Answer, Book, Naming, Purse};
+use tpcc_book::{Answer, Book, Naming, Purse, Register, Turned};
 use tpcc_journal::Journal;
 use tpcc_money::NoMemory;
-use tpcc_register::{Register, Turned};
 use tpcc_rows::Request;
 
 /// A book in a block of its own: who takes it out of its slot, or keeps it over many requests, moves a pointer.
@@ -21,7 +20,7 @@ pub struct BoxedBook<N: Naming> {
 }
 
 impl<N: Naming> Model for BoxedBook<N> {
-    ghost use Rattle.tpcc_register.specs.Past.{Past};
+    ghost use Rattle.tpcc_book.specs.Past.{Past};
 
     ghost Value = { Past };
 

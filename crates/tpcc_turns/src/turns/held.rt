@@ -1,7 +1,7 @@
 //! A turn that is kept over the requests of many purses.
 ghost use Rattle.std.specs.Prelude.{◌≡◌};
 ghost use Rattle.tpcc_turns.specs.Seats.{IsTurned, keeper_of};
-ghost use Rattle.tpcc_register.specs.Turn.{TakesTurn, MakesTurn};
+ghost use Rattle.tpcc_book.specs.Turn.{TakesTurn, MakesTurn};
 
 use crate::turns::Turns;
 use crate::turns::boxed_book::BoxedBook;
@@ -9,8 +9,7 @@ use crate::turns::seated::{SeatedPurse, Seating};
 use crate::turns::steps::{BoardSeat, adopt, free, give, show, take};
 use std::marker::{Model, PhantomData};
 use std::sync::Wait;
-use tpcc_book::{Answer, Naming, Purse};
-use tpcc_register::{Register, Turned};
+use tpcc_book::{Answer, Naming, Purse, Register, Turned};
 use tpcc_rows::Request;
 
 /// The turn of one purse, its keeper, with the book. Each request that is served in it is a turn of the book for the

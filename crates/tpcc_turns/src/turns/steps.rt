@@ -6,7 +6,7 @@ ghost use Rattle.tpcc_turns.specs.TurnRule.{knows, HasBook, HasGrown};
 ghost use Rattle.tpcc_turns.specs.TurnSteps.{HasDrawn, Awaits, HasTaken, CanGive, CanEnd, CanShow, CanGrow, HasShown};
 ghost use Rattle.tpcc_turns.specs.Shares.{both_of, last_parts, freed_of, back_of};
 ghost use Rattle.tpcc_rows.specs.declared.entry.Entry.{Entry};
-ghost use Rattle.tpcc_register.specs.Past.{Past};
+ghost use Rattle.tpcc_book.specs.Past.{Past};
 
 use crate::turns::boxed_book::BoxedBook;
 use crate::turns::gather::Joining;

@@ -1,4 +1,4 @@
-use Rattle.tpcc_register.proofs.Keeps.{KeepLaws, PayLaws}
+use Rattle.tpcc_book.proofs.Keeps.{KeepLaws, PayLaws}
 use Rattle.tpcc_core.proofs.Keeps.{book_stays}
 use Rattle.tpcc_core.proofs.laws.book_is_kept.Goals as goal
 

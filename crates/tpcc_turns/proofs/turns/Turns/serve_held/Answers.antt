@@ -1,5 +1,5 @@
 use Rattle.std.proofs.Common.{rules, ◌+◌, ◌∙◌, ap, refl, sym, subst, arith}
-use Rattle.tpcc_register.specs.Past.{IsKept}
+use Rattle.tpcc_book.specs.Past.{IsKept}
 use Rattle.tpcc_turns.specs.Seats.{SeatedView, IsTurned}
 use Rattle.tpcc_book.specs.Serve.{IsServed}
 use Rattle.tpcc_turns.specs.TurnSteps.{HasShown}

@@ -1,0 +1,1 @@
+pub use Rattle.tpcc_book.specs.Past
