@@ -1,7 +1,7 @@
 -- The exit statuses of the program's faults.
 use Rattle.std.specs.Prelude.{ℕ}
-use Rattle.tpcc_options.specs.declared.fault.WordsFault.{WordsFault}
-use Rattle.tpcc_options.specs.declared.fault.WordsFault.TheVariants as words
+use Rattle.tpcc_program.specs.declared.words.fault.WordsFault.{WordsFault}
+use Rattle.tpcc_program.specs.declared.words.fault.WordsFault.TheVariants as words
 use Rattle.tpcc_parse.specs.declared.fault.ScriptFault.{ScriptFault}
 use Rattle.tpcc_parse.specs.declared.fault.ScriptFault.TheVariants as script
 use Rattle.tpcc_dump.specs.declared.fault.DumpFault.{DumpFault}

@@ -2,12 +2,12 @@
 ghost use Rattle.std.specs.Prelude.{◌≤◌};
 
 use crate::fault::ProgramFault;
+use crate::words::{Asked, Asking};
 use std::alloc::Global;
 use std::io::{self, Eprint};
 use std::time::Clock;
 use tpcc_asked::Part;
 use tpcc_dump::{DumpFault, dump_to};
-use tpcc_options::{Asked, Asking};
 use tpcc_parse::ScriptFault;
 use tpcc_population::{Opening, fill};
 use tpcc_progress::Timing;

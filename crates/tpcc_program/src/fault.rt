@@ -2,9 +2,9 @@
 ghost use Rattle.std.specs.Prelude.{◌≡◌};
 ghost use Rattle.tpcc_program.specs.Statuses.{status_of};
 
+use crate::words::WordsFault;
 use thiserror::Error;
 use tpcc_dump::DumpFault;
-use tpcc_options::WordsFault;
 use tpcc_parse::ScriptFault;
 use tpcc_run::RunFault;
 

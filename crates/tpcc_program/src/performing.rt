@@ -1,17 +1,17 @@
 //! What the program does: what its words ask, and what is told of a fault.
 ghost use Rattle.std.specs.Prelude.{IfOk};
-ghost use Rattle.tpcc_options.specs.Tasks.{HasPlan};
+ghost use Rattle.tpcc_program.specs.Tasks.{HasPlan};
 
 use crate::asked_run::AskedRun;
 use crate::commands::{dump_table, put_asked, script};
 use crate::fault::ProgramFault;
+use crate::words::{Asked, Task, WordsFault, read_words, tell_usage};
 use std::alloc::{AllocError, Global};
 use std::env::Env;
 use std::io::Eprint;
 use std::sync::Wait;
 use std::thread::Threads;
 use std::time::Clock;
-use tpcc_options::{Asked, Task, WordsFault, read_words, tell_usage};
 use tpcc_run::OneTurn;
 
 /// Does what the program's words ask, on standard input and output; `watched` is whether somebody sees standard error, who is

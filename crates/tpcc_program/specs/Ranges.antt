@@ -2,8 +2,8 @@
 use Rattle.std.specs.Prelude.{ℕ, List, codes, Option, Some, None}
 use Rattle.tpcc_population.specs.declared.scale.ScaleFault.{ScaleFault}
 use Rattle.tpcc_population.specs.declared.scale.ScaleFault.TheVariants as scale
-use Rattle.tpcc_options.specs.declared.fault.WordsFault.{WordsFault}
-use Rattle.tpcc_options.specs.declared.fault.WordsFault.TheVariants as words
+use Rattle.tpcc_program.specs.declared.words.fault.WordsFault.{WordsFault}
+use Rattle.tpcc_program.specs.declared.words.fault.WordsFault.TheVariants as words
 
 -- the range that the number left
 abbrev pub range_of_scale : ScaleFault → List ℕ

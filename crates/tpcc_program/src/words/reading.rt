@@ -1,11 +1,11 @@
 //! What the words of the command line ask, and how they are read.
 ghost use Rattle.std.specs.Prelude.{◌≡◌, ◌≤◌, IfOk};
-ghost use Rattle.tpcc_options.specs.Openings.{named_opening, named_scale};
-ghost use Rattle.tpcc_options.specs.Tasks.{HasPlan};
+ghost use Rattle.tpcc_program.specs.Openings.{named_opening, named_scale};
+ghost use Rattle.tpcc_program.specs.Tasks.{HasPlan};
 ghost use Rattle.tpcc_asked.specs.Plans.{IsPlan, IsService};
 
-use crate::fault::WordsFault;
-use crate::options::program;
+use crate::words::fault::WordsFault;
+use crate::words::options::program;
 use clap::error::ErrorKind;
 use clap::{ArgMatches, Error};
 use std::alloc::Global;
@@ -23,7 +23,7 @@ const MOST_SHOWS: usize = 16;
 
 /// Which requests are to be written.
 #[derive(Clone, Copy)]
-pub struct Asking {
+pub(crate) struct Asking {
     /// `--terminal`, 1 to [`GREATEST_TERMINAL`], else 1: the terminal whose requests they are.
     pub terminal: u32,
     /// `--cards`, at most [`MOST_CARDS`], else 23: how many.
@@ -32,7 +32,7 @@ pub struct Asking {
 
 /// What the program is to do.
 #[derive(Clone, Copy)]
-pub enum Task {
+pub(crate) enum Task {
     /// Serve a script.
     Script,
     /// Write a table of the opening.
@@ -45,7 +45,7 @@ pub enum Task {
 
 /// What the words ask.
 #[derive(Clone, Copy)]
-pub struct Asked {
+pub(crate) struct Asked {
     /// What to do.
     pub task: Task,
     /// `--warehouses`, else 1. Whether there is such a scale is told by [`Asked::opening`].
@@ -68,7 +68,7 @@ pub struct Asked {
 
 impl Asked {
     /// The scale that the options name. Refused as Scale where there is none.
-    pub fn scale(&self) -> Result<Scale, WordsFault>
+    pub(crate) fn scale(&self) -> Result<Scale, WordsFault>
         ensures named { IfOk result (λ scale. scale ≡ named_scale self.now) }
     {
         match Scale::new(self.warehouses, self.customers, self.items) {
@@ -78,7 +78,7 @@ impl Asked {
     }
 
     /// The opening that the options name. Refused as Scale where there is no such scale.
-    pub fn opening(&self) -> Result<Opening, WordsFault>
+    pub(crate) fn opening(&self) -> Result<Opening, WordsFault>
         ensures named { IfOk result (λ opening. opening ≡ named_opening self.now) }
     {
         let scale = self.scale()?;
@@ -224,7 +224,7 @@ fn read_options(task: Task, matches: &ArgMatches<'_>) -> Result<Asked, WordsFaul
 /// table or part has that name, where the moment is past the year 2099, where an option of `run` or
 /// `requests` is out of its range or `--show` comes more than 16 times, and where `--servers` or `--retire`
 /// stands beside `--direct`; as NoMemory for want of memory.
-pub fn read_words<'a, S: AsStr>(alloc: Global, words: &'a [S]) -> Result<Asked, WordsFault>
+pub(crate) fn read_words<'a, S: AsStr>(alloc: Global, words: &'a [S]) -> Result<Asked, WordsFault>
     ensures plan { IfOk result (λ asked. HasPlan asked.task) }
 {
     let Ok(command) = program(alloc) else {

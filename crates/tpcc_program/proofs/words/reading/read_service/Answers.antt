@@ -1,5 +1,5 @@
 use Rattle.std.proofs.Common.{rules}
-use Rattle.tpcc_options.proofs.reading.read_service.Goals as goal
+use Rattle.tpcc_program.proofs.words.reading.read_service.Goals as goal
 
 pub returns-then-not-get_flag : goal.returns-then-not-get_flag
 returns-then-not-get_flag c = search rules

@@ -1,6 +1,6 @@
 //! How the program is used, for a person who sees standard error at a terminal.
 
-use crate::options::program;
+use crate::words::options::program;
 use clap::error::ErrorKind;
 use std::alloc::Global;
 use std::convert::AsStr;
@@ -16,7 +16,7 @@ static RUN: [&str; 3] = ["tpcc", "run", "--help"];
 
 /// Writes to standard error what was wrong with the words and how each command is used, in the words of `clap`;
 /// of words that ask for the version the version alone. What can't be written is passed over.
-pub fn tell_usage<'a, R: Eprint, S: AsStr>(rt: &R, alloc: Global, words: &'a [S]) {
+pub(crate) fn tell_usage<'a, R: Eprint, S: AsStr>(rt: &R, alloc: Global, words: &'a [S]) {
     if is_told(rt, alloc, words) {
         return;
     }

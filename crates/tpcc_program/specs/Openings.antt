@@ -3,7 +3,7 @@ use Rattle.std.specs.Prelude.{if◌then◌else◌}
 use Rattle.tpcc_rows.specs.Layout.{Scale}
 use Rattle.tpcc_population.specs.declared.opening.Opening.{Opening}
 use Rattle.tpcc_population.specs.declared.opening.Opening.TheVariants.{Plain, Seeded}
-use Rattle.tpcc_options.specs.declared.reading.Asked.{Asked}
+use Rattle.tpcc_program.specs.declared.words.reading.Asked.{Asked}
 
 -- the scale of the three options
 abbrev pub named_scale : Asked → Scale

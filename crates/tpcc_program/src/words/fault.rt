@@ -1,7 +1,7 @@
 //! Why words ask nothing that can be done.
 ghost use Rattle.std.specs.Prelude.{◌≡◌};
 ghost use Rattle.std.specs.Option.{option_copied};
-ghost use Rattle.tpcc_options.specs.Ranges.{range_of};
+ghost use Rattle.tpcc_program.specs.Ranges.{range_of};
 
 use thiserror::Error;
 use tpcc_population::ScaleFault;
@@ -22,7 +22,7 @@ pub enum WordsFault {
 
 impl WordsFault {
     /// What a person at a terminal is told of a scale that there is not: the range that it left.
-    pub fn range(&self) -> Option<&'static str>
+    pub(crate) fn range(&self) -> Option<&'static str>
         ensures range { option_copied result ≡ range_of self.now }
     {
         match self {
