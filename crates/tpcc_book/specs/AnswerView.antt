@@ -17,7 +17,7 @@ abbrev pub answer_of : {P : Type 0} → Turned → P → AnswerView P
 answer_of turned purse =
     record { request = turned.request; outcome = turned.outcome; place = turned.place; purse = purse }
 
--- the same answer with another purse
+-- the same answer by what carries its purse
 abbrev pub answer_with : {Q P : Type 0} → AnswerView Q → P → AnswerView P
 answer_with answer purse =
     record { request = answer.request; outcome = answer.outcome; place = answer.place; purse = purse }

@@ -2,12 +2,14 @@
 ghost use Rattle.std.specs.Prelude.{◌≡◌};
 ghost use Rattle.tpcc_book.specs.AnswerView.{answer_of, answer_with};
 
+use crate::carrying::CarriesPurse;
 use std::marker::Model;
 use tpcc_register::Turned;
 use tpcc_rows::{Refusal, Reply, Request};
 
-/// What a served request gives back. Only this crate makes one, and it has no copy, so whoever
-/// holds an answer holds what a book answered.
+/// What a served request gives back. `Book::serve` and `Book::serve_by` alone make one, with the purse that was handed
+/// in, and it has no copy. `carried_with` hands that very purse on. So whoever holds an answer holds what a book
+/// answered, with the purse that it answered for.
 pub struct Answer<P> {
     /// The request, its outcome and the place of its entry.
     turned: Turned,
@@ -78,14 +80,18 @@ impl<P> Answer<P> {
         let Answer { turned, purse } = self;
         (turned.request, turned.outcome, turned.place, purse)
     }
-}
 
-impl Answer<()> {
-    /// The same answer, with the purse by which it was served.
-    pub fn with_purse<P>(self, purse: P) -> Answer<P>
-        ensures { result ≡ answer_with self purse }
+    /// The same answer, whose purse is carried with a rest from now on. There is no other way to give an answer
+    /// another type, and the purse that it has goes along.
+    pub fn carried_with<C: CarriesPurse<Purse = P>>(self, rest: C::Rest) -> Answer<C>
+        requires fits { C.fits self.purse rest }
+        ensures carried { result ≡ answer_with self (C.carrying self.purse rest) }
+        ensures purse { C.purse_in result.purse ≡ self.purse }
     {
-        let Answer { turned, purse: () } = self;
-        Answer { turned, purse }
+        let Answer { turned, purse } = self;
+        Answer {
+            turned,
+            purse: C::carry(purse, rest),
+        }
     }
 }

@@ -3,7 +3,7 @@ ghost use Rattle.std.specs.Prelude.{◌≡◌, IfOk, length};
 ghost use Rattle.tpcc_register.specs.Past.{IsKept, opening_past, rise_of};
 ghost use Rattle.tpcc_book.specs.Purses.{all_parts, first_purse};
 ghost use Rattle.tpcc_register.specs.Turn.{TakesTurn, MakesTurn};
-ghost use Rattle.tpcc_book.specs.AnswerView.{answer_of, answer_with};
+ghost use Rattle.tpcc_book.specs.AnswerView.{answer_of};
 ghost use Rattle.tpcc_book.specs.Serve.{IsServed, rooms_of, entries_of, paid_of};
 
 use crate::answer::Answer;
@@ -136,22 +136,6 @@ impl<N: Naming> Book<N> {
         let mut purse = purse;
         let turned = self.turn_for(request, &mut purse, turn);
         Answer::new(turned, purse)
-    }
-
-    /// The same for a purse that stays where it is: the answer has none.
-    pub fn serve_for<F: FnOnce(&mut Register, Request, u32, u64) -> Turned>(
-        &mut self,
-        request: Request,
-        purse: &mut Purse<N>,
-        turn: F,
-    ) -> Answer<()>
-        requires takes { TakesTurn (F.pre turn) }
-        requires turns { MakesTurn (F.post turn) }
-        ensures served { IsServed self.old request purse.old (answer_with result purse.new)
-            self.new }
-    {
-        let turned = self.turn_for(request, purse, turn);
-        Answer::new(turned, ())
     }
 
     // The turn, with what it adds to the purse.

@@ -15,16 +15,23 @@
 //!
 //! A book's type names it: `N: Naming` stands for its two ledgers. So a purse can't be used at another book.
 //!
+//! # Answers
+//!
+//! Only a book makes an `Answer`, and it has the purse that was handed in. A type of another crate may carry that
+//! purse on (`CarriesPurse`, `Answer::carried_with`); no call puts another one in its place.
+//!
 //! `tpcc_turns` shares a book among threads.
 #![tactic(auto)]
 
 mod answer;
 mod book;
+mod carrying;
 mod naming;
 mod purse;
 
 pub use answer::Answer;
 pub use book::Book;
+pub use carrying::CarriesPurse;
 pub use naming::{Blanks, Entries, Naming, PaidCents};
 pub use purse::{ALL_PARTS, MOST_PURSES, Pool, Purse};
 pub use tpcc_register::{MOST_ENTRIES, Register, Tables, Turned};

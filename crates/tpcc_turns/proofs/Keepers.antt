@@ -1,18 +1,16 @@
 -- The steps of a held turn, put together.
 use Rattle.std.proofs.Common.{◌≡◌, ℕ, ◌%◌, ◌^◌, ◌<◌, List, [], ◌∷◌, refl, sym, ap, ◌∙◌, subst, Some, arith}
-use Rattle.std.specs.Prelude.{Option, None, Result}
+use Rattle.std.specs.Prelude.{Option, None}
 use mathlib.Core.Option.{some}
 use mathlib.Core.List.{IsPrefix}
 use lib.ListN.{get_elem?}
 use Rattle.atomic_table.specs.Table.{Me, rest}
 use Rattle.tpcc_rows.specs.declared.entry.Entry.{Entry}
 use Rattle.tpcc_rows.specs.declared.requests.Request.{Request}
-use Rattle.tpcc_rows.specs.declared.replies.Reply.{Reply}
-use Rattle.tpcc_rows.specs.declared.refusals.Refusal.{Refusal}
 use Rattle.tpcc_rows.specs.Replay.{count_of}
 use Rattle.tpcc_book.specs.Past.{Past, IsKept}
 use Rattle.tpcc_book.specs.Purses.{PurseView}
-use Rattle.tpcc_book.specs.AnswerView.{AnswerView}
+use Rattle.tpcc_book.specs.AnswerView.{AnswerView, answer_with}
 use Rattle.tpcc_book.specs.Serve.{IsServed}
 use Rattle.tpcc_turns.specs.Seats.{SeatedView, view_of, number_of, turn_holder, IsTurned}
 use Rattle.tpcc_turns.specs.Shares.{heard_of, both_of, back_of}
@@ -96,26 +94,24 @@ longer_of old new request held answer served =
     entries_grow old new held.terminal held.entries request answer.place answer.outcome served.turn.accepts served.turn.refuses
 
 -- one turn of the book for the purse that asked
-pub turned_within : (held after : PurseView) (purse : SeatedView) (me one two four : Mine) (w : Knows) (parts : ℕ) (old new : Past) (answer : AnswerView PurseView) (request asked : Request) (outcome : Result Reply Refusal) (place : Option ℕ)
+pub turned_within : (held : PurseView) (purse : SeatedView) (me one two four : Mine) (w : Knows) (parts : ℕ) (old new : Past) (answer : AnswerView PurseView) (request : Request)
     → held ≡ purse.purse → w ≡ view_of purse → me ≡ turn_holder me parts old → old.opening ≡ me.0.start → one ≡ (both_of me.0 w, me.1) → IsServed old request held answer new
-    → HasShown one new two → four ≡ (back_of two.0, [])
-    → asked ≡ answer.request → outcome ≡ answer.outcome → place ≡ answer.place → after ≡ answer.purse → IsKept new
-    → IsTurned request purse (record { request = asked; outcome = outcome; place = place; purse = record { purse = after; start = four.0.start; front = four.0.front } })
-turned_within held after purse me one two four w parts old new answer request asked outcome place is v keeps opening joined served shown gone e1 e2 e3 e4 kept =
+    → HasShown one new two → four ≡ (back_of two.0, []) → IsKept new
+    → IsTurned request purse (answer_with answer (record { purse = answer.purse; start = four.0.start; front = four.0.front }))
+turned_within held purse me one two four w parts old new answer request is v keeps opening joined served shown gone kept =
     let first : get_elem? one.0.told 0 ≡ some (heard_of w) = ap (λ (m : Mine). get_elem? m.0.told 0) joined in
     let heard : IsHeard one.0.start shown.base (heard_of w) = shown.told (heard_of w) 0 first in
     let stage : one.0.stage ≡ Holds (number_of me.0.stage) old.entries = ap (λ (m : Mine). m.0.stage) joined ∙ ap (λ (m : Mine). m.0.stage) keeps in
     let base : shown.base ≡ old.entries = base_of shown.number (number_of me.0.stage) shown.base old.entries (sym shown.stage ∙ stage) in
     let theirs : w.start ≡ purse.start = ap (λ (k : Knows). k.start) v in
     let mine : w.start ≡ me.0.start = heard.0 ∙ ap (λ (m : Mine). m.0.start) joined in
-    let told : answer ≡ record { request = asked; outcome = outcome; place = place; purse = after } = λ i. record { request = sym e1 i; outcome = sym e2 i; place = sym e3 i; purse = sym e4 i } in
-    let it : IsServed old request purse.purse (record { request = asked; outcome = outcome; place = place; purse = after }) new = subst (λ (a : AnswerView PurseView). IsServed old request purse.purse a new) told (subst (λ (h : PurseView). IsServed old request h answer new) is served) in
+    let it : IsServed old request purse.purse answer new = subst (λ (h : PurseView). IsServed old request h answer new) is served in
     let seen : four.0.front ≡ new.entries = ap (λ (m : Mine). m.0.front) gone ∙ ap (λ (m : Mine). m.0.front) shown.now_is in
     record {
       old = old;
       new = new;
       kept = kept;
-      own = λ reply ok. ap (count_of after.terminal) seen ∙ own_of old new request purse.purse after asked outcome place it reply ok;
+      own = λ reply ok. ap (count_of answer.purse.terminal) seen ∙ own_of old new request purse.purse answer it reply ok;
       opening = opening ∙ (sym mine ∙ theirs);
       begins = subst (λ (xs : List Entry). IsPrefix xs old.entries) (ap (λ (k : Knows). k.front) v) (subst (λ (xs : List Entry). IsPrefix w.front xs) base heard.1);
       seen = seen;

@@ -15,7 +15,7 @@ use Rattle.tpcc_rows.specs.declared.requests.Request.{Request}
 use Rattle.tpcc_rows.specs.declared.replies.Reply.{Reply}
 use Rattle.tpcc_rows.specs.declared.refusals.Refusal.{Refusal}
 use Rattle.tpcc_book.specs.Purses.{PurseView}
-use Rattle.tpcc_book.specs.AnswerView.{AnswerView}
+use Rattle.tpcc_book.specs.AnswerView.{AnswerView, answer_with}
 use Rattle.tpcc_book.specs.Serve.{IsServed, purse_after}
 use Rattle.tpcc_book.specs.Turn.{entry_of, Accepts, Refuses}
 use Rattle.std.specs.Result.{ForOk, ForErr}
@@ -75,18 +75,17 @@ taken_of me one two three ticket x book empty d t e is last =
     }
 
 -- of the terminal's entries, the journal after an accepted turn has as many as the purse
-pub own_of : (old new : Past) (request : Request) (held after : PurseView) (asked : Request) (outcome : Result Reply Refusal) (place : Option ℕ)
-    → IsServed old request held (record { request = asked; outcome = outcome; place = place; purse = after }) new
-    → (reply : Reply) → outcome ≡ Ok reply → count_of after.terminal new.entries ≡ after.entries
-own_of old new request held after asked outcome place served reply is =
+pub own_of : (old new : Past) (request : Request) (held : PurseView) (answer : AnswerView PurseView)
+    → IsServed old request held answer new → (reply : Reply) → answer.outcome ≡ Ok reply → count_of answer.purse.terminal new.entries ≡ answer.purse.entries
+own_of old new request held answer served reply is =
     let a = served.turn.accepts reply is in
     let number : held.entries ≡ count_of held.terminal old.entries = (accepted_by old held.terminal held.entries request a.none_applies).number_is in
-    let credit : after ≡ purse_after held (paid_by_request request) = elim_ok outcome reply is served.fits.purse_is in
+    let credit : answer.purse ≡ purse_after held (paid_by_request request) = elim_ok answer.outcome reply is served.fits.purse_is in
     let last = entry_of old held.terminal held.entries request in
     let more : count_of held.terminal (old.entries ++ last ∷ []) ≡ count_of held.terminal old.entries + 1 = count_more held.terminal old.entries last refl in
     ap (λ (h : PurseView). count_of h.terminal new.entries) credit ∙ (ap (λ (p : Past). count_of held.terminal p.entries) a.new_is ∙ (more ∙ (ap (λ (n : ℕ). n + 1) (sym number) ∙ sym (ap (λ (h : PurseView). h.entries) credit))))
   where
-    elim_ok : (o : Result Reply Refusal) (reply : Reply) → o ≡ Ok reply → MatchResult o (λ reply. after ≡ purse_after held (paid_by_request request)) (λ refusal. after ≡ held) → after ≡ purse_after held (paid_by_request request)
+    elim_ok : (o : Result Reply Refusal) (reply : Reply) → o ≡ Ok reply → MatchResult o (λ reply. answer.purse ≡ purse_after held (paid_by_request request)) (λ refusal. answer.purse ≡ held) → answer.purse ≡ purse_after held (paid_by_request request)
     elim_ok (Ok r) reply e h = h
     elim_ok (Err r) reply e h = absurd (cc e)
 
@@ -96,21 +95,19 @@ own_of old new request held after asked outcome place served reply is =
         let one : count_of terminal (e ∷ []) ≡ 1 = rw it refl in
         sum_by-append (λ (x : Entry). cond (x.terminal == terminal) 1 0) es (e ∷ []) ∙ ap (λ (n : ℕ). count_of terminal es + n) one
 
-pub turned_of : (held after : PurseView) (purse : SeatedView) (me two four : Mine) (ticket : ℕ) (old new : Past) (answer : AnswerView PurseView) (request asked : Request) (outcome : Result Reply Refusal) (place : Option ℕ)
+pub turned_of : (held : PurseView) (purse : SeatedView) (me two four : Mine) (ticket : ℕ) (old new : Past) (answer : AnswerView PurseView) (request : Request)
     → held ≡ purse.purse → me ≡ (view_of purse, []) → HasTaken me ticket old two → IsServed old request held answer new
-    → four ≡ (knows two.0.start new.entries two.0.parts Idle two.0.told, [])
-    → asked ≡ answer.request → outcome ≡ answer.outcome → place ≡ answer.place → after ≡ answer.purse → IsKept new
-    → IsTurned request purse (record { request = asked; outcome = outcome; place = place; purse = record { purse = after; start = four.0.start; front = four.0.front } })
-turned_of held after purse me two four ticket old new answer request asked outcome place is seat t served ended e1 e2 e3 e4 kept =
+    → four ≡ (knows two.0.start new.entries two.0.parts Idle two.0.told, []) → IsKept new
+    → IsTurned request purse (answer_with answer (record { purse = answer.purse; start = four.0.start; front = four.0.front }))
+turned_of held purse me two four ticket old new answer request is seat t served ended kept =
     let begun : me.0.start ≡ purse.start = ap (λ (m : Mine). m.0.start) seat in
-    let told : answer ≡ record { request = asked; outcome = outcome; place = place; purse = after } = λ i. record { request = sym e1 i; outcome = sym e2 i; place = sym e3 i; purse = sym e4 i } in
-    let one : IsServed old request purse.purse (record { request = asked; outcome = outcome; place = place; purse = after }) new = subst (λ (a : AnswerView PurseView). IsServed old request purse.purse a new) told (subst (λ (h : PurseView). IsServed old request h answer new) is served) in
+    let one : IsServed old request purse.purse answer new = subst (λ (h : PurseView). IsServed old request h answer new) is served in
     let seen : four.0.front ≡ new.entries = ap (λ (m : Mine). m.0.front) ended in
     record {
       old = old;
       new = new;
       kept = kept;
-      own = λ reply ok. ap (count_of after.terminal) seen ∙ own_of old new request purse.purse after asked outcome place one reply ok;
+      own = λ reply ok. ap (count_of answer.purse.terminal) seen ∙ own_of old new request purse.purse answer one reply ok;
       opening = t.opening ∙ begun;
       begins = subst (λ (xs : List Entry). IsPrefix xs old.entries) (ap (λ (m : Mine). m.0.front) seat) t.begins;
       seen = seen;

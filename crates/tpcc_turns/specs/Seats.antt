@@ -30,6 +30,15 @@ pub record SeatedView : Type 0 where
 abbrev pub view_of : SeatedView → Knows
 view_of p = knows p.start p.front (p.purse.room + 1) Idle []
 
+-- a purse on a seat that has no ticket
+abbrev pub seated_at : PurseView → Seat (Option Past) Knows → SeatedView
+seated_at purse seat = record { purse = purse; start = seat.me.0.start; front = seat.me.0.front }
+
+-- the seat is at this table, has no ticket, and has as many parts as the purse
+abbrev pub CanSeat : TableId → Seat (Option Past) Knows → PurseView → Type 0
+CanSeat table seat purse =
+    (seat.table_id ≡ table) × (seat.me ≡ (knows seat.me.0.start seat.me.0.front (purse.room + 1) Idle [], []))
+
 -- the purses without their seats
 abbrev pub purses_of : List SeatedView → List PurseView
 purses_of = map (λ p. p.purse)

@@ -14,7 +14,9 @@
 //! Not promised: that a ticket is ever called.
 #![tactic(auto)]
 
+mod pause;
 mod turns;
 
+pub use pause::Pause;
 pub use tpcc_book::{Answer, Blanks, Book, Naming, Purse, Register, Turned};
 pub use turns::{HeldTurn, SeatedPurse, Seating, Turns, UnnamedTurns};

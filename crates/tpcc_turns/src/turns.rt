@@ -17,6 +17,7 @@ mod split;
 mod steps;
 mod unnamed;
 
+use crate::pause::Pause;
 use crate::turns::boxed_book::BoxedBook;
 use crate::turns::knows::Knows;
 use crate::turns::rule::TurnRule;
@@ -31,6 +32,12 @@ use tpcc_book::{Answer, Naming, Register, Turned};
 use tpcc_population::Opening;
 use tpcc_rows::Request;
 pub use unnamed::UnnamedTurns;
+
+/// How often a thread looks whether the book is free before it draws a ticket all the same.
+const LOOKS: u32 = 100;
+
+/// Among how many it waits for that, as its pauses count them.
+const WAITING: u64 = 100;
 
 /// A book that is served one request at a time, in the order in which turns were drawn. It is seen as
 /// the book's opening; what purses have seen of the journal stands in them.
@@ -105,12 +112,24 @@ impl<N: Naming, T: Seating> Turns<N, T> {
         requires turns { MakesTurn (F.post turn) }
         ensures turned { IsTurned request purse result }
     {
-        let (mut purse, mut seat) = purse.into_seat();
+        self.wait_until_free(rt);
+        let (purse, mut seat) = purse.into_seat();
         let board = &self.table.shared;
         let (ticket, mut book) = take(rt, board, &mut seat);
-        let turned = book.serve_for(request, &mut purse, turn);
+        let answer = book.serve_by(request, purse, turn);
         let _journal = book.journal();
         give(board, &mut seat, ticket, book);
-        turned.with_purse(SeatedPurse::seated(purse, seat))
+        answer.carried_with(seat)
+    }
+    // Waits for a moment in which nobody has a turn, though not for ever. Tickets are served in the order in which they were
+    // drawn, so that each turn costs a change of threads once many are out; where none is, the thread at work goes on.
+    fn wait_until_free<R: Wait>(&self, rt: &R) {
+        let mut pause = Pause::among(WAITING);
+        for _ in 0..LOOKS {
+            if !self.is_busy() {
+                return;
+            }
+            pause.wait(rt);
+        }
     }
 }

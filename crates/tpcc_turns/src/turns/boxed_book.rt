@@ -2,7 +2,6 @@
 ghost use Rattle.std.specs.Prelude.{◌≡◌, IfOk};
 ghost use Rattle.tpcc_book.specs.Past.{IsKept};
 ghost use Rattle.tpcc_book.specs.Turn.{TakesTurn, MakesTurn};
-ghost use Rattle.tpcc_book.specs.AnswerView.{answer_with};
 ghost use Rattle.tpcc_book.specs.Serve.{IsServed};
 
 use std::alloc::Global;
@@ -53,16 +52,16 @@ impl<N: Naming> BoxedBook<N> {
     }
 
     /// Serves a request for a purse by a call that makes a turn.
-    pub(crate) fn serve_for<F: FnOnce(&mut Register, Request, u32, u64) -> Turned>(
+    pub(crate) fn serve_by<F: FnOnce(&mut Register, Request, u32, u64) -> Turned>(
         &mut self,
         request: Request,
-        purse: &mut Purse<N>,
+        purse: Purse<N>,
         turn: F,
-    ) -> Answer<()>
+    ) -> Answer<Purse<N>>
         requires takes { TakesTurn (F.pre turn) }
         requires turns { MakesTurn (F.post turn) }
-        ensures served { IsServed self.old request purse.old (answer_with result purse.new) self.new }
+        ensures served { IsServed self.old request purse result self.new }
     {
-        self.book.serve_for(request, purse, turn)
+        self.book.serve_by(request, purse, turn)
     }
 }

@@ -1,5 +1,6 @@
 //! A turn that is kept over the requests of many purses.
 ghost use Rattle.std.specs.Prelude.{◌≡◌};
+ghost use mathlib.Core.List.{IsPrefix};
 ghost use Rattle.tpcc_turns.specs.Seats.{IsTurned, keeper_of};
 ghost use Rattle.tpcc_book.specs.Turn.{TakesTurn, MakesTurn};
 
@@ -13,8 +14,9 @@ use tpcc_book::{Answer, Naming, Purse, Register, Turned};
 use tpcc_rows::Request;
 
 /// The turn of one purse, its keeper, with the book. Each request that is served in it is a turn of the book for the
-/// purse that asks; no other turn comes until this one is ended.
-#[derive(Drop)]
+/// purse that asks. It is seen as the keeper's purse will be once the turn ends: with the opening, and the journal as
+/// it stands. It is not `Drop`, since its book would go with it, and no other turn could come: `Turns::end` has to
+/// spend it.
 pub struct HeldTurn<N: Naming, T: Seating> {
     /// The keeper's own purse; requests are served by those of others.
     purse: Purse<N>,
@@ -30,11 +32,12 @@ pub struct HeldTurn<N: Naming, T: Seating> {
 
 impl<N: Naming, T: Seating> Model for HeldTurn<N, T> {
     ghost use Rattle.std.specs.Prelude.{◌+◌};
-    ghost use Rattle.tpcc_turns.specs.Seats.{IsHeldTurn, Keeper};
+    ghost use Rattle.tpcc_turns.specs.Seats.{IsHeldTurn, SeatedView};
 
-    ghost Value = { Keeper };
+    ghost Value = { SeatedView };
 
-    ghost view = { λ h. record { purse = h.purse; start = h.seat.me.0.start } };
+    ghost view = { λ h.
+        record { purse = h.purse; start = h.seat.me.0.start; front = h.book.entries } };
 
     ghost invariant = { λ h. IsHeldTurn T.table h.seat (h.purse.room + 1) h.ticket h.book };
 }
@@ -42,7 +45,8 @@ impl<N: Naming, T: Seating> Model for HeldTurn<N, T> {
 impl<N: Naming, T: Seating> Turns<N, T> {
     /// Waits for the purse's turn, and keeps it.
     pub fn begin<R: Wait>(&self, rt: &R, purse: SeatedPurse<N, T>) -> HeldTurn<N, T>
-        ensures keeper { result ≡ keeper_of purse }
+        ensures keeper { keeper_of result ≡ keeper_of purse }
+        ensures begins { IsPrefix purse.front result.front }
     {
         let (purse, mut seat) = purse.into_seat();
         let (ticket, book) = take(rt, &self.table.shared, &mut seat);
@@ -75,7 +79,9 @@ impl<N: Naming, T: Seating> Turns<N, T> {
     ) -> (HeldTurn<N, T>, Answer<SeatedPurse<N, T>>)
         requires takes { TakesTurn (F.pre turn) }
         requires turns { MakesTurn (F.post turn) }
-        ensures keeper { result.0 ≡ held }
+        ensures keeper { keeper_of result.0 ≡ keeper_of held }
+        ensures grows { IsPrefix held.front result.0.front }
+        ensures seen { result.1.purse.front ≡ result.0.front }
         ensures turned { IsTurned request purse result.1 }
     {
         let HeldTurn {
@@ -85,14 +91,13 @@ impl<N: Naming, T: Seating> Turns<N, T> {
             mut book,
             of,
         } = held;
-        let (mut purse, other) = purse.into_seat();
+        let (purse, other) = purse.into_seat();
         let board = &self.table.shared;
         adopt(board, &mut seat, other);
-        let turned = book.serve_for(request, &mut purse, turn);
+        let answer = book.serve_by(request, purse, turn);
         let book = show(board, &mut seat, book);
         let _journal = book.journal();
         let back = free(board, &mut seat);
-        let purse = SeatedPurse::seated(purse, back);
         let held = HeldTurn {
             purse: keeper,
             seat,
@@ -100,12 +105,13 @@ impl<N: Naming, T: Seating> Turns<N, T> {
             book,
             of,
         };
-        (held, turned.with_purse(purse))
+        (held, answer.carried_with(back))
     }
 
-    /// Ends a turn that was kept: the keeper's purse, which has seen the whole journal.
+    /// Ends a turn that was kept, and gives the keeper's purse, which has seen the whole journal as this turn left it:
+    /// so its front begins with each front that it had before, and with that of each request that was served meanwhile.
     pub fn end(&self, held: HeldTurn<N, T>) -> SeatedPurse<N, T>
-        ensures keeper { keeper_of result ≡ held }
+        ensures purse { result ≡ held }
     {
         let HeldTurn {
             purse,

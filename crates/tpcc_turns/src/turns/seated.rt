@@ -2,14 +2,14 @@
 ghost use Rattle.std.specs.Prelude.{◌≡◌, ◌+◌, ◌<◌, [], ◌∷◌, pos};
 ghost use Rattle.tpcc_turns.specs.Knows.{Idle};
 ghost use Rattle.tpcc_turns.specs.TurnRule.{knows};
-ghost use Rattle.tpcc_turns.specs.Seats.{view_of};
+ghost use Rattle.tpcc_turns.specs.Seats.{CanSeat, seated_at, view_of};
 
 use crate::turns::boxed_book::BoxedBook;
 use crate::turns::knows::Knows;
 use crate::turns::steps::BoardSeat;
 use atomic_table::Badge;
 use std::marker::{Brand, Model, PhantomData};
-use tpcc_book::{Naming, Purse};
+use tpcc_book::{CarriesPurse, Naming, Purse};
 use tpcc_money::Cents;
 
 /// A type that stands for the table in which one book stands. Whoever names turns picks it, so a purse
@@ -69,14 +69,36 @@ impl<N: Naming, T: Seating> Model for SeatedPurse<N, T> {
         (p.purse.room + 1) Idle [] ∷ []) };
 }
 
+// An answer of the book is one of the turns once its purse is seated again.
+impl<N: Naming, T: Seating> CarriesPurse for SeatedPurse<N, T> {
+    type Purse = Purse<N>;
+
+    type Rest = BoardSeat<N>;
+
+    ghost use Rattle.tpcc_turns.specs.Seats.{CanSeat, seated_at};
+
+    ghost fits = { λ purse seat. CanSeat T.table seat purse };
+
+    ghost carrying = { seated_at };
+
+    ghost purse_in = { λ p. p.purse };
+
+    fn carry(purse: Purse<N>, seat: BoardSeat<N>) -> SeatedPurse<N, T>
+        requires fits { CanSeat T.table seat purse }
+        ensures both { result ≡ seated_at purse seat }
+        ensures purse { result.purse ≡ purse }
+    {
+        SeatedPurse::seated(purse, seat)
+    }
+}
+
 impl<N: Naming, T: Seating> SeatedPurse<N, T> {
     // A purse whose seat has no ticket.
     pub(crate) fn seated(purse: Purse<N>, seat: BoardSeat<N>) -> SeatedPurse<N, T>
         requires table { seat.table_id ≡ T.table }
         requires idle { seat.me
             ≡ (knows seat.me.0.start seat.me.0.front (purse.room + 1) Idle [], []) }
-        ensures seated { result
-            ≡ record { purse = purse; start = seat.me.0.start; front = seat.me.0.front } }
+        ensures seated { result ≡ seated_at purse seat }
     {
         SeatedPurse {
             purse,

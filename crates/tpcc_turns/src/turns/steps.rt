@@ -8,6 +8,7 @@ ghost use Rattle.tpcc_turns.specs.Shares.{both_of, last_parts, freed_of, back_of
 ghost use Rattle.tpcc_rows.specs.declared.entry.Entry.{Entry};
 ghost use Rattle.tpcc_book.specs.Past.{Past};
 
+use crate::pause::Pause;
 use crate::turns::boxed_book::BoxedBook;
 use crate::turns::gather::Joining;
 use crate::turns::knows::Knows;
@@ -15,7 +16,6 @@ use crate::turns::rule::{Draw, End, Grow, Look, TurnRule};
 use crate::turns::split::LastJoined;
 use atomic_table::{Seat, Shared, TableRule};
 use std::sync::Wait;
-use std::thread;
 use tpcc_book::Naming;
 use tpcc_population::Opening;
 
@@ -43,12 +43,13 @@ fn wait<N: Naming, R: Wait>(rt: &R, board: &Board<N>, seat: &mut BoardSeat<N>, t
     ensures called { (number : ℕ) → seat.old.me.0.stage ≡ Out number
         → HasBook seat.old.me number seat.new.me }
 {
+    let mut pause = Pause::among(1);
     for _ in rt.forever() {
-        if board.load::<Look>(seat, 1) == ticket {
+        let serving = board.load::<Look>(seat, 1);
+        if serving == ticket {
             return;
         }
-        // The thread whose turn it is may have no processor.
-        thread::yield_now();
+        pause.wait_behind(rt, ticket.wrapping_sub(serving));
     }
     unreachable!()
 }

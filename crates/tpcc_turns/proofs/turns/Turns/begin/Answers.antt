@@ -1,5 +1,6 @@
-use Rattle.std.proofs.Common.{◌≡◌, ℕ, ◌+◌, ◌%◌, ◌^◌, [], ◌∷◌, ap, sym, ◌∙◌}
+use Rattle.std.proofs.Common.{◌≡◌, ℕ, ◌+◌, ◌%◌, ◌^◌, [], ◌∷◌, ap, sym, ◌∙◌, subst}
 use Rattle.std.specs.Prelude.{Option, None}
+use mathlib.Core.List.{IsPrefix}
 use Rattle.atomic_table.specs.Seated.{TableId}
 use Rattle.atomic_table.specs.Table.{Me}
 use Rattle.atomic_table.specs.declared.shared.Seat.{Seat}
@@ -30,10 +31,14 @@ held_of table seat purse ticket book me p own is placed taken =
       opened = taken.opening ∙ sym start;
     }
 
-pub returns : goal.returns
-returns g c =
+pub returns-clause-keeper : goal.returns-clause-keeper
+returns-clause-keeper g c =
     let start = ap (λ (m : Me (Option Past) Knows). m.0.start) c.take-ticket.ensures.taken.now_is ∙ ap (λ (m : Me (Option Past) Knows). m.0.start) c.into_seat-purse.ensures.seat in
-    record { keeper = sym (keeper_is c.into_seat-purse.result.0 c.take-ticket.new.seat.me.0.start c.args.purse c.into_seat-purse.ensures.purse start) }
+    sym (keeper_is c.into_seat-purse.result.0 c.take-ticket.new.seat.me.0.start c.args.purse c.into_seat-purse.ensures.purse start)
+
+pub returns-clause-begins : goal.returns-clause-begins
+returns-clause-begins g c =
+    subst (λ (m : Me (Option Past) Knows). IsPrefix m.0.front c.take-ticket.result.1.entries) c.into_seat-purse.ensures.seat c.take-ticket.ensures.taken.begins
 
 pub invariant_of-result : goal.invariant_of-result
 invariant_of-result g c =
