@@ -30,6 +30,7 @@ impl<J, A: Answers<J>> Mailboxes<J, A> {
         let was = exchange_slot(shared, &mut seat, mailbox, Some(posted));
         let None = was else { unreachable!() };
         step_word::<J, A, Posting>(shared, &mut seat, mailbox, FREE, POSTED);
+        self.sleepers.wake_server();
         Waiting {
             seat,
             mailbox,

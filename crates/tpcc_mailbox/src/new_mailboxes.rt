@@ -9,6 +9,7 @@ use crate::answers::Answers;
 use crate::plays::{FirstCollecting, MakingClient, MakingServer};
 use crate::room::Room;
 use crate::rule::{ANSWERED, FREE, OPEN};
+use crate::sleeping::Sleepers;
 use crate::table::{
     MailboxSeat, MailboxTable, Mailboxes, split_seat, step_word, word_count, word_index,
 };
@@ -160,6 +161,7 @@ impl<J, A: Answers<J> + Drop> Mailboxes<J, A> {
             table,
             count: n,
             alloc,
+            sleepers: Sleepers::new(),
         };
         Ok((mailboxes, idles, Serving { seat }))
     }

@@ -71,6 +71,7 @@ impl<J, A: Answers<J>> Mailboxes<J, A> {
         let was = exchange_slot(shared, &mut serving.seat, mailbox, Some(answered));
         let None = was else { unreachable!() };
         step_word::<J, A, Answering>(shared, &mut serving.seat, mailbox, TAKEN, ANSWERED);
+        self.wake_client(mailbox);
     }
 
     /// Closes the mailboxes, which may be closed already. It raises a flag and stops nothing: letters

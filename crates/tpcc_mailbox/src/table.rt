@@ -8,6 +8,7 @@ ghost use Rattle.tpcc_mailbox.specs.Rule.{IsSized, Ruled, word_of, words_of};
 
 use crate::answers::Answers;
 use crate::rule::{Mail, MailboxRule, View};
+use crate::sleeping::Sleepers;
 use atomic_table::{Play, Seat, Shared, Split, Table};
 use std::alloc::Global;
 
@@ -30,6 +31,8 @@ pub struct Mailboxes<J, A: Answers<J>> {
     pub(crate) count: usize,
     /// Where `reclaim` takes memory.
     pub(crate) alloc: Global,
+    /// Who is to be woken.
+    pub(crate) sleepers: Sleepers,
     /// A slot for each, and as many words as they take.
     ghost counted: { table.shared.table_id.slots ≡ count },
     ghost sized: { IsSized table.shared.table_id },

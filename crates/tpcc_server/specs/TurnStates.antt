@@ -6,4 +6,4 @@ use Rattle.tpcc_server.specs.declared.turn_state.TurnState.TheVariants.{Free, Ho
 module _ {N T : Type 0} where
   abbrev pub keeper_in : TurnState N T → Keeper
   keeper_in (Free purse) = keeper_of purse
-  keeper_in (Holding held) = held
+  keeper_in (Holding held) = keeper_of held

@@ -4,9 +4,12 @@ ghost use Rattle.tpcc_turns.specs.Seats.{IsTurned};
 ghost use Rattle.tpcc_mailbox.specs.Tokens.{identity, idle_origin, idle_mailbox, waiting_origin, waiting_mailbox, waiting_letter, waiting_saw_closed};
 
 use crate::job::{Job, JobAnswer, JobIdle, JobMailboxes, JobWaiting};
-use crate::pause::Pause;
 use std::sync::Wait;
-use tpcc_turns::{Naming, Seating};
+use std::time::Duration;
+use tpcc_turns::{Naming, Pause, Seating};
+
+/// How long a client sleeps at most before it looks again, in milliseconds; the answer wakes it.
+const LONGEST: u64 = 100;
 
 /// Posts a job, and waits for its answer, or until the mailboxes are seen closed while there is none.
 /// In the error the job stays posted, and a server may still take it: its token is the right to what
@@ -29,7 +32,7 @@ pub fn ask<N: Naming, T: Seating, C, R: Wait>(
         × (waiting_mailbox w ≡ idle_mailbox idle)) }
 {
     let mut waiting = mailboxes.post(idle, job);
-    let mut pause = Pause::new();
+    let mut pause = Pause::among(mailboxes.len() as u64);
     for _ in rt.forever() {
         waiting = match mailboxes.collect(waiting) {
             Ok(done) => return Ok(done),
@@ -38,7 +41,9 @@ pub fn ask<N: Naming, T: Seating, C, R: Wait>(
         if mailboxes.seen_closed(&mut waiting) {
             break;
         }
-        pause.wait(rt);
+        if pause.next().is_some() {
+            mailboxes.sleep(rt, &waiting, Duration::from_millis(LONGEST));
+        }
     }
     Err(waiting)
 }

@@ -1,7 +1,8 @@
 //! Jobs, and the answers that fit them.
 ghost use Rattle.std.specs.Prelude.{◌≡◌};
 ghost use Rattle.tpcc_turns.specs.Turn.{IsTurn, TakesTurn, MakesTurn};
-ghost use Rattle.tpcc_turns.specs.Seats.{IsTurned};
+ghost use Rattle.tpcc_turns.specs.Seats.{IsTurned, keeper_of};
+ghost use mathlib.Core.List.{IsPrefix};
 
 use crate::errand::Errand;
 use crate::one_turn::{BoxedTurn, OneTurn, TurnCall};
@@ -95,7 +96,9 @@ impl<N: Naming, T: Seating, C: OneTurn> Job<N, T, C> {
         turns: &Turns<N, T>,
         held: HeldTurn<N, T>,
     ) -> (HeldTurn<N, T>, Answer<SeatedPurse<N, T>>)
-        ensures keeper { result.0 ≡ held }
+        ensures keeper { keeper_of result.0 ≡ keeper_of held }
+        ensures grows { IsPrefix held.front result.0.front }
+        ensures seen { result.1.purse.front ≡ result.0.front }
         ensures turned { IsTurned self.request self.purse result.1 }
     {
         let Job {

@@ -14,6 +14,7 @@
 //! `serve_round` looks at each mailbox once. `serve_until_closed` makes rounds until it has answered as many jobs as
 //! it may, or the mailboxes were closed before its last round. A server has a purse of its own, which
 //! keeps the book's turn from job to job while nobody else waits for it; so it draws no ticket for each job.
+//! When it finds no job for a while it gives the turn up, and later sleeps until a letter is posted.
 //!
 //! A `Gate` is called before and after each job, and may hold a server up. A server that may be held up ends its
 //! turn before it passes its gate.
@@ -30,8 +31,8 @@ mod asking;
 mod errand;
 mod gate;
 mod job;
+mod lull;
 mod one_turn;
-mod pause;
 mod serving;
 mod turn_state;
 

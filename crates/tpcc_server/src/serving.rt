@@ -9,8 +9,8 @@ ghost use Rattle.tpcc_server.specs.TurnStates.{keeper_in};
 use crate::errand::Errand;
 use crate::gate::Gate;
 use crate::job::{JobMailboxes, JobServing};
+use crate::lull::Lull;
 use crate::one_turn::OneTurn;
-use crate::pause::Pause;
 use crate::turn_state::TurnState;
 use std::sync::Wait;
 use tpcc_turns::{HeldTurn, Naming, SeatedPurse, Seating, Turns};
@@ -66,7 +66,7 @@ fn pass_after<N: Naming, T: Seating, G: Gate>(
     mailbox: usize,
     held: HeldTurn<N, T>,
 ) -> TurnState<N, T>
-    ensures keeper { keeper_in result ≡ held }
+    ensures keeper { keeper_in result ≡ keeper_of held }
 {
     let state = if gate.is_open() {
         TurnState::Holding(held).give_way(turns)
@@ -103,6 +103,7 @@ fn serve_some<N: Naming, T: Seating, C: OneTurn, G: Gate, R: Wait>(
         if served == most {
             break;
         }
+        state.stand_by(rt, turns);
         if let Some((taken, job)) = mailboxes.take(serving, k) {
             let before = pass_before(turns, gate, k, state);
             let (held, answer) = job.run_held(turns, before.hold(rt, turns));
@@ -116,9 +117,9 @@ fn serve_some<N: Naming, T: Seating, C: OneTurn, G: Gate, R: Wait>(
 
 /// Makes rounds until it has answered `limit` jobs, or has made one whole round after it saw the
 /// mailboxes closed. It gives the server, the gate and its own purse back, and the number of jobs that it answered.
-/// Between two jobs the purse keeps the book's turn, unless somebody else waits for it, the gate may hold the
-/// server up, or there was no job for long. While another server keeps the turn it stands by for some hundredths
-/// of a second before its next round, so that the turn goes from one to the other seldom.
+/// Between two jobs the purse keeps the book's turn, unless somebody else waits for it, the gate may hold the server up, or
+/// it has found no job for some thousand looks. While another server keeps the turn it stands by for about a tenth of a
+/// second before each job that it might take, so that the turn goes from one to the other seldom.
 pub fn serve_until_closed<N: Naming, T: Seating, C: OneTurn, G: Gate, R: Wait>(
     rt: &R,
     mailboxes: &JobMailboxes<N, T, C>,
@@ -141,10 +142,9 @@ pub fn serve_until_closed<N: Naming, T: Seating, C: OneTurn, G: Gate, R: Wait>(
     let mut serving = serving;
     let mut gate = gate;
     let mut state = TurnState::Free(keeper);
-    let mut pause = Pause::new();
+    let mut lull = Lull::new();
     let mut served = 0u64;
     for _ in rt.forever() {
-        state.stand_by(rt, turns);
         // Read before the round, so that a job posted before the mailboxes were closed is found.
         let closed = mailboxes.is_closed(&mut serving);
         let (answered, left) = serve_some(
@@ -162,9 +162,9 @@ pub fn serve_until_closed<N: Naming, T: Seating, C: OneTurn, G: Gate, R: Wait>(
             break;
         }
         if answered == 0 {
-            state = state.pause(rt, turns, &mut pause);
+            state = state.pause(rt, turns, mailboxes, &mut lull);
         } else {
-            pause.end();
+            lull.end();
         }
     }
     (serving, gate, served, state.rest(turns))

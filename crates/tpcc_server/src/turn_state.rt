@@ -3,15 +3,18 @@ ghost use Rattle.std.specs.Prelude.{◌≡◌};
 ghost use Rattle.tpcc_turns.specs.Seats.{keeper_of};
 ghost use Rattle.tpcc_server.specs.TurnStates.{keeper_in};
 
-use crate::pause::Pause;
+use crate::job::JobMailboxes;
+use crate::lull::Lull;
 use std::sync::Wait;
-use tpcc_turns::{HeldTurn, Naming, SeatedPurse, Seating, Turns};
+use tpcc_turns::{HeldTurn, Naming, Pause, SeatedPurse, Seating, Turns};
 
 /// How often a server that stands by looks again whether the book is free.
-const LOOKS: u32 = 500;
+const LOOKS: u32 = 20;
 
-/// A server's purse: without a turn, or with one that it keeps.
-#[derive(Drop)]
+/// Among how many it stands by, as its pauses count them.
+const STANDING_BY: u64 = 100;
+
+/// A server's purse: without a turn, or with one that it keeps. It is not `Drop`, since a turn has to be ended.
 pub(crate) enum TurnState<N: Naming, T: Seating> {
     /// It has none.
     Free(SeatedPurse<N, T>),
@@ -22,7 +25,7 @@ pub(crate) enum TurnState<N: Naming, T: Seating> {
 impl<N: Naming, T: Seating> TurnState<N, T> {
     /// With the turn, for which it waits where it has none.
     pub(crate) fn hold<R: Wait>(self, rt: &R, turns: &Turns<N, T>) -> HeldTurn<N, T>
-        ensures keeper { result ≡ keeper_in self }
+        ensures keeper { keeper_of result ≡ keeper_in self }
     {
         match self {
             TurnState::Free(purse) => turns.begin(rt, purse),
@@ -59,7 +62,7 @@ impl<N: Naming, T: Seating> TurnState<N, T> {
     /// Waits a while, where it has no turn and somebody else has: a server that comes at once would take the turn
     /// from the one that keeps it, at each of its jobs.
     pub(crate) fn stand_by<R: Wait>(&self, rt: &R, turns: &Turns<N, T>) {
-        let mut pause = Pause::new();
+        let mut pause = Pause::among(STANDING_BY);
         for _ in 0..LOOKS {
             if matches!(self, TurnState::Holding(_)) || !turns.is_busy() {
                 return;
@@ -68,21 +71,22 @@ impl<N: Naming, T: Seating> TurnState<N, T> {
         }
     }
 
-    /// Waits until there may be a job again; before it sleeps, it gives the turn up.
-    pub(crate) fn pause<R: Wait>(
+    /// Waits until there may be a job again. Where there was none for long it gives the turn up first, so that a client that
+    /// finds the book free serves itself.
+    pub(crate) fn pause<C, R: Wait>(
         self,
         rt: &R,
         turns: &Turns<N, T>,
-        pause: &mut Pause,
+        mailboxes: &JobMailboxes<N, T, C>,
+        lull: &mut Lull,
     ) -> TurnState<N, T>
         ensures keeper { keeper_in result ≡ keeper_in self }
     {
-        let state = if pause.is_long() {
-            TurnState::Free(self.rest(turns))
-        } else {
-            self
-        };
-        pause.wait(rt);
+        if !lull.is_long(mailboxes.len()) {
+            return self;
+        }
+        let state = TurnState::Free(self.rest(turns));
+        lull.wait(rt, mailboxes);
         state
     }
 }
