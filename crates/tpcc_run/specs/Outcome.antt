@@ -1,48 +1,56 @@
 -- What a run comes to.
-use Rattle.std.specs.Prelude.{ℕ, ◌≡◌, ◌⊎◌, List, Option, length}
+use Rattle.std.specs.Prelude.{ℕ, ◌≡◌, ◌⊎◌, List, [], Option, Vec}
 use Rattle.std.specs.Io.KnownBytes.{Appends, Keeps}
+use Rattle.std.specs.declared.alloc.Global.{Global}
 use Rattle.tpcc_population.specs.declared.opening.Opening.{Opening}
-use Rattle.tpcc_turns.specs.Past.{Past, IsKept, rise_of}
-use Rattle.tpcc_turns.specs.Purses.{PurseView, all_parts}
-use Rattle.tpcc_turns.specs.Serve.{rooms_of, entries_of, paid_of}
+use Rattle.tpcc_population.specs.Opening.{opening_scale}
+use Rattle.tpcc_turns.specs.Past.{Past}
+use Rattle.tpcc_turns.specs.Purses.{all_parts, first_purse}
+use Rattle.tpcc_turns.specs.Serve.{rooms_of}
+use Rattle.tpcc_turns.specs.Seats.{SeatedView, purses_of}
+use Rattle.tpcc_audit.specs.Receipt.{Receipt}
+use Rattle.tpcc_audit.specs.Settlement.{IsSettled, all_receipts}
 use Rattle.tpcc_screens.specs.declared.report.Report.{Report}
 use Rattle.tpcc_screens.specs.Report.{report_text}
 use Rattle.tpcc_blocks.specs.Part.{AppendsPart}
 use Rattle.tpcc_asked.specs.declared.parts.Part.{Part}
+use Rattle.tpcc_asked.specs.declared.plan.Plan.{Plan}
 use Rattle.tpcc_show.specs.Shown.{shown_text}
+use Rattle.tpcc_threads.specs.Returned.{HaveAllComeBack}
 
--- a kept book of the opening with its totals, and its purses, which are all there: the entries that they made are the book's, and what
--- they paid is the rise of W_YTD
-pub record HasTotals (opening : Opening) (book : Past) (report : Report) : Type 0 where
-  pub opening_is : book.opening ≡ opening
-  pub kept : IsKept book
-  pub purses : List PurseView
-  pub all_there : rooms_of purses ≡ all_parts
-  pub entries_made : report.entries ≡ entries_of purses
-  pub entries_is : report.entries ≡ length book.entries
-  pub paid_by : report.paid ≡ paid_of purses
-  pub paid_is : report.paid ≡ rise_of book
-  pub rise_is : report.rise ≡ rise_of book
+-- the first purse of a book of the opening, whose journal is empty
+abbrev pub opening_purse : Opening → SeatedView
+opening_purse opening = record { purse = first_purse; start = opening; front = [] }
 
--- the report of a book of the opening: its entries, and what its purses paid, which is the rise of W_YTD
-pub record HasReported (opening : Opening) (before after : Option (List ℕ)) : Type 0 where
+-- the book of the opening at the end of a run of the plan, with its totals. The purses are those of the plan's terminals, each of which
+-- asked all its cards, of the delivery runner, of the opening, and of the servers, which made nothing. They are all there, so the entries
+-- that they made are the book's, and what they paid is the rise of W_YTD; and each receipt is the book's entry at its place
+pub record HasTotals (opening : Opening) (plan : Plan) (book : Past) (report : Report) : Type 0 where
+  pub purses : List SeatedView
+  pub receipts : List (Vec Receipt Global)
+  pub back : HaveAllComeBack (opening_scale opening) plan (opening_purse opening) purses receipts
+  pub all_there : rooms_of (purses_of purses) ≡ all_parts
+  pub settled : IsSettled opening purses (all_receipts receipts) book report
+
+-- the report of a run: the entries that its purses made, and what they paid, which is the rise of W_YTD
+pub record HasReported (opening : Opening) (plan : Plan) (before after : Option (List ℕ)) : Type 0 where
   pub book : Past
   pub report : Report
-  pub told : HasTotals opening book report
+  pub told : HasTotals opening plan book report
   pub written : Appends before after (report_text report.entries report.paid report.rise)
 
--- these parts of a book of the opening, whose totals these are
-pub record HasShown (opening : Opening) (parts : List Part) (report : Report) (before after : Option (List ℕ)) : Type 0 where
+-- these parts of the book of a run, whose totals these are
+pub record HasShown (opening : Opening) (plan : Plan) (parts : List Part) (report : Report) (before after : Option (List ℕ)) : Type 0 where
   pub book : Past
-  pub told : HasTotals opening book report
+  pub told : HasTotals opening plan book report
   pub written : Appends before after (shown_text book parts)
 
 -- some first bytes of these parts of such a book, or nothing where the run came to no such book
-pub record HasCut (opening : Opening) (parts : List Part) (before after : Option (List ℕ)) : Type 0 where
+pub record HasCut (opening : Opening) (plan : Plan) (parts : List Part) (before after : Option (List ℕ)) : Type 0 where
   pub book : Past
   pub report : Report
-  pub told : HasTotals opening book report
+  pub told : HasTotals opening plan book report
   pub part : AppendsPart before after (shown_text book parts)
 
-abbrev pub HasShownPart : Opening → List Part → Option (List ℕ) → Option (List ℕ) → Type 0
-HasShownPart opening parts before after = HasCut opening parts before after ⊎ Keeps before after
+abbrev pub HasShownPart : Opening → Plan → List Part → Option (List ℕ) → Option (List ℕ) → Type 0
+HasShownPart opening plan parts before after = HasCut opening plan parts before after ⊎ Keeps before after

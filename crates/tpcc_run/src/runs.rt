@@ -1,5 +1,6 @@
 //! Runs, from an opening to what is written of the settled book.
 ghost use Rattle.std.specs.Prelude.{◌≡◌, IfOk, OnErr};
+ghost use Rattle.tpcc_population.specs.Opening.{opening_scale};
 ghost use Rattle.tpcc_population.specs.declared.opening.Opening.{Opening};
 ghost use Rattle.tpcc_run.specs.Outcome.{HasReported, HasShown, HasShownPart, HasTotals};
 ghost use Rattle.tpcc_asked.specs.Plans.{IsPlan};
@@ -33,7 +34,7 @@ pub fn run<
 >(rt: &R, alloc: Global, opening: &Opening, plan: &Plan, out: W, make: F) -> Result<W, RunFault>
     requires plan { IsPlan plan.now }
     requires make { F.IsAlwaysCallable make }
-    ensures reported { IfOk result (λ w. HasReported opening.now (W.contents out) (W.contents w)) }
+    ensures reported { IfOk result (λ w. HasReported opening.now plan.now (W.contents out) (W.contents w)) }
 {
     let mut out = out;
     run_shown(rt, alloc, opening, plan, &[Part::Report], &mut out, make)?;
@@ -62,9 +63,9 @@ pub fn run_shown<
     requires plan { IsPlan plan.now }
     requires make { F.IsAlwaysCallable make }
     ensures shown { IfOk result (λ report.
-        HasShown opening.now parts.now report (W.contents out.old) (W.contents out.new)) }
+        HasShown opening.now plan.now parts.now report (W.contents out.old) (W.contents out.new)) }
     ensures part { OnErr result
-        (HasShownPart opening.now parts.now (W.contents out.old) (W.contents out.new)) }
+        (HasShownPart opening.now plan.now parts.now (W.contents out.old) (W.contents out.new)) }
 {
     let lent = Lent {
         rt,
@@ -94,12 +95,14 @@ impl<
         requires entries { blanks.entries.name ≡ N.entries }
         requires cents { blanks.cents.name ≡ N.cents }
         ensures shown { IfOk result (λ report.
-            HasShown opening.now parts.now report (W.contents out.old) (W.contents out.new)) }
+            HasShown opening.now self.now.plan parts.now report
+            (W.contents out.old) (W.contents out.new)) }
         ensures part { OnErr result
-            (HasShownPart opening.now parts.now (W.contents out.old) (W.contents out.new)) }
+            (HasShownPart opening.now self.now.plan parts.now
+            (W.contents out.old) (W.contents out.new)) }
     {
         let settled = self.settle_book::<N>(opening, blanks)?;
-        let shown = show_settled(self.alloc, &settled, parts, out, opening);
+        let shown = show_settled(self.alloc, &settled, parts, out, opening, &self.plan);
         // Let go by a call, which keeps the book's parts out of this function's proof.
         drop(settled);
         shown
@@ -114,7 +117,7 @@ impl<
         requires make { F.IsAlwaysCallable self.now.make.now }
         requires entries { blanks.entries.name ≡ N.entries }
         requires cents { blanks.cents.name ≡ N.cents }
-        ensures settled { IfOk result (λ s. HasTotals opening.now s.book s.report) }
+        ensures settled { IfOk result (λ s. HasTotals opening.now self.now.plan s.book s.report) }
     {
         let Ok(turns) = UnnamedTurns::<N>::start(self.alloc, opening, blanks) else {
             return Err(RunFault::NoMemory);
@@ -130,7 +133,9 @@ impl<
     ) -> Result<SettledBook<N>, RunFault>
         requires make { F.IsAlwaysCallable self.now.make.now }
         requires name { turns.table ≡ T.table }
-        ensures settled { IfOk result (λ s. HasTotals turns.opening s.book s.report) }
+        requires scale { scale ≡ opening_scale turns.opening }
+        ensures settled { IfOk result (λ s.
+            HasTotals turns.opening self.now.plan s.book s.report) }
     {
         let (turns, first) = turns.name::<T>();
         let threads = RunThreads {
@@ -143,11 +148,13 @@ impl<
             plan: self.plan,
         };
         let all = threads.run(first);
-        end_run(turns, all)
+        end_run(turns, all, &self.plan)
     }
 }
 
-fn scale_of(opening: &Opening) -> Scale {
+fn scale_of(opening: &Opening) -> Scale
+    ensures scale { result ≡ opening_scale opening.now }
+{
     match *opening {
         Opening::Plain { scale } | Opening::Seeded { scale, .. } => scale,
     }

@@ -1,10 +1,15 @@
 //! The book of a run at its end.
-ghost use Rattle.std.specs.Prelude.{◌≡◌, IfOk, OnErr};
+ghost use Rattle.std.specs.Prelude.{◌≡◌, IfErr, IfOk, IsErrOf, None, OnErr, Some};
+ghost use Rattle.tpcc_population.specs.Opening.{opening_scale};
 ghost use Rattle.tpcc_audit.specs.Settlement.{AllSeen, all_receipts};
-ghost use Rattle.tpcc_run.specs.Outcome.{HasCut, HasShown, HasTotals};
+ghost use Rattle.tpcc_run.specs.Outcome.{HasCut, HasShown, HasTotals, opening_purse};
+ghost use Rattle.tpcc_threads.specs.Returned.{HaveAllComeBack};
+ghost use Rattle.tpcc_threads.specs.declared.fault.RunFault.{RunFault};
+ghost use Rattle.tpcc_threads.specs.declared.fault.RunFault.TheVariants.{Missing};
 
 use std::alloc::Global;
 use std::io::Write;
+use tpcc_asked::Plan;
 use tpcc_audit::{Receipt, settle_terminals};
 use tpcc_dump::DumpFault;
 use tpcc_population::Opening;
@@ -28,13 +33,18 @@ impl<N: Naming> Drop for SettledBook<N> {
     }
 }
 
-/// The totals of a run that nothing stopped.
+/// The totals of a run that nothing stopped. The plan is lent for the clauses alone, which say whose purses these are.
 pub(crate) fn end_run<N: Naming, T: Seating>(
     turns: Turns<N, T>,
     all: ThreadResults<N, T>,
+    plan: &Plan,
 ) -> Result<SettledBook<N>, RunFault>
     requires seen { AllSeen all.purses.items (all_receipts all.receipts.items) }
-    ensures settled { IfOk result (λ s. HasTotals turns s.book s.report) }
+    requires back { all.fault ≡ None
+        → HaveAllComeBack (opening_scale turns) plan.now (opening_purse turns)
+        all.purses.items all.receipts.items }
+    ensures settled { IfOk result (λ s. HasTotals turns plan.now s.book s.report) }
+    ensures fault { (fault : RunFault) → all.fault ≡ Some fault → IsErrOf result fault }
 {
     let ThreadResults {
         purses,
@@ -43,7 +53,7 @@ pub(crate) fn end_run<N: Naming, T: Seating>(
     } = all;
     match fault {
         Some(fault) => Err(fault),
-        None => totals_of(turns, purses, receipts.as_slice()),
+        None => totals_of(turns, purses, receipts.as_slice(), plan),
     }
 }
 
@@ -51,31 +61,38 @@ fn totals_of<N: Naming, T: Seating>(
     turns: Turns<N, T>,
     purses: Vec<SeatedPurse<N, T>>,
     receipts: &[Vec<Receipt>],
+    plan: &Plan,
 ) -> Result<SettledBook<N>, RunFault>
     requires seen { AllSeen purses.items (all_receipts receipts.now) }
-    ensures settled { IfOk result (λ s. HasTotals turns s.book s.report) }
+    requires back { HaveAllComeBack (opening_scale turns) plan.now (opening_purse turns)
+        purses.items receipts.now }
+    ensures settled { IfOk result (λ s. HasTotals turns plan.now s.book s.report) }
+    ensures missing { IfErr result (λ fault. fault ≡ Missing) }
 {
+    let _ = plan;
     match settle_terminals(turns, purses, receipts) {
         Ok((book, report)) => Ok(SettledBook { book, report }),
         Err(_left) => Err(RunFault::Missing),
     }
 }
 
-/// Writes parts of a settled book. The opening is lent for the clauses alone, which say whose totals these are.
+/// Writes parts of a settled book. The opening and the plan are lent for the clauses alone, which say whose totals these are.
 pub(crate) fn show_settled<N: Naming, W: Write>(
     alloc: Global,
     settled: &SettledBook<N>,
     parts: &[Part],
     out: &mut W,
     opening: &Opening,
+    plan: &Plan,
 ) -> Result<Report, RunFault>
-    requires totals { HasTotals opening.now settled.now.book settled.now.report }
+    requires totals { HasTotals opening.now plan.now settled.now.book settled.now.report }
     ensures shown { IfOk result (λ report.
-        HasShown opening.now parts.now report (W.contents out.old) (W.contents out.new)) }
+        HasShown opening.now plan.now parts.now report (W.contents out.old) (W.contents out.new)) }
     ensures part { OnErr result
-        (HasCut opening.now parts.now (W.contents out.old) (W.contents out.new)) }
+        (HasCut opening.now plan.now parts.now (W.contents out.old) (W.contents out.new)) }
 {
     let _ = opening;
+    let _ = plan;
     let report = settled.report;
     match show(alloc, &settled.book, parts, out) {
         Ok(()) => Ok(report),

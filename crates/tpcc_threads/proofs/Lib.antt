@@ -1,5 +1,8 @@
 mod Asked
+mod ComeBack
+mod Joined
 mod Kept
 mod StandAfter
+mod Started
 mod Turned
 mod Worked

@@ -1,6 +1,7 @@
 //! All that ask in a run: its terminals and its delivery runner.
-ghost use Rattle.std.specs.Prelude.{◌<◌};
+ghost use Rattle.std.specs.Prelude.{◌≡◌, ◌<◌, None};
 ghost use Rattle.tpcc_audit.specs.Settlement.{AllSeen, all_receipts};
+ghost use Rattle.tpcc_threads.specs.Returned.{HaveComeBack};
 
 use crate::duty::Duty;
 use crate::job_turns::JobTurns;
@@ -38,6 +39,8 @@ impl<
         requires room { self.now.plan.terminals < first.purse.room }
         requires make { F.IsAlwaysCallable self.now.make.now }
         ensures seen { AllSeen result.purses.items (all_receipts result.receipts.items) }
+        ensures back { result.fault ≡ None → HaveComeBack 0 self.now.scale self.now.plan first
+            result.purses.items result.receipts.items }
     {
         let mut routes = routes;
         let mut first = first;

@@ -1,5 +1,9 @@
 //! The delivery runner, a terminal that asks for deliveries alone (2.7.2).
+ghost use Rattle.std.specs.Prelude.{◌≡◌, IfSome, IsSome, None};
 ghost use Rattle.tpcc_audit.specs.Settlement.{AllSeen, all_receipts};
+ghost use Rattle.tpcc_threads.specs.Answered.{HasDrained, IfAll};
+ghost use Rattle.tpcc_threads.specs.Started.{HasJoinedRunner, IsPromised};
+ghost use Rattle.tpcc_threads.specs.declared.duty.Duty.TheVariants.{Deliveries};
 
 use crate::asking::Back;
 use crate::duty::Duty;
@@ -31,7 +35,15 @@ impl<
     )
         requires make { F.IsAlwaysCallable self.now.make.now }
         requires seen { AllSeen all.old.purses.items (all_receipts all.old.receipts.items) }
+        requires promised { IfSome runner (λ handle.
+            IsPromised Deliveries self.now.scale self.now.plan handle.promise) }
         ensures seen { AllSeen all.new.purses.items (all_receipts all.new.receipts.items) }
+        ensures before { all.new.fault ≡ None → all.old.fault ≡ None }
+        ensures made { all.new.fault ≡ None → IsSome runner.entry }
+        ensures joined { all.new.fault ≡ None
+            → IfSome runner.entry (λ handle. HasJoinedRunner handle.promise
+            all.old.purses.items all.old.receipts.items
+            all.new.purses.items all.new.receipts.items) }
     {
         match runner {
             Some(runner) => all.take_in(self.drain_back(runner.join(self.rt))),
@@ -42,6 +54,7 @@ impl<
     // What a runner that nothing stopped still asks.
     fn drain_back(&self, back: Back<'s, N, T, C>) -> Back<'s, N, T, C>
         requires make { F.IsAlwaysCallable self.now.make.now }
+        ensures drained { IfAll result (HasDrained self.now.plan.moment back.entry) }
     {
         match back {
             Back::All(operator) => self.ask_all(operator, Duty::Rest, u32::MAX),

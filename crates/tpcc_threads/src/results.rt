@@ -1,8 +1,9 @@
 //! What the threads of a run give back.
-ghost use Rattle.std.specs.Prelude.{◌≡◌, ◌<◌, ◌≤◌, ◌∷◌, ◌++◌, [], IsSome, None, Some, true};
+ghost use Rattle.std.specs.Prelude.{◌≡◌, ◌<◌, ◌≤◌, ◌⊎◌, ◌∷◌, [], None, Some, true};
 ghost use Rattle.tpcc_terminal.specs.Receipts.{AllStand};
 ghost use Rattle.tpcc_audit.specs.Settlement.{AllSeen, all_receipts};
-ghost use Rattle.tpcc_threads.specs.Working.{HasKeptBack};
+ghost use Rattle.tpcc_threads.specs.Faults.{HasNoted, noted};
+ghost use Rattle.tpcc_threads.specs.Returned.{HasKept, HasKeptBack, returned_of};
 ghost use Rattle.tpcc_threads.specs.declared.fault.RunFault.TheVariants.{NoMemory};
 
 use crate::asking::Back;
@@ -15,7 +16,7 @@ use tpcc_turns::{Naming, SeatedPurse, Seating};
 /// The purses that came back, with their receipts, and the fault that the run is to end with.
 #[derive(Drop)]
 pub struct ThreadResults<N: Naming, T: Seating> {
-    /// The terminals' and servers' purses.
+    /// The terminals' purses in the order of their numbers, the delivery runner's, the book's first, and the servers'.
     pub purses: Vec<SeatedPurse<N, T>>,
     /// The receipts of each purse's terminal; a server's has none.
     pub receipts: Vec<Vec<Receipt>>,
@@ -26,7 +27,9 @@ pub struct ThreadResults<N: Naming, T: Seating> {
 impl<N: Naming, T: Seating> ThreadResults<N, T> {
     /// Nothing came back yet.
     pub(crate) fn new(alloc: Global) -> ThreadResults<N, T>
+        ensures purses { result.purses.items ≡ [] }
         ensures receipts { result.receipts.items ≡ [] }
+        ensures fault { result.fault ≡ None }
     {
         ThreadResults {
             purses: Vec::new(alloc),
@@ -52,7 +55,7 @@ impl<N: Naming, T: Seating> ThreadResults<N, T> {
     pub(crate) fn note(&mut self, fault: RunFault)
         requires seen { AllSeen self.old.purses.items (all_receipts self.old.receipts.items) }
         ensures seen { AllSeen self.new.purses.items (all_receipts self.new.receipts.items) }
-        ensures noted { IsSome self.new.fault }
+        ensures noted { self.new.fault ≡ noted self.old.fault fault }
         ensures purses { self.new.purses ≡ self.old.purses }
         ensures receipts { self.new.receipts ≡ self.old.receipts }
     {
@@ -65,7 +68,9 @@ impl<N: Naming, T: Seating> ThreadResults<N, T> {
     pub(crate) fn note_started(&mut self, started: usize, wanted: u32)
         requires seen { AllSeen self.old.purses.items (all_receipts self.old.receipts.items) }
         ensures seen { AllSeen self.new.purses.items (all_receipts self.new.receipts.items) }
-        ensures noted { started < wanted → IsSome self.new.fault }
+        ensures noted { started < wanted → self.new.fault ≡ Some NoMemory }
+        ensures enough { self.new.fault ≡ None → wanted ≤ started }
+        ensures before { self.new.fault ≡ None → self.old.fault ≡ None }
         ensures purses { self.new.purses ≡ self.old.purses }
         ensures receipts { self.new.receipts ≡ self.old.receipts }
         ensures same { wanted ≤ started → self.new ≡ self.old }
@@ -79,9 +84,10 @@ impl<N: Naming, T: Seating> ThreadResults<N, T> {
     pub(crate) fn take_in<C>(&mut self, back: Back<'_, N, T, C>)
         requires seen { AllSeen self.old.purses.items (all_receipts self.old.receipts.items) }
         ensures seen { AllSeen self.new.purses.items (all_receipts self.new.receipts.items) }
+        ensures noted { HasNoted back.entry self.old.fault self.new.fault }
         ensures kept { self.new.fault ≡ None → HasKeptBack back.entry
-            self.old.purses.items (all_receipts self.old.receipts.items)
-            self.new.purses.items (all_receipts self.new.receipts.items) }
+            self.old.purses.items self.old.receipts.items
+            self.new.purses.items self.new.receipts.items }
         ensures before { self.new.fault ≡ None → self.old.fault ≡ None }
     {
         match back {
@@ -97,11 +103,10 @@ impl<N: Naming, T: Seating> ThreadResults<N, T> {
     fn keep_operator<C>(&mut self, operator: Operator<'_, N, T, C>)
         requires seen { AllSeen self.old.purses.items (all_receipts self.old.receipts.items) }
         ensures seen { AllSeen self.new.purses.items (all_receipts self.new.receipts.items) }
-        ensures receipts { self.new.fault ≡ None → all_receipts self.new.receipts.items
-            ≡ all_receipts self.old.receipts.items ++ operator.entry.station.receipts }
-        ensures purse { self.new.fault ≡ None → self.new.purses.items
-            ≡ self.old.purses.items ++ operator.entry.purse ∷ [] }
-        ensures before { self.new.fault ≡ None → self.old.fault ≡ None }
+        ensures noted { (self.new.fault ≡ self.old.fault) ⊎ (self.new.fault ≡ Some NoMemory) }
+        ensures kept { self.new.fault ≡ None → HasKept (returned_of operator.entry ∷ [])
+            self.old.purses.items self.old.receipts.items
+            self.new.purses.items self.new.receipts.items }
     {
         let (purse, receipts) = operator.into_parts();
         self.keep(purse, receipts);
@@ -112,11 +117,11 @@ impl<N: Naming, T: Seating> ThreadResults<N, T> {
         requires receipts { AllStand purse.front receipts.items }
         requires seen { AllSeen self.old.purses.items (all_receipts self.old.receipts.items) }
         ensures seen { AllSeen self.new.purses.items (all_receipts self.new.receipts.items) }
-        ensures receipts { self.new.fault ≡ None → all_receipts self.new.receipts.items
-            ≡ all_receipts self.old.receipts.items ++ receipts.items }
-        ensures purse { self.new.fault ≡ None → self.new.purses.items
-            ≡ self.old.purses.items ++ purse ∷ [] }
-        ensures before { self.new.fault ≡ None → self.old.fault ≡ None }
+        ensures noted { (self.new.fault ≡ self.old.fault) ⊎ (self.new.fault ≡ Some NoMemory) }
+        ensures kept { self.new.fault ≡ None
+            → HasKept (record { purse = purse; receipts = receipts.items } ∷ [])
+            self.old.purses.items self.old.receipts.items
+            self.new.purses.items self.new.receipts.items }
     {
         if !hold(&mut self.purses, &mut self.receipts, purse, receipts) {
             self.note(RunFault::NoMemory);
@@ -134,9 +139,9 @@ fn hold<N: Naming, T: Seating>(
     requires receipts { AllStand purse.front receipts.items }
     requires seen { AllSeen purses.old.items (all_receipts kept.old.items) }
     ensures seen { AllSeen purses.new.items (all_receipts kept.new.items) }
-    ensures receipts { result ≡ true → all_receipts kept.new.items
-        ≡ all_receipts kept.old.items ++ receipts.items }
-    ensures purse { result ≡ true → purses.new.items ≡ purses.old.items ++ purse ∷ [] }
+    ensures kept { result ≡ true
+        → HasKept (record { purse = purse; receipts = receipts.items } ∷ [])
+        purses.old.items kept.old.items purses.new.items kept.new.items }
 {
     if purses.reserve(1).is_err() {
         return false;

@@ -11,7 +11,7 @@ use tpcc_turns::{Naming, SeatedPurse, Seating};
 
 /// How one terminal's requests are served, one after another.
 pub(crate) enum Route<'s, N: Naming, T: Seating, C> {
-    /// By a job in the terminal's mailbox, which a server takes.
+    /// By a job in the terminal's mailbox, which a server takes, or by a turn of its own where the book is free.
     ByMailbox(MailboxRoute<'s, N, T, C>),
     /// By a turn that the terminal's own thread makes.
     ByTurn,
@@ -64,6 +64,11 @@ impl<'s, N: Naming, T: Seating, C: OneTurn> Route<'s, N, T, C> {
             Route::ByTurn => {
                 let answer = turns.run(rt, job);
                 Some((Route::ByTurn, answer))
+            }
+            // A thread that finds the book free makes its own turn: that spares two changes of threads.
+            Route::ByMailbox(route) if turns.is_free() => {
+                let answer = turns.run(rt, job);
+                Some((Route::ByMailbox(route), answer))
             }
             Route::ByMailbox(route) => {
                 let (route, answer) = route.ask(rt, job)?;

@@ -1,19 +1,23 @@
 //! The threads of servers: how they are started and joined.
-ghost use Rattle.std.specs.Prelude.{◌≡◌, ◌+◌, ◌≤◌, None};
+ghost use Rattle.std.specs.Prelude.{◌≡◌, ◌+◌, ◌≤◌, IfSome, None, length, map};
+ghost use Rattle.std.specs.List.{range_with_len};
 ghost use Rattle.tpcc_mailbox.specs.Tokens.{identity, serving_origin, serving_hand};
 ghost use Rattle.tpcc_audit.specs.Settlement.{AllSeen, all_receipts};
+ghost use Rattle.tpcc_asked.specs.declared.plan.TheConstants.{MOST_SERVERS};
+ghost use Rattle.tpcc_threads.specs.Purses.{with_rooms};
+ghost use Rattle.tpcc_threads.specs.Started.{HasAddedSome, HaveJoinedServers, HaveStartedServers};
 
 use crate::job_turns::{JobTurns, ServerJob};
+use crate::promises::{KeepsPurse, ServerHandle};
 use crate::results::ThreadResults;
+use crate::terminal_threads::keep_handle;
 use crate::threads::RunThreads;
 use std::alloc::{AllocError, Global};
+use std::snapshot::Snapshot;
 use std::sync::Wait;
-use std::thread::{JoinHandle, Scope, Threads};
+use std::thread::{Scope, Threads};
 use tpcc_server::{JobMailboxes, JobServing, OneTurn};
 use tpcc_turns::{Naming, SeatedPurse, Seating};
-
-/// The thread of a server, which gives the server's purse back.
-pub(crate) type ServerHandle<N, T> = JoinHandle<SeatedPurse<N, T>>;
 
 /// How many serve, and how many jobs each but the first serves before it ends; 0 is without end.
 #[derive(Clone, Copy)]
@@ -44,7 +48,8 @@ impl<
     F: Fn(Global) -> Result<C, AllocError> + Sync,
     R: Threads + Wait + Sync,
 > RunThreads<'s, N, T, Q, F, R> {
-    /// Starts so many servers, each with an empty purse of its own, as many as can be made.
+    /// Starts so many servers, each with an empty purse of its own, as many as can be made. The purses' numbers are behind
+    /// the delivery runner's, so no terminal has one of them.
     pub(crate) fn start_servers<E>(
         &'s self,
         scope: &Scope<'s, E>,
@@ -55,19 +60,23 @@ impl<
     ) -> Vec<ServerHandle<N, T>>
         requires origin { serving_origin serving.old ≡ identity mailboxes.now }
         requires room { servers.count ≤ first.old.purse.room }
+        requires most { servers.count ≤ MOST_SERVERS }
         ensures origin { serving_origin serving.new ≡ identity mailboxes.now }
-        ensures room { first.old.purse.room ≤ first.new.purse.room + servers.count }
+        ensures rest { first.old ≡ with_rooms first.new servers.count }
+        ensures most { length result.items ≤ servers.count }
+        ensures all { length result.items ≡ servers.count
+            → HaveStartedServers first.old
+            (range_with_len (self.now.plan.terminals + 2) servers.count)
+            (map (λ handle. handle.promise) result.items) }
     {
         let mut handles = Vec::new(self.alloc);
+        let behind = self.plan.terminals + 2;
         for number in 0..servers.count {
             let limit = servers.limit(handles.is_empty());
-            let purse = self.turns.split(first, number);
+            let purse = self.turns.split(first, behind + number);
             let one = serving.split(mailboxes);
             let started = self.start_server(scope, mailboxes, one, purse, limit);
-            if let Some(handle) = started {
-                // One that finds no room is let go: the scope joins its thread, and the caller sees that one is missing.
-                let _ = handles.push(handle);
-            }
+            keep_started(&mut handles, started);
         }
         handles
     }
@@ -83,18 +92,33 @@ impl<
     ) -> Option<ServerHandle<N, T>>
         requires origin { serving_origin serving ≡ identity mailboxes.now }
         requires free { serving_hand serving ≡ None }
+        ensures purse { IfSome result (λ handle. handle.promise.purse.value ≡ purse) }
     {
+        let promise = KeepsPurse {
+            purse: Snapshot::of(&purse),
+        };
         let work = ServerJob {
             mailboxes,
             serving,
             limit,
             purse,
         };
-        scope.spawn(move || self.turns.serve(self.rt, work)).ok()
+        scope
+            .spawn_with(promise, move || self.turns.serve(self.rt, work))
+            .ok()
     }
 }
 
-/// Joins the threads of all servers, and keeps their purses.
+// Adds the handle of a thread to others, if it could be made.
+fn keep_started<H: Drop>(handles: &mut Vec<H>, started: Option<H>)
+    ensures added { HasAddedSome started handles.old.items handles.new.items }
+{
+    if let Some(handle) = started {
+        keep_handle(handles, handle);
+    }
+}
+
+/// Joins the threads of all servers, and keeps their purses, in this order.
 pub(crate) fn join_servers<N: Naming, T: Seating, R: Threads>(
     rt: &R,
     alloc: Global,
@@ -103,9 +127,13 @@ pub(crate) fn join_servers<N: Naming, T: Seating, R: Threads>(
 )
     requires seen { AllSeen all.old.purses.items (all_receipts all.old.receipts.items) }
     ensures seen { AllSeen all.new.purses.items (all_receipts all.new.receipts.items) }
+    ensures before { all.new.fault ≡ None → all.old.fault ≡ None }
+    ensures joined { all.new.fault ≡ None
+        → HaveJoinedServers (map (λ handle. handle.promise) handles.items)
+        all.old.purses.items all.old.receipts.items
+        all.new.purses.items all.new.receipts.items }
 {
-    let mut handles = handles;
-    while let Some(handle) = handles.pop() {
+    for handle in handles {
         all.keep(handle.join(rt), Vec::new(alloc));
     }
 }

@@ -1,8 +1,12 @@
 //! The threads of terminals: how they are started and joined.
-ghost use Rattle.std.specs.Prelude.{◌≡◌, ◌≤◌, ◌<◌, ◌+◌};
+ghost use Rattle.std.specs.Prelude.{◌≡◌, ◌≤◌, ◌<◌, IfSome, None, length, map};
+ghost use Rattle.std.specs.List.{range_with_len};
 ghost use Rattle.tpcc_terminal.specs.Terminals.{IsStarted};
 ghost use Rattle.tpcc_audit.specs.Settlement.{AllSeen, all_receipts};
-ghost use Rattle.tpcc_threads.specs.Working.{HasComeBack};
+ghost use Rattle.tpcc_threads.specs.Answered.{IfAll};
+ghost use Rattle.tpcc_threads.specs.Purses.{empty_purse, with_rooms};
+ghost use Rattle.tpcc_threads.specs.Started.{HasAdded, HaveJoined, HaveStarted, IsPromised};
+ghost use Rattle.tpcc_threads.specs.Working.{HasWorked};
 
 use crate::asking::Back;
 use crate::duty::Duty;
@@ -33,13 +37,9 @@ impl<
         requires started { IsStarted operator.purse.purse.terminal
             self.now.scale self.now.plan.seed operator.station }
         requires make { F.IsAlwaysCallable self.now.make.now }
-        ensures kept { HasComeBack (record {
-          duty = duty;
-          scale = self.now.scale;
-          seed = self.now.plan.seed;
-          moment = self.now.plan.moment;
-          cards = self.now.plan.cards;
-        }) result }
+        requires empty { operator.purse.purse ≡ empty_purse operator.purse.purse.terminal }
+        ensures worked { IfAll result (HasWorked duty self.now.scale self.now.plan
+            operator.entry.purse.purse.terminal) }
     {
         self.ask_all(operator, duty, self.plan.cards)
     }
@@ -49,19 +49,16 @@ impl<
         &'s self,
         scope: &Scope<'s, E>,
         operator: Operator<'s, N, T, C>,
-        duty: Duty,
+        promise: ComesBack,
     ) -> Option<TerminalHandle<'s, N, T, C>>
         requires started { IsStarted operator.purse.purse.terminal
             self.now.scale self.now.plan.seed operator.station }
         requires make { F.IsAlwaysCallable self.now.make.now }
+        requires promised { IsPromised promise.duty self.now.scale self.now.plan promise }
+        requires empty { operator.purse.purse ≡ empty_purse promise.number }
+        ensures promise { IfSome result (λ handle. handle.promise ≡ promise) }
     {
-        let promise = ComesBack {
-            duty,
-            scale: self.scale,
-            seed: self.plan.seed,
-            moment: self.plan.moment,
-            cards: self.plan.cards,
-        };
+        let duty = promise.duty;
         scope
             .spawn_with(
                 promise,
@@ -69,6 +66,7 @@ impl<
                     requires started { IsStarted operator.purse.purse.terminal
                         self.now.scale self.now.plan.seed operator.station }
                     requires make { F.IsAlwaysCallable self.now.make.now }
+                    requires empty { operator.purse.purse ≡ empty_purse operator.purse.purse.terminal }
                 { self.work(operator, duty) },
             )
             .ok()
@@ -87,14 +85,23 @@ impl<
         requires number { 1 ≤ number }
         requires room { 0 < first.old.purse.room }
         requires make { F.IsAlwaysCallable self.now.make.now }
-        ensures room { first.old.purse.room ≡ first.new.purse.room + 1 }
+        ensures rest { first.old ≡ with_rooms first.new 1 }
+        ensures promised { IfSome result (λ handle.
+            IsPromised duty self.now.scale self.now.plan handle.promise) }
+        ensures number { IfSome result (λ handle. handle.promise.number ≡ number) }
     {
         let purse = self.turns.split(first, number);
         let route = route?;
         let Ok(terminal) = Terminal::new(self.alloc, number, self.scale, self.plan.seed) else {
             return None;
         };
-        self.start_thread(scope, Operator::new(route, purse, terminal), duty)
+        let promise = ComesBack {
+            duty,
+            scale: self.scale,
+            plan: self.plan,
+            number,
+        };
+        self.start_thread(scope, Operator::new(route, purse, terminal), promise)
     }
 
     /// Starts the plan's terminals, as many as can be made.
@@ -106,22 +113,36 @@ impl<
     ) -> Vec<TerminalHandle<'s, N, T, C>>
         requires room { self.now.plan.terminals ≤ first.old.purse.room }
         requires make { F.IsAlwaysCallable self.now.make.now }
+        ensures most { length result.items ≤ self.now.plan.terminals }
+        ensures rest { length result.items ≡ self.now.plan.terminals
+            → first.old ≡ with_rooms first.new self.now.plan.terminals }
+        ensures all { length result.items ≡ self.now.plan.terminals
+            → HaveStarted self.now.scale self.now.plan
+            (range_with_len 1 self.now.plan.terminals)
+            (map (λ handle. handle.promise) result.items) }
     {
         let mut routes = routes;
         let mut handles = Vec::new(self.alloc);
         for number in 0..self.plan.terminals {
             let route = routes.pop();
             let Some(handle) = self.start_next(scope, route, first, number + 1, Duty::Cards) else {
-                break;
+                return handles;
             };
-            // A handle that finds no room is let go: the scope joins its thread, and the caller sees that one is missing.
-            let _ = handles.push(handle);
+            keep_handle(&mut handles, handle);
         }
         handles
     }
 }
 
-/// Joins the threads of all terminals, and keeps their purses and receipts.
+/// Adds the handle of a thread to others. One that finds no room is let go: the scope joins its thread, and the caller sees that one is
+/// missing.
+pub(crate) fn keep_handle<H: Drop>(handles: &mut Vec<H>, handle: H)
+    ensures added { HasAdded handle handles.old.items handles.new.items }
+{
+    let _ = handles.push(handle);
+}
+
+/// Joins the threads of all terminals, and keeps their purses and receipts, in this order.
 pub(crate) fn join_terminals<N: Naming, T: Seating, C, R: Threads>(
     rt: &R,
     handles: Vec<TerminalHandle<'_, N, T, C>>,
@@ -129,8 +150,14 @@ pub(crate) fn join_terminals<N: Naming, T: Seating, C, R: Threads>(
 )
     requires seen { AllSeen all.old.purses.items (all_receipts all.old.receipts.items) }
     ensures seen { AllSeen all.new.purses.items (all_receipts all.new.receipts.items) }
+    ensures before { all.new.fault ≡ None → all.old.fault ≡ None }
+    ensures joined { all.new.fault ≡ None
+        → HaveJoined (map (λ handle. handle.promise) handles.entry.items)
+        all.old.purses.items all.old.receipts.items
+        all.new.purses.items all.new.receipts.items }
 {
     let mut handles = handles;
+    handles.reverse();
     while let Some(handle) = handles.pop() {
         all.take_in(handle.join(rt));
     }

@@ -1,9 +1,10 @@
 //! All threads of a run: of its terminals, of its delivery runner, and of its servers, if any.
-ghost use Rattle.std.specs.Prelude.{◌≡◌, ◌+◌, ◌≤◌, ◌<◌, All, IfSome};
+ghost use Rattle.std.specs.Prelude.{◌≡◌, ◌+◌, ◌≤◌, ◌<◌, All, IfNone, IfSome, None};
 ghost use Rattle.tpcc_turns.specs.Purses.{most_purses};
 ghost use Rattle.tpcc_mailbox.specs.Tokens.{identity, idle_origin, serving_origin};
 ghost use Rattle.tpcc_audit.specs.Settlement.{AllSeen, all_receipts};
 ghost use Rattle.tpcc_asked.specs.Plans.{IsPlan, IsService, plan_once};
+ghost use Rattle.tpcc_threads.specs.Returned.{HaveAllComeBack, HaveComeBack, servers_in};
 ghost use Rattle.tpcc_asked.specs.declared.plan.TheConstants.{MOST_SERVERS};
 
 use crate::job_turns::JobTurns;
@@ -59,6 +60,8 @@ impl<
         requires make { F.IsAlwaysCallable self.now.make.now }
         requires room { first.purse.room ≡ most_purses }
         ensures seen { AllSeen result.purses.items (all_receipts result.receipts.items) }
+        ensures back { result.fault ≡ None → HaveAllComeBack self.now.scale self.now.plan first
+            result.purses.items result.receipts.items }
     {
         let Some(servers) = servers_of(self.plan.service) else {
             return self.serve_directly(first);
@@ -84,8 +87,11 @@ impl<
         requires idles { All (λ idle. idle_origin idle ≡ identity mailboxes.now) idles.items }
         requires serving { serving_origin serving ≡ identity mailboxes.now }
         requires room { self.now.plan.terminals + servers.count < first.purse.room }
+        requires most { servers.count ≤ MOST_SERVERS }
         requires make { F.IsAlwaysCallable self.now.make.now }
         ensures seen { AllSeen result.purses.items (all_receipts result.receipts.items) }
+        ensures back { result.fault ≡ None → HaveComeBack servers.count self.now.scale self.now.plan first
+            result.purses.items result.receipts.items }
     {
         let Ok(routes) = by_mailboxes(self.alloc, mailboxes, idles) else {
             return ThreadResults::without_memory(self.alloc);
@@ -96,8 +102,12 @@ impl<
             |scope| -> ThreadResults<N, T>
                 requires serving { serving_origin serving ≡ identity mailboxes.now }
                 requires room { self.now.plan.terminals + servers.count < first.purse.room }
+                requires most { servers.count ≤ MOST_SERVERS }
                 requires make { F.IsAlwaysCallable self.now.make.now }
                 ensures seen { AllSeen result.purses.items (all_receipts result.receipts.items) }
+                ensures back { result.fault ≡ None
+                    → HaveComeBack servers.count self.entry.now.scale self.entry.now.plan first
+                    result.purses.items result.receipts.items }
             { self.drive(scope, mailboxes, routes, serving, first, servers) },
         )
     }
@@ -114,8 +124,11 @@ impl<
     ) -> ThreadResults<N, T>
         requires serving { serving_origin serving ≡ identity mailboxes.now }
         requires room { self.now.plan.terminals + servers.count < first.purse.room }
+        requires most { servers.count ≤ MOST_SERVERS }
         requires make { F.IsAlwaysCallable self.now.make.now }
         ensures seen { AllSeen result.purses.items (all_receipts result.receipts.items) }
+        ensures back { result.fault ≡ None → HaveComeBack servers.count self.now.scale self.now.plan first
+            result.purses.items result.receipts.items }
     {
         let mut serving = serving;
         let mut first = first;
@@ -134,6 +147,8 @@ impl<
         requires room { self.now.plan.terminals < first.purse.room }
         requires make { F.IsAlwaysCallable self.now.make.now }
         ensures seen { AllSeen result.purses.items (all_receipts result.receipts.items) }
+        ensures back { result.fault ≡ None → HaveComeBack 0 self.now.scale self.now.plan first
+            result.purses.items result.receipts.items }
     {
         let count = self.plan.terminals as usize + 1;
         let Ok(routes) = by_turns::<N, T, C, Q>(self.alloc, self.turns, count) else {
@@ -146,6 +161,9 @@ impl<
                 requires room { self.now.plan.terminals < first.purse.room }
                 requires make { F.IsAlwaysCallable self.now.make.now }
                 ensures seen { AllSeen result.purses.items (all_receipts result.receipts.items) }
+                ensures back { result.fault ≡ None
+                    → HaveComeBack 0 self.entry.now.scale self.entry.now.plan first
+                    result.purses.items result.receipts.items }
             { self.ask_everything(scope, routes, first) },
         )
     }
@@ -169,6 +187,8 @@ fn close_unserved<N: Naming, T: Seating, C>(
 fn servers_of(service: Service) -> Option<Servers>
     requires service { IsService service }
     ensures most { IfSome result (λ servers. servers.count ≤ MOST_SERVERS) }
+    ensures count { IfSome result (λ servers. servers.count ≡ servers_in service) }
+    ensures none { IfNone result (servers_in service ≡ 0) }
 {
     match service {
         Service::Servers { count, retire } => Some(Servers { count, retire }),

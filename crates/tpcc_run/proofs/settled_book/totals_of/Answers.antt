@@ -1,8 +1,11 @@
 use Rattle.std.proofs.Common.{refl}
-use Rattle.tpcc_audit.specs.Settlement.{all_receipts}
-use Rattle.tpcc_run.proofs.Reported.{totals_of}
 use Rattle.tpcc_run.proofs.settled_book.totals_of.Goals as goal
 
-pub returns-in-Ok : goal.returns-in-Ok
-returns-in-Ok g c =
-    record { settled = totals_of c.args.turns c.args.purses.items (all_receipts c.args.receipts.now) c.in-Ok.book c.in-Ok.report (c.in-Ok.ensures.exactly.0 refl) c.in-Ok.ensures.settled }
+pub returns-in-Ok-clause-settled : goal.returns-in-Ok-clause-settled
+returns-in-Ok-clause-settled g c = record {
+  purses = c.args.purses.items;
+  receipts = c.args.receipts.now;
+  back = c.requires.back;
+  all_there = c.in-Ok.ensures.exactly.0 refl;
+  settled = c.in-Ok.ensures.settled;
+}
