@@ -191,6 +191,10 @@ reported 'sixteen servers' '--seeded --servers 16' \
     70 90 50664.66
 reported '999 terminals' '--seeded --terminals 999 --cards 1' \
     1420 1421 1072077.00
+reported '999 terminals, four servers' '--seeded --terminals 999 --servers 4 --cards 20' \
+    28711 28731 21883632.65
+reported '999 terminals, by no server' '--seeded --terminals 999 --direct --cards 20' \
+    28711 28731 21883632.65
 reported 'an own value for each option' '--seeded --warehouses 2 --customers 30 --items 120 --seed 5 --moment 60 --terminals 3 --servers 6 --cards 7 --retire 4' \
     29 29 27824.28
 reported 'the seed of a plain opening' '--seed 7' \
@@ -260,12 +264,14 @@ by 'a deck'                      '"$tpcc" requests --terminal 5 --warehouses 3 -
     echo ${PIPESTATUS[0]} > status' 0 '' ' 1 delivery 2\n 10 new-order 2\n 10 payment 2\n 1 status 2\n 1 stock 2\n'
 
 # ---- a value of its own for each option of a run, none of them a default: what its terminals ask, by bench/plain, and the
-# runner's questions, at that moment too
+# runner's questions, at that moment too. Such a run has 29 entries whatever its threads do.
+
+own='--seeded --warehouses 2 --customers 30 --items 120 --seed 5 --moment 61 --terminals 3 --cards 7'
+own_report='entries 29\npaid 27824.28\nrise 27824.28'
 
 own_journal() {
     left_out "$1" && return
-    timeout "$seconds" "$tpcc" run --seeded --warehouses 2 --customers 30 --items 120 --seed 5 --moment 61 --terminals 3 --servers 6 --cards 7 --retire 4 \
-        --show journal > shown 2> told
+    timeout "$seconds" "$tpcc" run $own --servers 6 --retire 4 --show journal > shown 2> stderr
     echo $? > status
     { grep -v '^deliver ' shown | sort; grep '^deliver ' shown | sort -u; } > stdout
     cat > stdout.wanted << 'END'
@@ -292,25 +298,14 @@ stock 1 1 14
 stock 1 2 13
 deliver 61
 END
-    printf 'entries %s\n' "$(wc -l < shown)" > stderr.wanted
-    head -n 1 told > stderr
+    printf "$own_report\n" > stderr.wanted
     compare "$1" 0
 }
 
 own_journal 'a journal of own values'
-
-# All tickets that were queued are delivered in full at the end: the delivery runner asks until none is left.
-drained() {
-    left_out "$1" && return
-    timeout "$seconds" "$tpcc" run $2 --show journal --show results > shown 2> told
-    echo $? > status
-    part journal | grep -c '^delivery ' > stdout.wanted
-    [ "$(cat stdout.wanted)" -gt "$3" ] || echo "more than $3" > stdout.wanted
-    part results | grep -c '^delivered ' > stdout
-    : > stderr.wanted
-    : > stderr
-    compare "$1" 0
-}
+it 'the report of own values'            "run $own --servers 6 --retire 4"              '' 0 '' "$own_report\n"
+it 'a report beside a check'             "run $own --servers 6 --retire 4 --show check" '' 0 "$(printf "$own_report")" 'consistent\n'
+it 'a report beside a check, by no server' "run $own --direct --show check"             '' 0 "$(printf "$own_report")" 'consistent\n'
 
 # ---- what a run shows
 
@@ -319,16 +314,33 @@ part() {
     awk -v heading="== $1" '/^== / { on = ($0 == heading); next } on' shown
 }
 
+# The report that goes with the journal on standard input: its lines, and the payments among them twice, as what was paid and as the rise.
+report_of_journal() {
+    awk '$1 == "payment" { sub(/\./, "", $7); cents += $7 }
+        END { printf "entries %d\n", NR; for (i = 1; i <= 2; i++) printf "%s %d.%02d\n", i == 1 ? "paid" : "rise", int(cents / 100), cents % 100 }'
+}
+
+# All tickets that were queued are delivered in full at the end: the delivery runner asks until none is left.
+drained() {
+    left_out "$1" && return
+    timeout "$seconds" "$tpcc" run $2 --show journal --show results > shown 2> stderr
+    echo $? > status
+    part journal | grep -c '^delivery ' > stdout.wanted
+    [ "$(cat stdout.wanted)" -gt "$3" ] || echo "more than $3" > stdout.wanted
+    part results | grep -c '^delivered ' > stdout
+    part journal | report_of_journal > stderr.wanted
+    compare "$1" 0
+}
+
 # A run shows parts of its book, and its journal given to a script of the same opening shows the same screens. The report is
-# on standard error, and tells how long the journal is.
+# on standard error, and is that of the journal.
 again() {
     left_out "$1" && return
-    timeout "$seconds" "$tpcc" run $2 $3 --show journal --show screens --show check > shown 2> told
+    timeout "$seconds" "$tpcc" run $2 $3 --show journal --show screens --show check > shown 2> stderr
     echo $? > status
     part journal > journal
     part screens | tee stdout > stdout.wanted
-    printf 'entries %s\n' "$(wc -l < journal)" > stderr.wanted
-    head -n 1 told > stderr
+    report_of_journal < journal > stderr.wanted
     compare "$1: how it ends" 0
     [ "$(part check)" = consistent ] || differs "$1" check
     timeout "$seconds" "$tpcc" script $2 < journal > stdout 2> stderr
@@ -340,41 +352,40 @@ again() {
 # What the terminals of a run ask, each as often as `requests` says it, is what its journal has beside the runner's lines. None of these is refused.
 asked() {
     left_out "$1" && return
-    timeout "$seconds" "$tpcc" run $2 --terminals "$3" --cards "$4" --show journal > shown 2> told
+    timeout "$seconds" "$tpcc" run $2 --terminals "$3" --cards "$4" --show journal > shown 2> stderr
     echo $? > status
     grep -v '^deliver ' shown | sort > stdout
     for terminal in $(seq "$3"); do
         timeout "$seconds" "$tpcc" requests $2 --terminal "$terminal" --cards "$4" || echo "status $?"
     done | sort > stdout.wanted
-    printf 'entries %s\n%s requests\n' "$(wc -l < shown)" $(($3 * $4)) > stderr.wanted
-    { head -n 1 told; echo "$(wc -l < stdout) requests"; } > stderr
+    { report_of_journal < shown; echo $(($3 * $4)) requests; } > stderr.wanted
+    echo "$(wc -l < stdout) requests" >> stderr
     compare "$1" 0
 }
 
 # The same of a lone terminal, in its order.
 in_order() {
     left_out "$1" && return
-    timeout "$seconds" "$tpcc" run $2 --terminals 1 --cards "$3" --show journal > shown 2> told
+    timeout "$seconds" "$tpcc" run $2 --terminals 1 --cards "$3" --show journal > shown 2> stderr
     echo $? > status
     grep -v '^deliver ' shown > stdout
     timeout "$seconds" "$tpcc" requests $2 --terminal 1 --cards "$3" > stdout.wanted
-    printf 'entries %s\n%s requests\n' "$(wc -l < shown)" "$3" > stderr.wanted
-    { head -n 1 told; echo "$(wc -l < stdout) requests"; } > stderr
+    { report_of_journal < shown; echo "$3 requests"; } > stderr.wanted
+    echo "$(wc -l < stdout) requests" >> stderr
     compare "$1" 0
 }
 
 # The same of each of several terminals: its lines stand in the journal one behind the other, with others between them.
 among_others() {
     left_out "$1" && return
-    timeout "$seconds" "$tpcc" run $2 --terminals "$3" --servers "$4" --cards "$5" --show journal > shown 2> told
+    timeout "$seconds" "$tpcc" run $2 --terminals "$3" --servers "$4" --cards "$5" --show journal > shown 2> stderr
     echo $? > status
     for terminal in $(seq "$3"); do
         timeout "$seconds" "$tpcc" requests $2 --terminal "$terminal" --cards "$5" > lines || echo "status $?"
         awk 'NR == FNR { line[++count] = $0; next } count > found && $0 == line[found + 1] { found++ } END { print found + 0, count }' lines shown
     done > stdout
     for terminal in $(seq "$3"); do echo "$5 $5"; done > stdout.wanted
-    : > stderr
-    : > stderr.wanted
+    report_of_journal < shown > stderr.wanted
     compare "$1" 0
 }
 
@@ -421,6 +432,7 @@ timed 'the time of a refused request' script "${first}payment 9 1 1 1 1 1.00 0\n
 timed 'the time of parts'             'script --show journal --show check' "@cat '$top/examples/tour.txt'" '' 17
 timed 'the time of a run'             'run --cards 0' '' '' 1
 timed 'the time of parts of a run'    'run --cards 0 --show check' '' 'entries 1\npaid 0.00\nrise 0.00\n' 1
+timed 'the time of parts of own values' "run $own --servers 6 --retire 4 --show check" '' "$own_report\\n" 29
 it 'no time after a fault'            'script --time' 'check\nx\n' 2 'fault 1 Bad 2' 'consistent\n'
 for words in 'dump ITEM --time' 'requests --time' 'script --time 1' 'run --time --time'; do it "words: $words" "$words" '' 1 'fault 1 Arguments' ''; done
 

@@ -6,6 +6,7 @@
 //   alloc N            the Nth allocation is refused
 //   allocs N           every allocation from the Nth on is refused
 //   thread N           the Nth thread can't be made
+//   first-threads N    the first N threads can't be made
 //   read N             the Nth read of standard input fails
 //   short-read N       the Nth read of standard input gives one byte
 //   interrupt-read K   standard input is interrupted K times in a row before each read that succeeds
@@ -14,7 +15,7 @@
 //   short-write N      the Nth write to standard output takes one byte
 //   interrupt-write K  standard output is interrupted K times in a row before each write that succeeds
 //
-// A byte goes to file descriptor 9 where the call is reached.
+// A byte goes to file descriptor 9 each time that such a call is reached.
 #define _GNU_SOURCE
 #include <dlfcn.h>
 #include <errno.h>
@@ -30,9 +31,9 @@ extern void *__libc_calloc(size_t, size_t);
 extern void *__libc_realloc(void *, size_t);
 extern void *__libc_memalign(size_t, size_t);
 
-enum kind { NONE, COUNT, COUNT_WRITES, ALLOC, ALLOCS, THREAD, READ, SHORT_READ, INTERRUPT_READ, FULL, NOTHING, SHORT_WRITE, INTERRUPT_WRITE };
+enum kind { NONE, COUNT, COUNT_WRITES, ALLOC, ALLOCS, THREAD, FIRST_THREADS, READ, SHORT_READ, INTERRUPT_READ, FULL, NOTHING, SHORT_WRITE, INTERRUPT_WRITE };
 
-static const char *const names[] = { "", "count", "count-writes", "alloc", "allocs", "thread", "read", "short-read", "interrupt-read", "full", "nothing", "short-write", "interrupt-write" };
+static const char *const names[] = { "", "count", "count-writes", "alloc", "allocs", "thread", "first-threads", "read", "short-read", "interrupt-read", "full", "nothing", "short-write", "interrupt-write" };
 
 static enum kind kind;
 static long number;
@@ -151,6 +152,7 @@ ssize_t __write(int file, const void *from, size_t size) {
 int pthread_create(pthread_t *thread, const pthread_attr_t *attributes, void *(*start)(void *), void *argument) {
     static int (*real)(pthread_t *, const pthread_attr_t *, void *(*)(void *), void *);
     if (is_it(THREAD)) return EAGAIN;
+    if (kind == FIRST_THREADS && atomic_fetch_add(&count, 1) < number) { reached(); return EAGAIN; }
     if (!real) real = dlsym(RTLD_NEXT, "pthread_create");
     return real(thread, attributes, start, argument);
 }

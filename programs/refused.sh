@@ -102,21 +102,82 @@ for table in WAREHOUSE DISTRICT CUSTOMER HISTORY ORDER ORDER-LINE NEW-ORDER ITEM
 refuse_dump 'dump ITEM --seeded'
 refuse_dump 'requests --cards 24' 1
 
-# A run with such a call: a report of equal amounts, or want of memory and nothing.
+# A run whose allocations, or each so-manieth one, are refused in turn: a report of equal amounts, or want of memory and nothing.
 refuse_run() {
-    left_out "$1 refused: $2" && return
+    left_out "alloc refused: $1" && return
     local call
     : > stdin
-    for ((call = 1; ; call += $3)); do
-        failing "$1 $call" $2
+    for ((call = 1; ; call += $2)); do
+        failing "alloc $call" $1
         [ -s hit ] || break
-        if [ "$1" = thread ]; then wants_report 'fault 3 NoMemory'; else wants_report 'fault 3 NoMemory' 'fault 2 NoMemory'; fi
-        compare "$1 refused: $2, call $call" "$(wanted_status)"
+        wants_report 'fault 3 NoMemory' 'fault 2 NoMemory'
+        compare "alloc refused: $1, call $call" "$(wanted_status)"
         run=$((run - 1))
         refused_in_all=$((refused_in_all + 1))
     done
     run=$((run + 1))
 }
 
-refuse_run alloc 'run --terminals 2 --servers 2 --cards 3' "${STEP:-41}"
-refuse_run thread 'run --terminals 3 --servers 3 --cards 1' 1
+refuse_run 'run --terminals 2 --servers 2 --cards 3' "${STEP:-41}"
+
+# What a run comes to that was refused a thread: it ends, and for want of memory alone, whatever else is missing then.
+lacks_thread() {
+    : > stdout.wanted
+    echo 'fault 3 NoMemory' > stderr.wanted
+    compare "$1" 4
+}
+
+# Each thread of a run refused in turn.
+refuse_threads() {
+    left_out "thread refused: $1" && return
+    local call
+    : > stdin
+    for ((call = 1; ; call++)); do
+        failing "thread $call" $1
+        [ -s hit ] || break
+        lacks_thread "thread refused: $1, call $call"
+        run=$((run - 1))
+        refused_in_all=$((refused_in_all + 1))
+    done
+    [ "$call" -gt "$2" ] || differs "thread refused: $1: only $((call - 1)) threads" status
+    run=$((run + 1))
+}
+
+# Three terminals, the delivery runner, and the servers.
+refuse_threads 'run --terminals 3 --servers 3 --cards 1' 7
+refuse_threads 'run --terminals 3 --direct --cards 1' 4
+refuse_threads 'run --terminals 3 --servers 2 --cards 1 --show journal --show check' 6
+
+# The first so many threads of a run refused, which are its servers'. Where none of them can be made nobody waits for an answer.
+refuse_first() {
+    left_out "$1 threads refused: $2" && return
+    local all
+    : > stdin
+    failing "first-threads $1" $2
+    all=$(wc -c < hit)
+    [ "$all" -eq "$1" ] || differs "$1 threads refused: $2: $all were" status
+    lacks_thread "$1 threads refused: $2"
+    refused_in_all=$((refused_in_all + all))
+}
+
+# Every thread of a run refused.
+refuse_every() {
+    left_out "every thread refused: $1" && return
+    : > stdin
+    failing 'first-threads 1000' $1
+    [ -s hit ] || differs "every thread refused: $1: none was" status
+    lacks_thread "every thread refused: $1"
+    refused_in_all=$((refused_in_all + $(wc -c < hit)))
+}
+
+refuse_first 1 'run --terminals 2 --servers 1 --cards 3'
+refuse_first 3 'run --terminals 2 --servers 3 --cards 3'
+refuse_first 3 'run --terminals 2 --servers 3 --retire 1 --cards 3'
+# One server is left.
+refuse_first 1 'run --terminals 2 --servers 2 --cards 4'
+refuse_first 2 'run --terminals 2 --servers 3 --cards 4'
+for words in '--servers 1' '--servers 3' --direct; do refuse_every "run --terminals 2 $words --cards 3"; done
+
+# Such a run writes nothing, so a full disk is not what it ends with.
+by 'a thread refused and a full disk' 'timeout "$seconds" env FAILING="first-threads 1" LD_PRELOAD="$scratch/failing.so" "$tpcc" run --cards 1 \
+    < /dev/null > /dev/full 2> stderr 9> hit; echo $? > status' 4 'fault 3 NoMemory' ''

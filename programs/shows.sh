@@ -1,4 +1,5 @@
-# What is shown of scripts and of runs, read by run.sh after cases.sh. `it` and `by` are those of run.sh, `part` is that of cases.sh.
+# What is shown of scripts and of runs, read by run.sh after cases.sh. `it` and `by` are those of run.sh, `part` and
+# `report_of_journal` those of cases.sh.
 
 tables='WAREHOUSE DISTRICT CUSTOMER HISTORY ORDER ORDER-LINE NEW-ORDER ITEM STOCK'
 every_part=
@@ -6,12 +7,11 @@ for part in screens report journal results check $tables; do every_part+=" --sho
 
 # ---- a run's journal, given to a script of the same opening, shows the same of every part
 
-# The payments of the journal are what the report says was paid, and the rise.
+# The report tells the entries of the journal and its payments, as what was paid and as the rise.
 adds_up() {
-    part report | tail -n 2 > stdout
-    awk '$1 == "payment" { sub(/\./, "", $7); cents += $7 }
-        END { for (i = 1; i <= 2; i++) printf "%s %d.%02d\n", i == 1 ? "paid" : "rise", cents / 100, cents % 100 }' journal > stdout.wanted
-    compare "$1: what was paid" 0
+    part report > stdout
+    report_of_journal < journal > stdout.wanted
+    compare "$1: its report" 0
 }
 
 same_parts() {

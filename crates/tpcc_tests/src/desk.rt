@@ -1,4 +1,4 @@
-//! Desks of two terminals and two servers, step by step and as one run.
+//! Desks of two terminals, step by step and as one run.
 ghost use Rattle.std.specs.Prelude.{◌≡◌};
 
 use crate::asked::{balance, let_go, opening, payment, status};
@@ -9,9 +9,10 @@ use tpcc_book::{Blanks, Naming};
 use tpcc_core::{CoreFault, Desk, Event};
 use tpcc_money::{Cents, NoMemory};
 
-/// What happens at a new desk of two terminals and two servers.
+/// What happens at a new desk of two terminals.
 #[derive(Clone, Copy)]
 pub enum Story {
+    FullHand,
     Overtaking,
     KeptLetter,
     Post,
@@ -22,7 +23,7 @@ pub fn tell<R: Abort>(rt: &R, alloc: Global, story: Story) -> Result<(), NoMemor
     at_a_desk::<Brand, R>(rt, alloc, Blanks::new(), story)
 }
 
-/// Tells it of a desk of the plain opening, with two terminals and two servers.
+/// Tells it of a desk of the plain opening, with two terminals, and one server where the story is of its full hand.
 fn at_a_desk<N: Naming, R: Abort>(
     rt: &R,
     alloc: Global,
@@ -32,7 +33,11 @@ fn at_a_desk<N: Naming, R: Abort>(
     requires entries { blanks.entries.name ≡ N.entries }
     requires cents { blanks.cents.name ≡ N.cents }
 {
-    let mut desk = Desk::<N>::start(alloc, &opening(rt), 2, 2, blanks)?;
+    let servers = match story {
+        Story::FullHand => 1,
+        _ => 2,
+    };
+    let mut desk = Desk::<N>::start(alloc, &opening(rt), 2, servers, blanks)?;
     happens(rt, alloc, &mut desk, story);
     let_go(desk);
     Ok(())
@@ -41,6 +46,7 @@ fn at_a_desk<N: Naming, R: Abort>(
 /// The story itself.
 fn happens<N: Naming, R: Abort>(rt: &R, alloc: Global, desk: &mut Desk<N>, story: Story) {
     match story {
+        Story::FullHand => full_hand(rt, alloc, desk),
         Story::Overtaking => overtake(rt, alloc, desk),
         Story::KeptLetter => kept_letter(rt, alloc, desk),
         Story::Post => post(rt, desk),
@@ -139,6 +145,40 @@ fn first_place<N: Naming>(desk: &Desk<N>, terminal: u32) -> Option<u64> {
         Some(answer) => answer.place,
         None => None,
     }
+}
+
+/// Terminal 1 pays, and the only server takes its letter. It can't take another before it has answered.
+fn full_hand_events<R: Abort>(rt: &R, alloc: Global) -> Vec<Event> {
+    let mut events = Vec::new(alloc);
+    push(rt, &mut events, payment_at(1));
+    push_take(rt, &mut events, 1, 1);
+    push_take(rt, &mut events, 1, 2);
+    push_turn(rt, &mut events, 1, 1);
+    events
+}
+
+#[test]
+fn a_server_with_a_letter_takes_no_other(rt: HostRuntime) {
+    assert!(rt; tell(&rt, rt.alloc(), Story::FullHand).is_ok())
+}
+
+/// The second take isn't ready, though terminal 2 has posted too in the second round, which is one run.
+fn full_hand<N: Naming, R: Abort>(rt: &R, alloc: Global, desk: &mut Desk<N>) {
+    step_all(rt, desk, full_hand_events(rt, alloc), 2);
+    has_paid(rt, desk, 1);
+    assert!(rt; desk.step(payment_at(2)).is_ok());
+    assert!(rt; desk.run(full_hand_events(rt, alloc)).is_ok());
+    has_paid(rt, desk, 2);
+    assert!(rt; at_terminal(desk, 2) == (None, 0));
+}
+
+/// All entries are terminal 1's, which has collected as many answers and paid 1.00 by each.
+fn has_paid<N: Naming, R: Abort>(rt: &R, desk: &Desk<N>, entries: u32) {
+    let cents = Cents::new(i64::from(entries) * 100);
+    let seen = (desk.book().journal().len(), desk.book().rise());
+    assert!(rt; seen == (entries as usize, cents));
+    let paid = (Some((u64::from(entries), cents)), entries as usize);
+    assert!(rt; at_terminal(desk, 1) == paid);
 }
 
 #[test]

@@ -1,39 +1,64 @@
 //! Jobs on worked rows, with ample memory: the plain opening of one warehouse, ten customers a district
-//! and a hundred items.
-ghost use Rattle.std.specs.Prelude.{◌≡◌, All, None};
-ghost use Rattle.tpcc_mailbox.specs.Tokens.{identity, idle_origin, waiting_origin, serving_origin, serving_hand};
+//! and a hundred items. Each story ends with the settlement of the purses that came back.
+ghost use Rattle.std.specs.Prelude.{◌≡◌};
 
+mod errands;
 mod gates;
 mod left;
+mod opened;
+mod reclaims;
 mod reposts;
 mod rounds;
 
-use crate::asked::{let_go, opening, payment};
-use gates::hold_up_first;
+use crate::asked::{BEFORE, opening};
+use crate::turns::end;
+use errands::{ask_twice, run_alone};
+use gates::{hold_up_first, hold_up_second, look_for_the_book, withhold_one};
 use left::{ask_closed_mailboxes, collect_no_answer};
+use reclaims::answer_one;
 use reposts::close_meanwhile;
-use rounds::serve_to_limits;
+use rounds::{serve_behind_a_close, serve_in_a_round, serve_to_limits};
 use std::alloc::Global;
 use std::marker::Brand;
 use std::process::Abort;
 use std::sync::Wait;
-use std::sync::atomic::{AtomicU64, Ordering};
 use std::thread::Threads;
 use std::time::Clock;
-use tpcc_book::{Blanks, Naming, Register, Turned};
+use tpcc_book::{Blanks, Naming};
 use tpcc_money::Cents;
-use tpcc_rows::Request;
-use tpcc_server::{Job, JobAnswer, JobIdle, JobMailboxes, JobServing, JobWaiting, OneTurn};
 use tpcc_turns::{SeatedPurse, Seating, Turns, UnnamedTurns};
 
 /// What happens at the turns of a new book.
 #[derive(Clone, Copy)]
 enum Story {
+    RunAlone,
+    AskedTwice,
     AskedInVain,
+    OneAnswered,
     NotCollected,
+    InARound,
+    BehindAClose,
     Limited,
+    LookedAt,
     HeldUp,
+    HeldAtSecond,
+    OneWithheld,
     ClosedMeanwhile,
+}
+
+impl Story {
+    /// The entries of the book at the end, and the cents that were paid, where no purse is missing.
+    fn comes_to(self) -> (usize, Option<i64>) {
+        match self {
+            Story::AskedInVain => (0, Some(0)),
+            Story::RunAlone | Story::OneAnswered | Story::NotCollected => (1, Some(100)),
+            Story::AskedTwice => (2, Some(100)),
+            Story::InARound | Story::BehindAClose | Story::Limited => (2, Some(200)),
+            Story::LookedAt | Story::HeldUp => (2, Some(200)),
+            Story::HeldAtSecond => (3, Some(300)),
+            Story::OneWithheld | Story::ClosedMeanwhile => (2, None),
+        }
+    }
 }
 
 /// Tells a story of a book that is named here.
@@ -57,7 +82,7 @@ fn at_a_book<N: Naming + Send + Sync, R: Threads + Wait + Clock + Abort + Sync>(
     at_its_turns::<N, Brand, R>(rt, alloc, turns, story)
 }
 
-/// Tells a story of turns whose table is named, with four purses of the book.
+/// Tells a story of turns whose table is named, and settles them with the purses that come back.
 fn at_its_turns<
     N: Naming + Send + Sync,
     T: Seating + Send + Sync,
@@ -65,15 +90,72 @@ fn at_its_turns<
 >(rt: &R, alloc: Global, turns: UnnamedTurns<N>, story: Story)
     requires name { turns.table ≡ T.table }
 {
-    let (turns, mut first) = turns.name::<T>();
-    let one = first.split(&turns, 1);
-    let two = first.split(&turns, 2);
-    let other = first.split(&turns, 3);
-    happens(rt, alloc, &turns, one, two, (first, other), story);
-    let_go(turns)
+    let (turns, first) = turns.name::<T>();
+    let back = happens(rt, alloc, &turns, split_off(rt, &turns, first), story);
+    let (entries, paid) = story.comes_to();
+    let sums = match paid {
+        Some(cents) => Some((entries as u64, Cents::new(cents), Cents::new(cents))),
+        None => None,
+    };
+    assert!(rt; end(turns, back) == (Some(entries), sums));
 }
 
-/// The story of the purses of two terminals, and those of two servers.
+/// A book's first purse, and those that were split off it.
+#[derive(Drop)]
+struct Purses<N: Naming, T: Seating> {
+    /// The first one, a server's.
+    keeper: SeatedPurse<N, T>,
+    /// Of terminal 1.
+    one: SeatedPurse<N, T>,
+    /// Of terminal 2.
+    two: SeatedPurse<N, T>,
+    /// Of terminal 3.
+    three: SeatedPurse<N, T>,
+    /// A second server's.
+    other: SeatedPurse<N, T>,
+}
+
+fn split_off<N: Naming, T: Seating, R: Abort>(
+    rt: &R,
+    turns: &Turns<N, T>,
+    first: SeatedPurse<N, T>,
+) -> Purses<N, T> {
+    let mut first = first;
+    assert!(rt; first.room() == 10_000);
+    let one = first.split(turns, 1);
+    let two = first.split(turns, 2);
+    let three = first.split(turns, 3);
+    let other = first.split(turns, 4);
+    Purses {
+        keeper: first,
+        one,
+        two,
+        three,
+        other,
+    }
+}
+
+impl<N: Naming, T: Seating> Purses<N, T> {
+    /// All of them.
+    fn all<R: Abort>(self, rt: &R, alloc: Global) -> Vec<SeatedPurse<N, T>> {
+        let Purses {
+            keeper,
+            one,
+            two,
+            three,
+            other,
+        } = self;
+        let mut purses = Vec::with_capacity(alloc, 5).expect(rt, BEFORE);
+        purses.push_reserved(keeper);
+        purses.push_reserved(one);
+        purses.push_reserved(two);
+        purses.push_reserved(three);
+        purses.push_reserved(other);
+        purses
+    }
+}
+
+/// The story itself: the purses that come back.
 fn happens<
     N: Naming + Send + Sync,
     T: Seating + Send + Sync,
@@ -82,170 +164,22 @@ fn happens<
     rt: &R,
     alloc: Global,
     turns: &Turns<N, T>,
-    one: SeatedPurse<N, T>,
-    two: SeatedPurse<N, T>,
-    keepers: (SeatedPurse<N, T>, SeatedPurse<N, T>),
+    purses: Purses<N, T>,
     story: Story,
-) {
-    let (keeper, other) = keepers;
+) -> Vec<SeatedPurse<N, T>> {
     match story {
-        Story::AskedInVain => {
-            let_go((two, keeper, other));
-            ask_closed_mailboxes(rt, alloc, one)
-        }
-        Story::NotCollected => {
-            let_go((two, other));
-            collect_no_answer(rt, alloc, turns, one, keeper)
-        }
-        Story::HeldUp => hold_up_first(rt, alloc, turns, one, two, keeper, other),
-        Story::Limited => {
-            let_go(other);
-            serve_to_limits(rt, alloc, turns, one, two, keeper)
-        }
-        Story::ClosedMeanwhile => {
-            let_go((other, two));
-            close_meanwhile(rt, alloc, turns, one, keeper)
-        }
+        Story::RunAlone => run_alone(rt, turns, purses).all(rt, alloc),
+        Story::AskedTwice => ask_twice(rt, alloc, turns, purses).all(rt, alloc),
+        Story::AskedInVain => ask_closed_mailboxes(rt, alloc, purses).all(rt, alloc),
+        Story::OneAnswered => answer_one(rt, alloc, turns, purses).all(rt, alloc),
+        Story::NotCollected => collect_no_answer(rt, alloc, turns, purses).all(rt, alloc),
+        Story::InARound => serve_in_a_round(rt, alloc, turns, purses).all(rt, alloc),
+        Story::BehindAClose => serve_behind_a_close(rt, alloc, turns, purses).all(rt, alloc),
+        Story::Limited => serve_to_limits(rt, alloc, turns, purses).all(rt, alloc),
+        Story::LookedAt => look_for_the_book(rt, alloc, turns, purses).all(rt, alloc),
+        Story::HeldUp => hold_up_first(rt, alloc, turns, purses).all(rt, alloc),
+        Story::HeldAtSecond => hold_up_second(rt, alloc, turns, purses).all(rt, alloc),
+        Story::OneWithheld => withhold_one(rt, alloc, turns, purses),
+        Story::ClosedMeanwhile => close_meanwhile(rt, alloc, turns, purses),
     }
-}
-
-/// A turn that counts its calls.
-#[derive(Drop)]
-struct CountedTurn<'a> {
-    made: &'a AtomicU64,
-}
-
-impl<'a> OneTurn for CountedTurn<'a> {
-    fn turn_once(
-        self,
-        register: &mut Register,
-        request: Request,
-        terminal: u32,
-        number: u64,
-    ) -> Turned {
-        self.made.fetch_add(1, Ordering::SeqCst);
-        register.turn(request, terminal, number)
-    }
-}
-
-/// The token of the last client of these. The mailboxes are lent for the clauses alone, which name their identity.
-fn last_of<N: Naming, T: Seating, C, R: Abort>(
-    rt: &R,
-    idles: &mut Vec<JobIdle<N, T, C>>,
-    mailboxes: &JobMailboxes<N, T, C>,
-) -> JobIdle<N, T, C>
-    requires { All (λ x. idle_origin x ≡ identity mailboxes.now) idles.old.items }
-    ensures rest { All (λ x. idle_origin x ≡ identity mailboxes.now) idles.new.items }
-    ensures last { idle_origin result ≡ identity mailboxes.now }
-{
-    let _ = mailboxes;
-    idles.pop().expect(rt, "one more client")
-}
-
-/// One mailbox, with its client and a server.
-#[derive(Drop)]
-struct One<N: Naming, T: Seating, C> {
-    mailboxes: JobMailboxes<N, T, C>,
-    idle: JobIdle<N, T, C>,
-    serving: JobServing<N, T, C>,
-    ghost origin: { (idle_origin idle ≡ identity mailboxes) × (serving_origin serving ≡ identity mailboxes) },
-    ghost hand: { serving_hand serving ≡ None },
-}
-
-fn make_one<N: Naming, T: Seating, C: Drop, R: Abort>(rt: &R, alloc: Global) -> One<N, T, C> {
-    let made = JobMailboxes::<N, T, C>::new(alloc, 1);
-    let (mailboxes, mut idles, serving) = made.expect(rt, "memory for a mailbox");
-    let idle = last_of(rt, &mut idles, &mailboxes);
-    let_go(idles);
-    One {
-        mailboxes,
-        idle,
-        serving,
-    }
-}
-
-/// Posts a payment that is turned by this call.
-fn post<N: Naming, T: Seating, C: OneTurn>(
-    mailboxes: &JobMailboxes<N, T, C>,
-    idle: JobIdle<N, T, C>,
-    purse: SeatedPurse<N, T>,
-    call: C,
-) -> JobWaiting<N, T, C>
-    requires { idle_origin idle ≡ identity mailboxes.now }
-    ensures { waiting_origin result ≡ identity mailboxes.now }
-{
-    mailboxes.post(idle, Job::of(payment(100), purse, call))
-}
-
-/// Three mailboxes, with payments in the first and in the last one, and a server.
-#[derive(Drop)]
-struct Opened<N: Naming, T: Seating, C> {
-    mailboxes: JobMailboxes<N, T, C>,
-    first: JobWaiting<N, T, C>,
-    last: JobWaiting<N, T, C>,
-    serving: JobServing<N, T, C>,
-    ghost first_origin: { waiting_origin first ≡ identity mailboxes },
-    ghost last_origin: { waiting_origin last ≡ identity mailboxes },
-    ghost origin: { serving_origin serving ≡ identity mailboxes },
-    ghost hand: { serving_hand serving ≡ None },
-}
-
-fn open<N: Naming, T: Seating, C: OneTurn, R: Abort>(
-    rt: &R,
-    alloc: Global,
-    one: SeatedPurse<N, T>,
-    two: SeatedPurse<N, T>,
-    calls: (C, C),
-) -> Opened<N, T, C> {
-    let opened = JobMailboxes::<N, T, C>::new(alloc, 3);
-    let (mailboxes, mut idles, serving) = opened.expect(rt, "memory for three mailboxes");
-    let last = last_of(rt, &mut idles, &mailboxes);
-    let_go(last_of(rt, &mut idles, &mailboxes));
-    let first = last_of(rt, &mut idles, &mailboxes);
-    let_go(idles);
-    let (call, other) = calls;
-    let first = post(&mailboxes, first, one, call);
-    let last = post(&mailboxes, last, two, other);
-    Opened {
-        mailboxes,
-        first,
-        last,
-        serving,
-    }
-}
-
-/// Both answers are there, and each purse has one entry.
-fn are_paid<N: Naming, T: Seating, C: Drop, R: Abort>(
-    rt: &R,
-    mailboxes: JobMailboxes<N, T, C>,
-    first: JobWaiting<N, T, C>,
-    last: JobWaiting<N, T, C>,
-)
-    requires first { waiting_origin first ≡ identity mailboxes }
-    requires last { waiting_origin last ≡ identity mailboxes }
-{
-    is_paid(rt, &mailboxes, first);
-    is_paid(rt, &mailboxes, last);
-    let_go(mailboxes)
-}
-
-fn is_paid<N: Naming, T: Seating, C: Drop, R: Abort>(
-    rt: &R,
-    mailboxes: &JobMailboxes<N, T, C>,
-    waiting: JobWaiting<N, T, C>,
-)
-    requires { waiting_origin waiting ≡ identity mailboxes.now }
-{
-    let collected = mailboxes.collect(waiting).ok();
-    let (idle, answer) = collected.expect(rt, "a job was not answered");
-    let_go(idle);
-    let seen = paid_by(&answer);
-    let_go(answer);
-    assert!(rt; seen == (1, Cents::new(100)));
-}
-
-/// The entries and cents of an answer's purse.
-fn paid_by<N: Naming, T: Seating>(answer: &JobAnswer<N, T>) -> (u64, Cents) {
-    let purse = answer.purse();
-    (purse.entries(), purse.paid())
 }

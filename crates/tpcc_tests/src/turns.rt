@@ -114,7 +114,7 @@ fn serve<N: Naming, T: Seating, R: Wait>(
 }
 
 /// How many entries the book that is left has, and the entries, cents and rise of the purses where none is missing.
-fn end<N: Naming, T: Seating>(
+pub fn end<N: Naming, T: Seating>(
     turns: Turns<N, T>,
     purses: Vec<SeatedPurse<N, T>>,
 ) -> (Option<usize>, Option<(u64, Cents, Cents)>) {

@@ -2,8 +2,9 @@
 ghost use Rattle.std.specs.Prelude.{◌≡◌, [], ◌∷◌};
 ghost use Rattle.tpcc_mailbox.specs.Tokens.{identity, client_origin, idle_origin, waiting_origin, serving_origin};
 
-use super::{CountedTurn, One, Story, make_one, post, tell};
-use crate::asked::{let_go, payment};
+use super::opened::{CountedTurn, One, make_one, post};
+use super::{Purses, Story, tell};
+use crate::asked::{let_go, payment, purse_of};
 use std::alloc::Global;
 use std::process::Abort;
 use std::sync::Wait;
@@ -24,20 +25,13 @@ fn a_job_at_closed_mailboxes_is_given_back_uncalled(rt: HostRuntime) {
 pub(super) fn ask_closed_mailboxes<N: Naming, T: Seating, R: Wait + Abort>(
     rt: &R,
     alloc: Global,
-    one: SeatedPurse<N, T>,
-) {
+    purses: Purses<N, T>,
+) -> Purses<N, T> {
     let made = AtomicU64::new(0);
-    let job = Job::of(payment(100), one, CountedTurn { made: &made });
-    let seen = given_back(no_answer(rt, alloc, job));
-    assert!(rt; seen == (true, 0) && made.load(Ordering::SeqCst) == 0);
-}
-
-/// Whether the payment comes back, and the entries of its purse.
-fn given_back<N: Naming, T: Seating, C: OneTurn>(job: Job<N, T, C>) -> (bool, u64) {
-    let (request, purse) = job.give_back();
-    let seen = (request == payment(100), purse.entries());
-    let_go(purse);
-    seen
+    let job = Job::of(payment(100), purses.one, CountedTurn { made: &made });
+    let (request, one) = no_answer(rt, alloc, job).give_back();
+    assert!(rt; request == payment(100) && made.load(Ordering::SeqCst) == 0);
+    Purses { one, ..purses }
 }
 
 /// Closes new mailboxes, asks the job there, and reclaims it.
@@ -71,7 +65,7 @@ fn ask_in_vain<N: Naming, T: Seating, C: Drop, R: Wait + Abort>(
 }
 
 /// The letter that was never taken.
-fn letter_of<J: Drop, A: Drop, R: Abort>(rt: &R, left: Left<J, A>) -> J {
+pub(super) fn letter_of<J: Drop, A: Drop, R: Abort>(rt: &R, left: Left<J, A>) -> J {
     match left {
         Left::Letter(letter) => letter,
         other => {
@@ -82,7 +76,7 @@ fn letter_of<J: Drop, A: Drop, R: Abort>(rt: &R, left: Left<J, A>) -> J {
 }
 
 /// The answer that was never collected.
-fn reply_of<J: Drop, A: Drop, R: Abort>(rt: &R, left: Left<J, A>) -> A {
+pub(super) fn reply_of<J: Drop, A: Drop, R: Abort>(rt: &R, left: Left<J, A>) -> A {
     match left {
         Left::Reply(reply) => reply,
         other => {
@@ -135,15 +129,18 @@ pub(super) fn collect_no_answer<N: Naming, T: Seating, R: Wait + Abort>(
     rt: &R,
     alloc: Global,
     turns: &Turns<N, T>,
-    one: SeatedPurse<N, T>,
-    keeper: SeatedPurse<N, T>,
-) {
+    purses: Purses<N, T>,
+) -> Purses<N, T> {
+    let Purses { keeper, one, .. } = purses;
     let made = AtomicU64::new(0);
     let call = CountedTurn { made: &made };
-    let (served, answer) = answer_left(rt, alloc, turns, one, keeper, call);
-    let place = answer.place();
-    let_go(answer);
-    assert!(rt; (served, place, made.load(Ordering::SeqCst)) == (1, Some(0), 1));
+    let (keeper, answer) = answer_left(rt, alloc, turns, one, keeper, call);
+    assert!(rt; (answer.place(), made.load(Ordering::SeqCst)) == (Some(0), 1));
+    Purses {
+        keeper,
+        one: purse_of(answer),
+        ..purses
+    }
 }
 
 /// Serves a round, and takes the only job's answer out of the mailboxes that are taken apart.
@@ -154,7 +151,7 @@ fn answer_left<N: Naming, T: Seating, C: OneTurn, R: Wait + Abort>(
     purse: SeatedPurse<N, T>,
     keeper: SeatedPurse<N, T>,
     call: C,
-) -> (u64, JobAnswer<N, T>) {
+) -> (SeatedPurse<N, T>, JobAnswer<N, T>) {
     let One {
         mailboxes,
         idle,
@@ -162,7 +159,7 @@ fn answer_left<N: Naming, T: Seating, C: OneTurn, R: Wait + Abort>(
     } = make_one(rt, alloc);
     let waiting = post(&mailboxes, idle, purse, call);
     let (served, keeper) = serve_round(rt, &mailboxes, &mut serving, turns, &mut OpenGate, keeper);
-    let_go(keeper);
     let left = reclaim(rt, alloc, mailboxes, waiting, serving);
-    (served, reply_of(rt, left))
+    assert!(rt; served == 1);
+    (keeper, reply_of(rt, left))
 }

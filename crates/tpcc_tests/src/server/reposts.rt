@@ -2,7 +2,8 @@
 ghost use Rattle.std.specs.Prelude.{◌≡◌};
 ghost use Rattle.tpcc_mailbox.specs.Tokens.{identity, serving_origin, waiting_origin};
 
-use super::{One, Story, make_one, post, tell};
+use super::opened::{One, make_one, post};
+use super::{Purses, Story, tell};
 use crate::asked::{let_go, purse_of};
 use crate::plain_turn::PlainTurn;
 use std::alloc::Global;
@@ -65,14 +66,14 @@ fn a_round_is_made_behind_a_flag_that_was_seen(rt: HostRuntime) {
 }
 
 /// Behind the first job its client collects, posts again and closes: the next round finds that job, since a
-/// server reads the flag before its round.
+/// server reads the flag before its round. The client's purse stays in its mailbox, and goes with it.
 pub(super) fn close_meanwhile<N: Naming, T: Seating, R: Wait + Abort>(
     rt: &R,
     alloc: Global,
     turns: &Turns<N, T>,
-    one: SeatedPurse<N, T>,
-    keeper: SeatedPurse<N, T>,
-) {
+    purses: Purses<N, T>,
+) -> Vec<SeatedPurse<N, T>> {
+    let Purses { keeper, one, .. } = purses;
     let One {
         mailboxes,
         idle,
@@ -95,4 +96,5 @@ pub(super) fn close_meanwhile<N: Naming, T: Seating, R: Wait + Abort>(
     let_go(gate);
     let_go(mailboxes);
     assert!(rt; served == 2);
+    Vec::new(alloc)
 }
