@@ -1,7 +1,7 @@
 //! `tpcc`: the order-entry system at the command line.
 #![tactic(auto)]
 
-ghost use Rattle.tpcc_register.specs.Turn.{IsTurn};
+ghost use Rattle.tpcc_book.specs.Turn.{IsTurn};
 
 use std::alloc::{AllocError, Global};
 use std::io::IsTerminal;

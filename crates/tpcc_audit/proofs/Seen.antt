@@ -1,17 +1,16 @@
 -- Receipts that stand in the fronts of purses.
 use Rattle.std.proofs.Common.{◌≡◌, ℕ, zero, suc, List, [], ◌∷◌, slice_index_or, subst, Some, arith, All}
-use Rattle.std.specs.Prelude.{slice_get, Option, None, IfSome, Result, Ok, Err, IfOk, IfErr}
+use Rattle.std.specs.Prelude.{slice_get, Option, None, IfSome}
 use Rattle.std.proofs.lemmas.List.Elements.{All-head, All-tail}
 use mathlib.Core.List.{IsPrefix}
 use Rattle.tpcc_rows.specs.declared.entry.Entry.{Entry}
 use Rattle.tpcc_population.specs.declared.opening.Opening.{Opening}
-use Rattle.tpcc_turns.specs.Past.{Past}
+use Rattle.tpcc_book.specs.Past.{Past}
 use Rattle.tpcc_turns.specs.Closing.{IsLeft}
 use Rattle.tpcc_turns.specs.Seats.{SeatedView}
 use Rattle.tpcc_terminal.specs.declared.receipts.Receipt.{Receipt}
 use Rattle.tpcc_terminal.specs.Receipts.{Stands, AllStand}
-use Rattle.tpcc_screens.specs.declared.report.Report.{Report}
-use Rattle.tpcc_audit.specs.Settlement.{AllSeen, IsSettled, IsUnsettled}
+use Rattle.tpcc_audit.specs.Settlement.{AllSeen, IsUnsettled}
 
 -- what holds of all holds of the one at a place
 at_place : {X : Type 0} (P : X → Type 0) (xs : List X) (k : ℕ) (x : X) → All P xs → slice_get xs k ≡ Some x → P x
@@ -42,19 +41,3 @@ pub left_stand : Stay → (start : Opening) (purses : List SeatedView) (receipts
 left_stand stay start purses receipts None seen left = tt
 left_stand stay start purses receipts (Some book) seen left =
     record { left = left; stand = seen_stand stay purses book.entries receipts seen left.begins }
-
--- a book that is settled without receipts is settled with all that stand in the fronts
-pub settled_with : {E : Type 0} → Stay → (start : Opening) (purses : List SeatedView) (receipts : List Receipt) (r : Result (Past × Report) E) → AllSeen purses receipts → IfOk r (λ s. IsSettled start purses [] s.0 s.1) → IfOk r (λ s. IsSettled start purses receipts s.0 s.1)
-settled_with stay start purses receipts (Ok (book, report)) seen settled =
-    record { gathered = settled.gathered; rise_is = settled.rise_is; equal = settled.equal; stand = seen_stand stay purses book.entries receipts seen settled.gathered.left.begins }
-settled_with stay start purses receipts (Err e) seen settled = tt
-
--- also where a purse is missing
-unsettled_with : Stay → (start : Opening) (purses : List SeatedView) (receipts : List Receipt) (book : Option Past) → AllSeen purses receipts → IfSome book (IsUnsettled start purses []) → IfSome book (IsUnsettled start purses receipts)
-unsettled_with stay start purses receipts None seen left = tt
-unsettled_with stay start purses receipts (Some book) seen left =
-    left_stand stay start purses receipts (Some book) seen left.left
-
-pub missing_with : {X E : Type 0} → Stay → (start : Opening) (purses : List SeatedView) (receipts : List Receipt) (r : Result X (Option Past × E)) → AllSeen purses receipts → IfErr r (λ e. IfSome e.0 (IsUnsettled start purses [])) → IfErr r (λ e. IfSome e.0 (IsUnsettled start purses receipts))
-missing_with stay start purses receipts (Ok x) seen left = tt
-missing_with stay start purses receipts (Err (book, e)) seen left = unsettled_with stay start purses receipts book seen left

@@ -1,2 +1,1 @@
 pub mod Settlement
-pub use Rattle.tpcc_terminal.specs.declared.receipts.Receipt

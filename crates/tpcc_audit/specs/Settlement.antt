@@ -2,11 +2,11 @@
 use Rattle.std.specs.Prelude.{ℕ, ◌≡◌, List, All, Some, Vec, flat_map, slice_get}
 use Rattle.std.specs.declared.alloc.Global.{Global}
 use Rattle.tpcc_population.specs.declared.opening.Opening.{Opening}
-use Rattle.tpcc_turns.specs.Past.{Past, rise_of}
+use Rattle.tpcc_book.specs.Past.{Past, rise_of}
 use Rattle.tpcc_turns.specs.Seats.{SeatedView}
 use Rattle.tpcc_turns.specs.Closing.{IsLeft, IsGathered}
 use Rattle.tpcc_terminal.specs.declared.receipts.Receipt.{Receipt}
-use Rattle.tpcc_screens.specs.declared.report.Report.{Report}
+use Rattle.tpcc_text.specs.declared.screens.report.Report.{Report}
 use Rattle.tpcc_terminal.specs.Receipts.{Stands, AllStand}
 
 -- a receipt stands in the front of one of these purses

@@ -1,11 +1,11 @@
 //! The report of a run.
 ghost use Rattle.std.specs.Prelude.{IfOk};
 ghost use Rattle.std.specs.Io.KnownBytes.{Appends};
-ghost use Rattle.tpcc_screens.specs.Report.{report_text};
+ghost use Rattle.tpcc_text.specs.Report.{report_text};
 
 use std::io::Write;
 use thiserror::Error;
-use tpcc_screens::Report;
+use tpcc_text::Report;
 
 /// Why a report was not written whole. The text is the program's line on standard error.
 #[derive(Clone, Copy, Debug, Error)]

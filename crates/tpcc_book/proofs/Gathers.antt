@@ -6,7 +6,7 @@ use Rattle.std.proofs.lemmas.Int.{ints}
 use Rattle.std.proofs.lemmas.List.Sums.{sum_by-append}
 use Rattle.tpcc_book.specs.Purses.{PurseView, PoolView, pool_of, pool_with}
 use Rattle.tpcc_book.specs.Serve.{rooms_of, entries_of, paid_of}
-use Rattle.tpcc_book.specs.Pooling.{AreAll}
+use Rattle.tpcc_book.specs.Internal.Pooling.{AreAll}
 
 rooms_push : (purses : List PurseView) (p : PurseView) → rooms_of (purses ++ p ∷ []) ≡ rooms_of purses + (p.room + 1)
 rooms_push purses p =

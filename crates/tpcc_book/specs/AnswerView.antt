@@ -3,7 +3,7 @@ use Rattle.std.specs.Prelude.{ℕ, Option, Result}
 use Rattle.tpcc_rows.specs.declared.requests.Request.{Request}
 use Rattle.tpcc_rows.specs.declared.replies.Reply.{Reply}
 use Rattle.tpcc_rows.specs.declared.refusals.Refusal.{Refusal}
-use Rattle.tpcc_register.specs.declared.outcome.Turned.{Turned}
+use Rattle.tpcc_book.specs.declared.register.outcome.Turned.{Turned}
 
 -- the request, its reply or refusal, the place of its entry, and the purse that was handed in
 pub record AnswerView (P : Type 0) : Type 0 where

@@ -4,10 +4,10 @@ use Rattle.std.specs.List.{sum_by}
 use Rattle.tpcc_money.specs.Amounts.{total}
 use Rattle.tpcc_rows.specs.declared.requests.Request.{Request}
 use Rattle.tpcc_rows.specs.Replay.{paid_by_request}
-use Rattle.tpcc_register.specs.Past.{Past}
+use Rattle.tpcc_book.specs.Past.{Past}
 use Rattle.tpcc_book.specs.Purses.{PurseView}
 use Rattle.tpcc_book.specs.AnswerView.{AnswerView}
-use Rattle.tpcc_register.specs.Turn.{IsTurn}
+use Rattle.tpcc_book.specs.Turn.{IsTurn}
 
 -- a purse that made one more entry, and paid
 abbrev pub purse_after : PurseView → ℤ → PurseView

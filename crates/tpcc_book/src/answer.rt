@@ -3,8 +3,8 @@ ghost use Rattle.std.specs.Prelude.{◌≡◌};
 ghost use Rattle.tpcc_book.specs.AnswerView.{answer_of, answer_with};
 
 use crate::carrying::CarriesPurse;
+use crate::register::outcome::Turned;
 use std::marker::Model;
-use tpcc_register::Turned;
 use tpcc_rows::{Refusal, Reply, Request};
 
 /// What a served request gives back. `Book::serve` and `Book::serve_by` alone make one, with the purse that was handed

@@ -1,21 +1,28 @@
 //! The book: a register with the totals of its purses.
-ghost use Rattle.std.specs.Prelude.{◌≡◌, IfOk, length};
-ghost use Rattle.tpcc_register.specs.Past.{IsKept, opening_past, rise_of};
+ghost use Rattle.std.specs.Prelude.{◌≡◌, IfOk, OnOk, length};
+ghost use Rattle.tpcc_book.specs.Past.{IsKept, opening_past, rise_of};
 ghost use Rattle.tpcc_book.specs.Purses.{all_parts, first_purse};
-ghost use Rattle.tpcc_register.specs.Turn.{TakesTurn, MakesTurn};
+ghost use Rattle.tpcc_book.specs.Turn.{IsTurn, TakesTurn, MakesTurn};
 ghost use Rattle.tpcc_book.specs.AnswerView.{answer_of};
-ghost use Rattle.tpcc_book.specs.Serve.{IsServed, rooms_of, entries_of, paid_of};
+ghost use Rattle.tpcc_book.specs.Serve.{Fits, IsServed, rooms_of, entries_of, paid_of};
+ghost use Rattle.tpcc_book.specs.Internal.Crediting.{CanCredit, IsCredited};
+ghost use Rattle.tpcc_rows.specs.Replay.{paid_by_request};
 
 use crate::answer::Answer;
 use crate::naming::{Blanks, Entries, Naming, PaidCents};
 use crate::purse::{Pool, Purse};
+use crate::register::Register;
+use crate::register::outcome::Turned;
 use std::alloc::Global;
 use std::marker::Model;
 use std::sync::ledger::Book as LedgerBook;
+use tpcc_delivery::Queue;
 use tpcc_journal::Journal;
-use tpcc_money::{Cents, NoMemory};
-use tpcc_register::{Opening, Queue, Register, Tables, Turned};
-use tpcc_rows::Request;
+use tpcc_laws::laws;
+use tpcc_money::Cents;
+use tpcc_population::Opening;
+use tpcc_rows::{NoMemory, Request, recall};
+use tpcc_tables::Tables;
 
 /// A register, and the two totals that its purses share: the journal's length, and by how much the
 /// sum of W_YTD rose since the opening.
@@ -41,7 +48,7 @@ impl<N: Naming> Drop for Book<N> {
 
 impl<N: Naming> Model for Book<N> {
     ghost use Rattle.std.specs.Prelude.{◌≡◌, length, pos};
-    ghost use Rattle.tpcc_register.specs.Past.{Past, rise_of};
+    ghost use Rattle.tpcc_book.specs.Past.{Past, rise_of};
 
     ghost Value = { Past };
 
@@ -113,16 +120,15 @@ impl<N: Naming> Book<N> {
     pub fn serve(&mut self, request: Request, purse: Purse<N>) -> Answer<Purse<N>>
         ensures served { IsServed self.old request purse result self.new }
     {
-        self.serve_by(
-            request,
-            purse,
-            |register: &mut Register, request: Request, terminal: u32, number: u64| {
-                register.turn(request, terminal, number)
-            },
-        )
+        // For the proof: the register is kept; W_YTD rises by what is paid.
+        recall!(self.register.journal());
+        recall!(laws::turn_pays());
+        let (terminal, entries) = (purse.terminal(), purse.entries());
+        let turned = self.register.turn(request, terminal, entries);
+        credit(turned, purse, &mut self.entries, &mut self.cents)
     }
 
-    /// The same by a call that makes a turn.
+    /// Serves a request as [`Book::serve`] does, by a call that makes a turn.
     pub fn serve_by<F: FnOnce(&mut Register, Request, u32, u64) -> Turned>(
         &mut self,
         request: Request,
@@ -133,29 +139,12 @@ impl<N: Naming> Book<N> {
         requires turns { MakesTurn (F.post turn) }
         ensures served { IsServed self.old request purse result self.new }
     {
-        let mut purse = purse;
-        let turned = self.turn_for(request, &mut purse, turn);
-        Answer::new(turned, purse)
-    }
-
-    // The turn, with what it adds to the purse.
-    fn turn_for<F: FnOnce(&mut Register, Request, u32, u64) -> Turned>(
-        &mut self,
-        request: Request,
-        purse: &mut Purse<N>,
-        turn: F,
-    ) -> Turned
-        requires takes { TakesTurn (F.pre turn) }
-        requires turns { MakesTurn (F.post turn) }
-        ensures served { IsServed self.old request purse.old (answer_of result purse.new) self.new }
-    {
-        let paid = request.paid();
+        // For the proof: the register is kept; W_YTD rises by what is paid.
+        recall!(self.register.journal());
+        recall!(laws::turn_pays());
         let (terminal, entries) = (purse.terminal(), purse.entries());
-        let turned = self.register.turn_by(request, terminal, entries, turn);
-        if turned.outcome.is_ok() {
-            purse.credit(&mut self.entries, &mut self.cents, paid);
-        }
-        turned
+        let turned = call_turn(&mut self.register, request, terminal, entries, turn);
+        credit(turned, purse, &mut self.entries, &mut self.cents)
     }
 
     /// The entries and the payments of all purses of the book, put together. The conditions of a call are
@@ -186,7 +175,44 @@ impl<N: Naming> Book<N> {
         ensures entries { (result.0 ≡ pool.entries) × (result.0 ≡ length self.old.entries) }
         ensures paid { (result.1 ≡ pool.paid) × (result.1 ≡ rise_of self.old) }
     {
-        let _journal = self.register.journal();
+        // For the proof: the register is kept.
+        recall!(self.register.journal());
         pool.audit(&mut self.entries, &mut self.cents)
     }
+}
+
+// Called by itself, so that what is known of the turn alone comes out of the call.
+fn call_turn<F: FnOnce(&mut Register, Request, u32, u64) -> Turned>(
+    register: &mut Register,
+    request: Request,
+    terminal: u32,
+    number: u64,
+    turn: F,
+) -> Turned
+    requires takes { TakesTurn (F.pre turn) }
+    requires turns { MakesTurn (F.post turn) }
+    ensures turn { IsTurn register.old terminal number request result register.new }
+{
+    turn(register, request, terminal, number)
+}
+
+// The answer to a turn, whose entry and payment are added to the purse and to the totals of all purses.
+fn credit<N: Naming>(
+    turned: Turned,
+    purse: Purse<N>,
+    entries: &mut LedgerBook<Entries<N>>,
+    cents: &mut LedgerBook<PaidCents<N>>,
+) -> Answer<Purse<N>>
+    requires room { OnOk turned.outcome
+        (CanCredit entries.old.total cents.old.total (paid_by_request turned.request)) }
+    ensures answer { result ≡ answer_of turned result.purse }
+    ensures fits { Fits turned.request purse result }
+    ensures totals { IsCredited turned entries.old.total cents.old.total
+        entries.new.total cents.new.total }
+{
+    let mut purse = purse;
+    if turned.outcome.is_ok() {
+        purse.credit(entries, cents, turned.request.paid());
+    }
+    Answer::new(turned, purse)
 }

@@ -11,6 +11,16 @@
 //! `Purse::split` makes up to 10,000 more of the first one. `gather` takes them all, and tells what their sum is
 //! then: the journal's length, and the rise of the sum of W_YTD.
 //!
+//! # The register
+//!
+//! A `Register` is the book without its purses. `turn` serves a request in two halves:
+//!
+//! ```text
+//! what may fail: the first refusal, every growth, the copy of the request -> what can't: the rows or the queue, the entry
+//! ```
+//!
+//! So a request is refused with nothing changed, or is one transaction with one entry.
+//!
 //! # Names
 //!
 //! A book's type names it: `N: Naming` stands for its two ledgers. So a purse can't be used at another book.
@@ -28,10 +38,13 @@ mod book;
 mod carrying;
 mod naming;
 mod purse;
+mod register;
 
 pub use answer::Answer;
 pub use book::Book;
 pub use carrying::CarriesPurse;
 pub use naming::{Blanks, Entries, Naming, PaidCents};
 pub use purse::{ALL_PARTS, MOST_PURSES, Pool, Purse};
-pub use tpcc_register::{MOST_ENTRIES, Register, Tables, Turned};
+pub use register::Register;
+pub use register::outcome::Turned;
+pub use register::ready::MOST_ENTRIES;

@@ -4,7 +4,7 @@ use Rattle.std.specs.Prelude.{◌==◌, ◌+ℤ◌, filter, slice_get}
 use Rattle.std.proofs.lemmas.Int.{ints}
 use Rattle.tpcc_money.specs.Amounts.{total}
 use Rattle.tpcc_rows.specs.declared.rows.DistrictRow.{DistrictRow}
-use Rattle.tpcc_conditions.specs.DistrictTotals.{total_in, found_total}
+use Rattle.tpcc_conditions.specs.Internal.DistrictTotals.{total_in, found_total}
 
 next_row : (w : ℕ) (ds : List DistrictRow) (i : ℕ) → total (total_in w) (take (suc i) ds) ≡ total (total_in w) (take i ds) +ℤ found_total w (slice_get ds i)
 next_row w [] zero = omega (arith, ints)

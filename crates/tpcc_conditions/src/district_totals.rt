@@ -2,7 +2,7 @@
 ghost use Rattle.std.specs.Prelude.{◌≡◌, slice_get};
 ghost use Rattle.tpcc_money.specs.Amounts.{total};
 ghost use Rattle.tpcc_rows.specs.Tables.{districts_of};
-ghost use Rattle.tpcc_conditions.specs.DistrictTotals.{total_in, found_total};
+ghost use Rattle.tpcc_conditions.specs.Internal.DistrictTotals.{total_in, found_total};
 
 use crate::places;
 use tpcc_rows::{DistrictRow, Table};

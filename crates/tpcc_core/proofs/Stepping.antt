@@ -12,7 +12,7 @@ use Rattle.tpcc_core.specs.declared.mailbox.Mailbox.TheVariants as box
 use Rattle.tpcc_core.specs.Seats.{SeatNow, is_free, is_posted, is_taken, is_answered}
 use Rattle.tpcc_core.specs.SeatSteps.{mailbox_after_post, seat_after_collect}
 use Rattle.tpcc_core.specs.Hands.{Serves, is_empty, answer_for}
-use Rattle.tpcc_core.specs.Exchanges.{IsHanded, IsReturned}
+use Rattle.tpcc_core.specs.Internal.Exchanges.{IsHanded, IsReturned}
 use Rattle.tpcc_core.specs.Desks.{DeskNow, place_of}
 use Rattle.tpcc_core.specs.Events.{tests_in, place_in, answer_place, can_answer, IsPostedAt, IsTakenAt, IsServedBy, IsAnsweredBy, IsCollectedAt}
 use Rattle.tpcc_core.proofs.Places.{change_at_place, test_at_place, same_at_place}

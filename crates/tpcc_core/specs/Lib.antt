@@ -3,10 +3,10 @@ pub mod SeatSteps
 pub mod Hands
 pub mod Desks
 pub mod Events
-pub mod Exchanges
 pub mod OpeningDesk
 pub mod Runs
 pub mod Flights
 pub mod Traces
 pub mod Shares
 pub mod After
+pub mod Internal

@@ -17,9 +17,8 @@ use crate::server::{Server, give_answer, serve_letter, take_letter};
 use std::alloc::Global;
 use std::marker::Model;
 use tpcc_book::{Blanks, Book, Naming, Purse};
-use tpcc_money::NoMemory;
 use tpcc_population::Opening;
-use tpcc_rows::Request;
+use tpcc_rows::{NoMemory, Request, recall};
 
 /// A book, the mailboxes and purses of its terminals, and the hands of its servers. It has no thread.
 #[derive(Drop)]
@@ -113,7 +112,8 @@ impl<N: Naming> Desk<N> {
         ensures book { result.now ≡ self.now.book }
         ensures kept { IsKept self.now.book }
     {
-        let _journal = self.book.journal();
+        // For the proof: the journal is that of the rows.
+        recall!(self.book.journal());
         &self.book
     }
 

@@ -3,7 +3,7 @@ ghost use Rattle.std.specs.List.{list_all};
 ghost use Rattle.std.specs.Prelude.{◌≡◌, true};
 ghost use Rattle.tpcc_core.specs.After.{is_in_range};
 
-use tpcc_rows::Request;
+use tpcc_rows::{Request, recall};
 
 /// One atomic step of one actor. Terminals and servers are numbered from 1.
 #[derive(Drop)]
@@ -28,7 +28,8 @@ impl Event {
         ensures moment { is_in_range self.now ≡ true }
     {
         if let Event::Post { request, .. } = self {
-            request.moment_in_range();
+            // For the proof: the moment is in its range.
+            recall!(request.moment_in_range());
         }
     }
 }
@@ -38,6 +39,7 @@ pub fn moments_in_range(events: &[Event])
     ensures moments { list_all is_in_range events.now ≡ true }
 {
     for event in events {
-        event.moment_in_range();
+        // For the proof: the moment is in its range.
+        recall!(event.moment_in_range());
     }
 }

@@ -18,6 +18,7 @@ ghost use Rattle.tpcc_core.specs.Traces.{entries_by, entries_from, IsRecorded, I
 
 use tpcc_laws::laws;
 use tpcc_population::{Opening, opening_is_sound};
+use tpcc_rows::recall;
 
 /// The book's rows are consistent (3.3.2) and are the opening's followed by its journal one transaction at a time, and
 /// each entry is what its request gave at its place.
@@ -27,10 +28,11 @@ pub fn book_is_kept(opening: Opening)
     ensures opening { (terminals servers : ℕ) (events : List Event) (desk : DeskNow)
         → After opening terminals servers events desk → desk.book.opening ≡ opening }
 {
-    opening_is_sound(opening);
-    laws::turn_keeps();
-    laws::turn_pays();
-    laws::journal_grows();
+    // For the proof: the conditions hold of an opening; a turn keeps the conditions; W_YTD rises by what is paid; one more entry is one more transaction.
+    recall!(opening_is_sound(opening));
+    recall!(laws::turn_keeps());
+    recall!(laws::turn_pays());
+    recall!(laws::journal_grows());
 }
 
 /// A letter or its answer is in one place alone, at most one of a terminal and one in a hand. So an Answer is ready

@@ -7,7 +7,7 @@ use crate::seat::Seat;
 use crate::server::Server;
 use std::alloc::Global;
 use tpcc_book::{Naming, Purse};
-use tpcc_money::NoMemory;
+use tpcc_rows::NoMemory;
 
 // A free seat for each terminal, with a purse that is split off the first.
 pub(crate) fn make_seats<N: Naming>(

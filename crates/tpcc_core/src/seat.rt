@@ -10,7 +10,7 @@ use std::alloc::Global;
 use std::marker::Model;
 use std::mem;
 use tpcc_book::Answer;
-use tpcc_rows::Request;
+use tpcc_rows::{Request, recall};
 
 /// A terminal's mailbox and what it collected. There is room for one more answer unless the mailbox is free.
 #[derive(Drop)]
@@ -156,7 +156,8 @@ impl<P: Drop> Seat<P> {
 
 // What a mailbox held before. A function of its own, since letting go of each form by value is dear to prove.
 fn let_go<P: Drop>(mailbox: Mailbox<P>) {
-    let _mailbox = mailbox;
+    // For the proof: what was in the mailbox.
+    recall!(mailbox);
 }
 
 // One more answer, for which there is room.
@@ -171,7 +172,8 @@ fn keep(collected: &mut Vec<Collected>, one: Collected)
 pub(crate) fn refuse(request: Request, fault: CoreFault) -> CoreFault
     ensures { result ≡ fault }
 {
-    let _request = request;
+    // For the proof: the moment is in its range.
+    recall!(request);
     fault
 }
 
@@ -194,6 +196,7 @@ fn post_letter<P: Drop>(request: Request, purse: P) -> Mailbox<P>
 fn keep_mailbox<P: Drop>(request: Request, mailbox: Mailbox<P>) -> Mailbox<P>
     ensures { result ≡ mailbox }
 {
-    let _request = request;
+    // For the proof: the moment is in its range.
+    recall!(request);
     mailbox
 }

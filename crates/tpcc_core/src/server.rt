@@ -3,7 +3,7 @@ ghost use Rattle.std.specs.Prelude.{◌≡◌, ◌&&◌, is_ok, is_some, ◌↔�
 ghost use Rattle.tpcc_book.specs.Serve.{IsServed};
 ghost use Rattle.tpcc_core.specs.Hands.{is_empty, holds_letter, answer_for, IsGiven, Serves};
 ghost use Rattle.tpcc_core.specs.Seats.{is_posted, is_taken};
-ghost use Rattle.tpcc_core.specs.Exchanges.{IsHanded, IsReturned};
+ghost use Rattle.tpcc_core.specs.Internal.Exchanges.{IsHanded, IsReturned};
 
 use crate::fault::CoreFault;
 use crate::mailbox::{Hand, Letter};
@@ -11,6 +11,7 @@ use crate::seat::Seat;
 use std::marker::Model;
 use std::mem;
 use tpcc_book::{Answer, Book, Naming, Purse};
+use tpcc_rows::recall;
 
 /// A server, which has one hand.
 #[derive(Drop)]
@@ -99,7 +100,8 @@ impl<P: Drop> Server<P> {
 
 // What a hand held before. A function of its own, since letting go of each form by value is dear to prove.
 fn let_go<P: Drop>(hand: Hand<P>) {
-    let _hand = hand;
+    // For the proof: what was in the hand.
+    recall!(hand);
 }
 
 // The book serves the letter in a hand; without one nothing happens.

@@ -8,5 +8,4 @@ mod waiting;
 
 pub use runs::{PreparedRun, deliver_next, finish_run, prepare_run};
 pub use tickets::{finish_ticket, prepare_ticket, queue};
-pub use tpcc_rows::{Delivery, DistrictDelivery, QueuedTicket, Ticket};
 pub use waiting::Queue;

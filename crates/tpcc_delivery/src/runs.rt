@@ -7,7 +7,7 @@ ghost use Rattle.tpcc_delivery.specs.Runs.{IsPreparedRun};
 use crate::charge::district_refusal;
 use crate::waiting::Queue;
 use tpcc_money::Moment;
-use tpcc_rows::{Delivery, DistrictDelivery, Refusal};
+use tpcc_rows::{Delivery, DistrictDelivery, Refusal, recall};
 use tpcc_tables::Tables;
 
 /// A run that nothing refuses, with what it answers.
@@ -63,7 +63,8 @@ pub fn finish_run(tables: &mut Tables, queue: &mut Queue, at: Moment, run: Prepa
     match reply {
         Delivery::NoneQueued => Delivery::NoneQueued,
         Delivery::District(delivery) => {
-            queue.in_range();
+            // For the proof: the tickets are in their ranges.
+            recall!(queue.in_range());
             let done = delivery;
             deliver_district(tables, at, delivery);
             queue.advance();

@@ -5,11 +5,9 @@ ghost use Rattle.tpcc_rows.specs.Delivery.{queue_with, ticket_refusal};
 ghost use Rattle.tpcc_rows.specs.Ranges.{is_carrier};
 
 use crate::waiting::Queue;
+use tpcc_rows::limits::MOST_TICKETS;
 use tpcc_rows::{Refusal, Ticket};
 use tpcc_tables::Tables;
-
-// At most so many tickets wait.
-const MOST_TICKETS: usize = 1000;
 
 #[tactic(auto, unfolding(tpcc_rows::specs::Delivery::ticket_tests))]
 fn ticket_refusal(tables: &Tables, queue: &Queue, ticket: Ticket) -> Option<Refusal>

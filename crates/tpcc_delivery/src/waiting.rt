@@ -7,8 +7,7 @@ ghost use Rattle.tpcc_delivery.specs.Runs.{queue_after_first};
 
 use std::alloc::Global;
 use std::marker::Model;
-use tpcc_money::NoMemory;
-use tpcc_rows::{QueuedTicket, Ticket};
+use tpcc_rows::{NoMemory, QueuedTicket, Ticket, recall};
 
 /// The tickets that wait to be delivered, first come first, each with the district of its next run.
 #[derive(Drop)]
@@ -50,7 +49,8 @@ impl Queue {
     pub fn in_range(&self)
         ensures range { IsQueueInRange self.now.tickets }
     {
-        let _tickets = &self.tickets;
+        // For the proof: the invariant of the queue.
+        recall!(&self.tickets);
     }
 
     /// The tickets, first come first.
@@ -96,7 +96,8 @@ impl Queue {
         requires carrier { is_carrier ticket.carrier ≡ true }
         ensures queued { self.new.tickets ≡ queue_with self.old.tickets ticket }
     {
-        let _queued = ticket.queued.seconds();
+        // For the proof: the moment is in its range.
+        recall!(ticket.queued.seconds());
         self.tickets.push_reserved(QueuedTicket { ticket, next: 1 });
     }
 }

@@ -2,7 +2,7 @@
 use Rattle.std.proofs.Common.{ℕ, ◌≤◌, refl, arith}
 use Rattle.rand_core.specs.Stream.{Stream}
 use Rattle.tpcc_draws.specs.Draws.{a_string, n_string, letters, digits}
-use Rattle.tpcc_draws.specs.Within.{HasWords, IsTextBetween}
+use Rattle.tpcc_draws.specs.Internal.Within.{HasWords, IsTextBetween}
 use Rattle.tpcc_draws.proofs.Draw.{text_is_drawn}
 use Rattle.tpcc_rows.specs.Printable.{is_printable}
 

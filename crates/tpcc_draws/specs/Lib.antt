@@ -1,3 +1,3 @@
 pub mod Draws
 pub mod Cards
-pub mod Within
+pub mod Internal

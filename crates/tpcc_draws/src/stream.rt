@@ -13,8 +13,7 @@ use rand::seq::SliceRandom;
 use rand_pcg::Lcg128Xsl64;
 use std::alloc::{AllocError, Allocator};
 use std::marker::Model;
-use tpcc_money::NoMemory;
-use tpcc_rows::Text;
+use tpcc_rows::{NoMemory, Text};
 
 /// The greatest number that is drawn, and how many are drawn into an order at most.
 pub const GREATEST_DRAW: u32 = 1_000_000;

@@ -9,7 +9,7 @@ use Rattle.std.proofs.lemmas.List.Sums.{position_or_len_is}
 use Rattle.std.proofs.lemmas.List.Quantifiers.{position-Some}
 use Rattle.std.proofs.lemmas.Option.{slice_get-get_or}
 use Rattle.tpcc_journal.specs.declared.tallies.Tally.{Tally}
-use Rattle.tpcc_journal.specs.Tallies.{is_of, tally_of}
+use Rattle.tpcc_journal.specs.Internal.Tallies.{is_of, tally_of}
 
 -- a write of an element that fails the test, where one stood that fails it too
 find_other : {X : Type 0} (q : X → Bool) (xs : List X) (i : ℕ) (y d : X) → q y ≡ false → q (get_or xs i d) ≡ false → find q (set xs i y) ≡ find q xs

@@ -11,8 +11,8 @@ use Rattle.tpcc_rows.specs.declared.replies.Reply.TheVariants as tell
 use Rattle.tpcc_rows.specs.declared.replies.Entered.TheVariants as entered
 use Rattle.tpcc_rows.specs.declared.replies.Delivery.TheVariants.{NoneQueued}
 use Rattle.tpcc_rows.specs.Replay.{count_of}
-use Rattle.tpcc_journal.specs.declared.kept.KeptReply.TheVariants as kept
-use Rattle.tpcc_journal.specs.declared.kept.KeptEntry.{KeptEntry}
+use Rattle.tpcc_journal.specs.declared.stored.StoredReply.TheVariants as kept
+use Rattle.tpcc_journal.specs.declared.stored.StoredEntry.{StoredEntry}
 use Rattle.tpcc_journal.specs.Kept.{Kinds, Keeps, is_in, reply_at, entry_in}
 
 -- ---- a list, and one that has more behind the same elements
@@ -61,7 +61,7 @@ keeps old new orders payments statuses (kept.Delivery delivery) h = (refl, refl)
 -- ---- entries
 
 -- one more entry, whose reply was put behind the others
-pub entries_more : (old new : Kinds) (es : List KeptEntry) (e : KeptEntry) → Keeps old new → list_all (λ x. is_in old x.reply) es ≡ true → map (entry_in new) (es ++ e ∷ []) ≡ map (entry_in old) es ++ entry_in new e ∷ []
+pub entries_more : (old new : Kinds) (es : List StoredEntry) (e : StoredEntry) → Keeps old new → list_all (λ x. is_in old x.reply) es ≡ true → map (entry_in new) (es ++ e ∷ []) ≡ map (entry_in old) es ++ entry_in new e ∷ []
 entries_more old new [] e keep there = refl
 entries_more old new (x ∷ es) e keep there =
     let here : is_in old x.reply ≡ true = grind (arith, there) in
@@ -70,7 +70,7 @@ entries_more old new (x ∷ es) e keep there =
     let more = entries_more old new es e keep rest in
     λ i. record { terminal = x.terminal; number = x.number; request = x.request; reply = same i } ∷ more i
 
-pub there_more : (old new : Kinds) (es : List KeptEntry) (e : KeptEntry) → Keeps old new → list_all (λ x. is_in old x.reply) es ≡ true → is_in new e.reply ≡ true → list_all (λ x. is_in new x.reply) (es ++ e ∷ []) ≡ true
+pub there_more : (old new : Kinds) (es : List StoredEntry) (e : StoredEntry) → Keeps old new → list_all (λ x. is_in old x.reply) es ≡ true → is_in new e.reply ≡ true → list_all (λ x. is_in new x.reply) (es ++ e ∷ []) ≡ true
 there_more old new [] e keep there last = grind (arith, last)
 there_more old new (x ∷ es) e keep there last =
     let here : is_in old x.reply ≡ true = grind (arith, there) in

@@ -11,9 +11,9 @@ use Rattle.tpcc_rows.specs.declared.replies.Delivery.TheVariants.{NoneQueued}
 use Rattle.tpcc_rows.specs.declared.replies.DistrictDelivery.{DistrictDelivery}
 use Rattle.tpcc_rows.specs.Replay.{district_delivery}
 use Rattle.tpcc_journal.specs.declared.journal.EntryRef.{EntryRef}
-use Rattle.tpcc_journal.specs.declared.kept.KeptReply.{KeptReply}
-use Rattle.tpcc_journal.specs.declared.kept.KeptReply.TheVariants as kept
-use Rattle.tpcc_journal.specs.declared.kept.KeptEntry.{KeptEntry}
+use Rattle.tpcc_journal.specs.declared.stored.StoredReply.{StoredReply}
+use Rattle.tpcc_journal.specs.declared.stored.StoredReply.TheVariants as kept
+use Rattle.tpcc_journal.specs.declared.stored.StoredEntry.{StoredEntry}
 
 -- the long replies, kind by kind
 pub record Kinds : Type 0 where
@@ -27,7 +27,7 @@ pub record Shelf : Type 0 where
   pub room : ℕ
 
 -- a reply is there, or stands among those of its kind
-abbrev pub is_in : Kinds → KeptReply → Bool
+abbrev pub is_in : Kinds → StoredReply → Bool
 is_in kinds (kept.Accepted place) = nat_lt place (length kinds.orders)
 is_in kinds (kept.RolledBack order) = true
 is_in kinds (kept.Paid place) = nat_lt place (length kinds.payments)
@@ -40,7 +40,7 @@ is_in kinds (kept.Delivery delivery) = true
 abbrev pub reply_at : {X : Type 0} → (X → Reply) → List X → ℕ → Reply
 reply_at reply xs place = unwrap_or (option_map reply (slice_get xs place)) (tell.Delivery NoneQueued)
 
-abbrev pub reply_in : Kinds → KeptReply → Reply
+abbrev pub reply_in : Kinds → StoredReply → Reply
 reply_in kinds (kept.Accepted place) = reply_at (λ order. tell.Entered (entered.Accepted order)) kinds.orders place
 reply_in kinds (kept.RolledBack order) = tell.Entered (entered.RolledBack order)
 reply_in kinds (kept.Paid place) = reply_at tell.Paid kinds.payments place
@@ -51,10 +51,10 @@ reply_in kinds (kept.Delivery delivery) = tell.Delivery delivery
 
 -- each reply that was there is there as it was
 abbrev pub Keeps : Kinds → Kinds → Type 0
-Keeps old new = (r : KeptReply) → is_in old r ≡ true → (is_in new r ≡ true) × (reply_in new r ≡ reply_in old r)
+Keeps old new = (r : StoredReply) → is_in old r ≡ true → (is_in new r ≡ true) × (reply_in new r ≡ reply_in old r)
 
 -- the entry that is kept so
-abbrev pub entry_in : Kinds → KeptEntry → Entry
+abbrev pub entry_in : Kinds → StoredEntry → Entry
 entry_in kinds e = record { terminal = e.terminal; number = e.number; request = e.request; reply = reply_in kinds e.reply }
 
 -- the entry that is lent

@@ -1,4 +1,3 @@
 pub mod Log
 pub mod Kept
-pub mod View
-pub mod Tallies
+pub mod Internal

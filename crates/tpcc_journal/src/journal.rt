@@ -3,12 +3,11 @@ ghost use Rattle.std.specs.Prelude.{◌≡◌, ◌<◌, ◌==◌, ◌++◌, ◌�
 ghost use Rattle.tpcc_rows.specs.Replay.{count_of};
 ghost use Rattle.tpcc_journal.specs.Kept.{entry_of};
 
-use crate::kept::{KeptEntry, Replies, reserve_one};
+use crate::stored::{Replies, StoredEntry, reserve_one};
 use crate::tallies::{Tally, add_one, tally_of};
 use std::alloc::Global;
 use std::marker::Model;
-use tpcc_money::NoMemory;
-use tpcc_rows::{Reply, Request};
+use tpcc_rows::{NoMemory, Reply, Request};
 
 /// For how many entries there is room once an eighth of them stand.
 const MANY_ENTRIES: usize = 300_000;
@@ -29,7 +28,7 @@ pub struct EntryRef<'a> {
 /// The accepted requests with their replies, in the order in which they were served.
 pub struct Journal {
     /// The oldest first.
-    entries: Vec<KeptEntry>,
+    entries: Vec<StoredEntry>,
     /// The long ones of their replies.
     replies: Replies,
     /// One for each terminal that has entries, so that they need not be counted again.
@@ -49,7 +48,7 @@ impl Drop for Journal {
 
 impl Model for Journal {
     ghost use Rattle.tpcc_journal.specs.Log.{Log};
-    ghost use Rattle.tpcc_journal.specs.View.{log_of, IsLog};
+    ghost use Rattle.tpcc_journal.specs.Internal.View.{log_of, IsLog};
 
     ghost Value = { Log };
 
@@ -125,7 +124,7 @@ impl Journal {
     {
         add_one(&mut self.tallies, terminal);
         let reply = self.replies.keep(reply);
-        self.entries.push_reserved(KeptEntry {
+        self.entries.push_reserved(StoredEntry {
             terminal,
             number,
             request,

@@ -2,10 +2,9 @@
 #![tactic(auto)]
 
 mod journal;
-mod kept;
 mod result_log;
+mod stored;
 mod tallies;
 
 pub use journal::{EntryRef, Journal};
 pub use result_log::results;
-pub use tpcc_rows::{Delivered, Entry, Reply, Request};

@@ -6,8 +6,7 @@ ghost use Rattle.tpcc_rows.specs.Replay.{district_delivery, district_deliveries,
 
 use crate::journal::Journal;
 use std::alloc::Global;
-use tpcc_money::NoMemory;
-use tpcc_rows::{Delivered, Delivery, DistrictDelivery, Reply};
+use tpcc_rows::{Delivered, Delivery, DistrictDelivery, NoMemory, Reply};
 
 /// The run that a reply tells of, if it is of one and delivered or skipped a district.
 fn district_delivery(reply: &Reply) -> Option<DistrictDelivery>

@@ -1,6 +1,6 @@
 //! How many entries each terminal has made.
 ghost use Rattle.std.specs.Prelude.{◌≡◌, ◌+◌, ◌<◌, ◌≤◌, ◌^◌, ◌==◌, ℕ, position, vec_len, vec_capacity, if◌then◌else◌};
-ghost use Rattle.tpcc_journal.specs.Tallies.{is_of, tally_of};
+ghost use Rattle.tpcc_journal.specs.Internal.Tallies.{is_of, tally_of};
 
 /// A terminal that has entries, and how many.
 #[derive(Clone, Copy)]

@@ -6,6 +6,7 @@ use Rattle.std.proofs.lemmas.Int.{ints}
 use Rattle.std.proofs.lemmas.Bool.Decides.{nat_tests}
 use Rattle.tpcc_rows.specs.Ranges.{is_amount_within, is_within, is_total, is_balance, is_count}
 use Rattle.tpcc_rows.proofs.Booleans.{split, both_true}
+use Rattle.tpcc_rows.specs.declared.limits.TheConstants.{GREATEST_COUNT, GREATEST_TOTAL}
 
 pub at_most : (x y : ℤ) → int_le x y ≡ true → x ≤ℤ y
 at_most x y h = grind (arith, ints, nat_tests)
@@ -26,13 +27,13 @@ pub is_in : (low high n : ℕ) → low ≤ n → n ≤ high → is_within low hi
 is_in low high n h k = grind (arith, nat_tests)
 
 pub total_fits : (n : ℤ) → is_total n ≡ true → FitsSigned w64 n
-total_fits n h = let s = amount_within (pos 0) (pos 999999999999) n h in omega (arith, ints)
+total_fits n h = let s = amount_within (pos 0) GREATEST_TOTAL n h in omega (arith, ints)
 
 pub balance_fits : (n : ℤ) → is_balance n ≡ true → FitsSigned w64 n
-balance_fits n h = let s = amount_within (neg_ℤ (pos 999999999999)) (pos 999999999999) n h in omega (arith, ints)
+balance_fits n h = let s = amount_within (neg_ℤ GREATEST_TOTAL) GREATEST_TOTAL n h in omega (arith, ints)
 
 pub count_fits : (n : ℕ) → is_count n ≡ true → n < 2 ^ 32
-count_fits n h = let s = within 0 999999999 n h in omega arith
+count_fits n h = let s = within 0 GREATEST_COUNT n h in omega arith
 
 pub not_false : (b : Bool) → not b ≡ false → b ≡ true
 not_false true e = refl

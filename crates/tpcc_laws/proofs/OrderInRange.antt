@@ -1,7 +1,7 @@
 -- A New-Order that nothing refuses keeps the ranges of all columns.
 use Rattle.std.proofs.Common.{◌≡◌, ℕ, ◌+◌, ◌-◌, ◌==◌, ◌≤◌, Bool, true, false, List, [], ◌∷◌, length, map, refl, sym, ap, ◌∙◌, arith, Some, None, Option}
 use Rattle.std.specs.Prelude.{pos, ◌&&◌, not, is_some, is_none, unwrap_or, slice_get, nat_lt, if◌then◌else◌}
-use Rattle.tpcc_rows.specs.Amounts.{line_amount}
+use Rattle.tpcc_money.specs.Amounts.{line_amount}
 use Rattle.std.specs.List.{list_all, list_any}
 use Rattle.std.specs.Option.{option_or}
 use Rattle.std.proofs.lemmas.Bool.Decides.{nat_tests}
@@ -26,6 +26,8 @@ use Rattle.tpcc_laws.proofs.TurnKeys.{lines_stocked}
 use Rattle.tpcc_laws.proofs.Numbers.{not_false, within, is_in}
 use Rattle.tpcc_laws.proofs.PaymentRanges.{one_district, same_found, district_tells, customer_tells, district_key_is, last_changed}
 use Rattle.tpcc_laws.proofs.OrderRanges.{amount_fits, stocks_in_range, line_tests, text_at}
+use Rattle.tpcc_rows.specs.declared.limits.TheConstants.{GREATEST_LINE_AMOUNT, GREATEST_ORDER}
+use Rattle.tpcc_money.specs.declared.amounts.TheConstants.{GREATEST_PRICE}
 
 none_last : {X : Type 0} (a b : Option X) → option_or a b ≡ None → b ≡ None
 none_last None b e = e
@@ -51,7 +53,7 @@ present_all f [] e = refl
 present_all f (x ∷ xs) e = grind (arith, some_if (f x), present_all f xs)
 
 next_in_range : (n : ℕ) → is_order_id n ≡ true → (n == greatest_order) ≡ false → is_order_id (n + 1) ≡ true
-next_in_range n h e = let s = within 1 9999999 n h in is_in 1 9999999 (n + 1) (omega arith) (grind (arith, nat_tests))
+next_in_range n h e = let s = within 1 GREATEST_ORDER n h in is_in 1 GREATEST_ORDER (n + 1) (omega arith) (grind (arith, nat_tests))
 
 next_row : (d : DistrictRow) → is_district_row d ≡ true → (d.next_order == greatest_order) ≡ false → (is_order_id d.next_order ≡ true) × (is_district_row (with_next_order d) ≡ true)
 unfolding is_district_row
@@ -73,7 +75,7 @@ warehouse_id rows w h some =
     let r : is_warehouse_id x.0.id ≡ true = grind (arith, p.1) in
     ap is_warehouse_id (sym (id_is x.0.id w p.0)) ∙ r
 
-item_tells : (i : ItemRow) → is_item_row i ≡ true → (is_item_id i.id ≡ true) × (is_amount_within (pos 1) (pos 99999) i.price ≡ true)
+item_tells : (i : ItemRow) → is_item_row i ≡ true → (is_item_id i.id ≡ true) × (is_amount_within (pos 1) GREATEST_PRICE i.price ≡ true)
 unfolding is_item_row
 item_tells i h = (grind arith, grind arith)
 
@@ -99,7 +101,7 @@ line_row rows order h hn hd hw n l low high ok =
     let ten : length s.0.district_information ≡ 10 = id_is (length s.0.district_information) 10 st.0 in
     let d = within 1 10 order.district hd in
     let text = (λ j. is_exact_text 24 (unwrap_or (slice_get (unwrap_or (s.1 j) no_stock).district_information (order.district - 1)) [])) ∙ text_at s.0.district_information (order.district - 1) (omega arith) st.1 in
-    let amount = (λ j. is_amount_within (pos 0) (pos 999999) (line_amount (unwrap_or (i.1 j) no_item).price l.quantity)) ∙ amount_fits l.quantity i.0.price c.0 it.1 in
+    let amount = (λ j. is_amount_within (pos 0) GREATEST_LINE_AMOUNT (line_amount (unwrap_or (i.1 j) no_item).price l.quantity)) ∙ amount_fits l.quantity i.0.price c.0 it.1 in
     both_true _ _ (both_true _ _ (both_true _ _ (both_true _ _ (both_true _ _ (both_true _ _ (both_true _ _ (both_true _ _ (both_true _ _ hn hd) hw) (is_in 1 15 n low high)) (ap is_item_id (sym (id_is i.0.id l.item ip.0)) ∙ it.0)) (warehouse_id rows l.supply h c.1)) refl) c.0) amount) text
 
 head_row : (rows : Rows) (order : Order) → is_order_id (order_number rows order) ≡ true → is_district_id order.district ≡ true → is_warehouse_id order.warehouse ≡ true → is_customer_id order.customer ≡ true → is_moment order.moment ≡ true → is_within 5 15 (length order.lines) ≡ true → is_order_row (order_row rows order) ≡ true

@@ -5,7 +5,7 @@ use Rattle.std.specs.List.{list_all, list_any, enumerate_from}
 use Rattle.std.proofs.lemmas.Int.{ints}
 use Rattle.std.proofs.lemmas.Nat.{mul-le}
 use Rattle.std.proofs.lemmas.Bool.Decides.{nat_tests}
-use Rattle.tpcc_rows.specs.Amounts.{line_amount}
+use Rattle.tpcc_money.specs.Amounts.{line_amount}
 use Rattle.tpcc_rows.specs.declared.rows.StockRow.{StockRow}
 use Rattle.tpcc_rows.specs.declared.rows.OrderLineRow.{OrderLineRow}
 use Rattle.tpcc_rows.specs.declared.requests.Line.{Line}
@@ -16,6 +16,8 @@ use Rattle.tpcc_rows.specs.NewOrder.{quantity_after, stock_after_line, stock_aft
 use Rattle.tpcc_rows.proofs.Booleans.{split, both_true}
 use Rattle.tpcc_laws.proofs.Numbers.{amount_within, is_amount, within}
 use Rattle.tpcc_laws.proofs.ChosenRow.{Each, each-with}
+use Rattle.tpcc_rows.specs.declared.limits.TheConstants.{GREATEST_LINE_AMOUNT}
+use Rattle.tpcc_money.specs.declared.amounts.TheConstants.{GREATEST_PRICE}
 
 -- ---- one STOCK row
 
@@ -79,14 +81,14 @@ each_found (x ∷ xs) keyed =
 
 -- ---- the amount of a line
 
-pub amount_fits : (q : ℕ) (price : ℤ) → is_within 1 10 q ≡ true → is_amount_within (pos 1) (pos 99999) price ≡ true → is_amount_within (pos 0) (pos 999999) (line_amount price q) ≡ true
+pub amount_fits : (q : ℕ) (price : ℤ) → is_within 1 10 q ≡ true → is_amount_within (pos 1) GREATEST_PRICE price ≡ true → is_amount_within (pos 0) GREATEST_LINE_AMOUNT (line_amount price q) ≡ true
 amount_fits q (pos k) hq hp =
     let a = within 1 10 q hq in
-    let b = amount_within (pos 1) (pos 99999) (pos k) hp in
+    let b = amount_within (pos 1) GREATEST_PRICE (pos k) hp in
     let small : k ≤ 99999 = omega (arith, ints) in
     let product : q * k ≤ 999990 = mul-le q k 10 99999 a.1 small in
-    is_amount (pos 0) (pos 999999) (line_amount (pos k) q) (omega (arith, ints)) (omega (arith, ints))
-amount_fits q (negsuc k) hq hp = let b = amount_within (pos 1) (pos 99999) (negsuc k) hp in absurd (omega (arith, ints))
+    is_amount (pos 0) GREATEST_LINE_AMOUNT (line_amount (pos k) q) (omega (arith, ints)) (omega (arith, ints))
+amount_fits q (negsuc k) hq hp = let b = amount_within (pos 1) GREATEST_PRICE (negsuc k) hp in absurd (omega (arith, ints))
 
 -- ---- all STOCK rows
 

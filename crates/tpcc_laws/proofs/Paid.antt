@@ -3,7 +3,7 @@ use Rattle.std.proofs.Common.{◌≡◌, ◌∙◌, ℕ, Bool, true, false, List
 use Rattle.std.specs.Prelude.{ℤ, pos, ◌+ℤ◌, ◌≤ℤ◌, None, Some, Option, is_some, is_none, filter, if◌then◌else◌}
 use Rattle.std.proofs.lemmas.Int.{ints}
 use Rattle.std.proofs.lemmas.Bool.Decides.{nat_tests}
-use Rattle.tpcc_rows.specs.Amounts.{total}
+use Rattle.tpcc_money.specs.Amounts.{total}
 use Rattle.tpcc_rows.specs.declared.rows.WarehouseRow.{WarehouseRow}
 use Rattle.tpcc_rows.specs.declared.requests.Order.{Order}
 use Rattle.tpcc_rows.specs.declared.requests.Payment.{Payment}
@@ -22,6 +22,7 @@ use Rattle.tpcc_rows.specs.Replay.{paid_by_request}
 use Rattle.tpcc_laws.proofs.List.{has_one, one_of_key, total-updated_one}
 use Rattle.tpcc_laws.proofs.Numbers.{amount_within, not_false}
 use Rattle.tpcc_laws.proofs.TurnKeeps.{all_false, some_if, neither}
+use Rattle.tpcc_rows.specs.declared.limits.TheConstants.{GREATEST_PAYMENT}
 
 -- the sum of W_YTD
 abbrev pub paid_in : Rows → ℤ
@@ -41,9 +42,9 @@ payment_warehouse : (rows : Rows) (p : Payment) → payment_refusal rows p ≡ N
 unfolding payment_tests
 payment_warehouse rows p none = some_if (find_warehouse rows p.warehouse) (neither (is_none (find_warehouse rows p.warehouse)) _ (all_false (payment_tests rows p) none).0)
 
-payment_amount : (rows : Rows) (p : Payment) → payment_refusal rows p ≡ None → (pos 100 ≤ℤ p.amount) × (p.amount ≤ℤ pos 500000)
+payment_amount : (rows : Rows) (p : Payment) → payment_refusal rows p ≡ None → (pos 100 ≤ℤ p.amount) × (p.amount ≤ℤ GREATEST_PAYMENT)
 unfolding payment_tests
-payment_amount rows p none = amount_within (pos 100) (pos 500000) p.amount (not_false (is_amount_within (pos 100) (pos 500000) p.amount) (all_false (payment_tests rows p) none).1.1.1.0)
+payment_amount rows p none = amount_within (pos 100) GREATEST_PAYMENT p.amount (not_false (is_amount_within (pos 100) GREATEST_PAYMENT p.amount) (all_false (payment_tests rows p) none).1.1.1.0)
 
 payment_pays : (rows : Rows) (p : Payment) → IsKeyed rows → payment_refusal rows p ≡ None → paid_in (after_payment rows p) ≡ paid_in rows +ℤ p.amount
 unfolding after_payment
@@ -80,7 +81,7 @@ turn_pays s (ask.Delivery t) keyed none = nothing_more (paid_in s.rows)
 turn_pays s (ask.Deliver at) keyed none = run_pays s.rows s.queue at ∙ nothing_more (paid_in s.rows)
 
 -- and that is 0.00 to 5,000.00
-pub paid_within : (s : State) (request : Request) → refusal s request ≡ None → (pos 0 ≤ℤ paid_by_request request) × (paid_by_request request ≤ℤ pos 500000)
+pub paid_within : (s : State) (request : Request) → refusal s request ≡ None → (pos 0 ≤ℤ paid_by_request request) × (paid_by_request request ≤ℤ GREATEST_PAYMENT)
 unfolding refusal
 paid_within s (ask.NewOrder order) none = (omega (arith, ints), omega (arith, ints))
 paid_within s (ask.Payment p) none = let h = payment_amount s.rows p none in (omega (arith, ints), h.1)

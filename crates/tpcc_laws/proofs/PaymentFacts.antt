@@ -14,6 +14,7 @@ use Rattle.tpcc_laws.proofs.TurnKeeps.{all_false, some_if, neither}
 use Rattle.tpcc_laws.proofs.DeliveryKeeps.{some_of}
 use Rattle.tpcc_laws.proofs.Numbers.{not_false}
 use Rattle.tpcc_laws.proofs.ChosenRow.{chosen_row}
+use Rattle.tpcc_rows.specs.declared.limits.TheConstants.{GREATEST_PAYMENT}
 
 pub record IsPaid (rows : Rows) (p : Payment) : Type 0 where
   pub warehouse : WarehouseRow
@@ -23,7 +24,7 @@ pub record IsPaid (rows : Rows) (p : Payment) : Type 0 where
   pub district_is : find_district rows p.warehouse p.district ≡ Some district
   pub customer_is : find_customer rows customer.warehouse customer.district customer.id ≡ Some customer
   pub payer : paying_customer rows p ≡ customer
-  pub amount : is_amount_within (pos 100) (pos 500000) p.amount ≡ true
+  pub amount : is_amount_within (pos 100) GREATEST_PAYMENT p.amount ≡ true
   pub warehouse_ytd : is_total (warehouse.ytd +ℤ p.amount) ≡ true
   pub district_ytd : is_total (district.ytd +ℤ p.amount) ≡ true
   pub balance : is_balance (customer.balance -ℤ p.amount) ≡ true

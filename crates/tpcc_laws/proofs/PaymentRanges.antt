@@ -5,7 +5,7 @@ use Rattle.std.specs.List.{list_all}
 use Rattle.std.proofs.lemmas.Int.{ints}
 use Rattle.std.proofs.lemmas.Bool.Decides.{nat_tests}
 use Rattle.std.proofs.lemmas.List.Folds.{list_all-append}
-use Rattle.tpcc_rows.specs.Texts.{amount_text}
+use Rattle.tpcc_money.specs.Texts.{amount_text}
 use Rattle.tpcc_rows.specs.declared.rows.WarehouseRow.{WarehouseRow}
 use Rattle.tpcc_rows.specs.declared.rows.DistrictRow.{DistrictRow}
 use Rattle.tpcc_rows.specs.declared.rows.CustomerRow.{CustomerRow}
@@ -22,6 +22,7 @@ use Rattle.tpcc_laws.proofs.Numbers.{amount_within, is_amount, within}
 use Rattle.tpcc_rows.proofs.PrintableTexts.{are_printable, append_is_printable, decimal_printable}
 use Rattle.tpcc_laws.proofs.TextLaws.{amount_printable, text_tells, is_a_text, cut_text}
 use Rattle.tpcc_laws.proofs.PaymentFacts.{payment_facts}
+use Rattle.tpcc_rows.specs.declared.limits.TheConstants.{GREATEST_LINE_AMOUNT, GREATEST_PAYMENT}
 
 -- ---- one row of a key
 
@@ -89,7 +90,7 @@ customer_tells c h =
 
 -- ---- C_DATA and H_DATA
 
-pub note_printable : (p : Payment) (c : CustomerRow) → c.id < 2 ^ 64 → c.district < 2 ^ 64 → c.warehouse < 2 ^ 64 → p.district < 2 ^ 64 → p.warehouse < 2 ^ 64 → is_amount_within (pos 100) (pos 500000) p.amount ≡ true → are_printable (payment_note p c) ≡ true
+pub note_printable : (p : Payment) (c : CustomerRow) → c.id < 2 ^ 64 → c.district < 2 ^ 64 → c.warehouse < 2 ^ 64 → p.district < 2 ^ 64 → p.warehouse < 2 ^ 64 → is_amount_within (pos 100) GREATEST_PAYMENT p.amount ≡ true → are_printable (payment_note p c) ≡ true
 note_printable p c hc hd hw pd pw ha =
     let dc = decimal_printable c.id hc in
     let dd = decimal_printable c.district hd in
@@ -120,27 +121,27 @@ pub district_key_is : (w d : ℕ) (x : DistrictRow) → is_district w d x ≡ tr
 district_key_is w d x h = (grind (arith, nat_tests), grind (arith, nat_tests))
 
 -- the row that is appended
-history_row : (rows : Rows) (p : Payment) (w : WarehouseRow) (d : DistrictRow) (c : CustomerRow) → warehouse_at rows p.warehouse ≡ w → district_at rows p.warehouse p.district ≡ d → is_district p.warehouse p.district d ≡ true → is_warehouse_row w ≡ true → is_district_row d ≡ true → is_customer_row c ≡ true → is_moment p.moment ≡ true → is_amount_within (pos 100) (pos 500000) p.amount ≡ true → is_history_row (payment_history rows p c) ≡ true
+history_row : (rows : Rows) (p : Payment) (w : WarehouseRow) (d : DistrictRow) (c : CustomerRow) → warehouse_at rows p.warehouse ≡ w → district_at rows p.warehouse p.district ≡ d → is_district p.warehouse p.district d ≡ true → is_warehouse_row w ≡ true → is_district_row d ≡ true → is_customer_row c ≡ true → is_moment p.moment ≡ true → is_amount_within (pos 100) GREATEST_PAYMENT p.amount ≡ true → is_history_row (payment_history rows p c) ≡ true
 unfolding is_history_row
 history_row rows p w d c ew ed at hw hd hc hm ha =
     let tw = warehouse_tells w hw in
     let td = district_tells d hd in
     let tc = customer_tells c hc in
     let key = district_key_is p.warehouse p.district d at in
-    let am = amount_within (pos 100) (pos 500000) p.amount ha in
+    let am = amount_within (pos 100) GREATEST_PAYMENT p.amount ha in
     let text : is_text 24 ((warehouse_at rows p.warehouse).name ++ codes "    " ++ (district_at rows p.warehouse p.district).name) ≡ true =
     (λ i. is_text 24 ((ew i).name ++ codes "    " ++ (ed i).name)) ∙ history_text w.name d.name tw.1 td.2 in
-    both_true _ _ (both_true _ _ (both_true _ _ (both_true _ _ (both_true _ _ (both_true _ _ (both_true _ _ tc.0 tc.1) tc.2) (ap is_district_id (sym key.1) ∙ td.0)) (ap is_warehouse_id (sym key.0) ∙ td.1)) hm) (is_amount (pos 1) (pos 999999) p.amount (omega (arith, ints)) (omega (arith, ints)))) text
+    both_true _ _ (both_true _ _ (both_true _ _ (both_true _ _ (both_true _ _ (both_true _ _ (both_true _ _ tc.0 tc.1) tc.2) (ap is_district_id (sym key.1) ∙ td.0)) (ap is_warehouse_id (sym key.0) ∙ td.1)) hm) (is_amount (pos 1) GREATEST_LINE_AMOUNT p.amount (omega (arith, ints)) (omega (arith, ints)))) text
 
 -- the note of a payment, where its district and its customer are in their ranges
-note_of : (p : Payment) (d : DistrictRow) (c : CustomerRow) → is_district p.warehouse p.district d ≡ true → is_district_row d ≡ true → is_customer_row c ≡ true → is_amount_within (pos 100) (pos 500000) p.amount ≡ true → are_printable (payment_note p c) ≡ true
+note_of : (p : Payment) (d : DistrictRow) (c : CustomerRow) → is_district p.warehouse p.district d ≡ true → is_district_row d ≡ true → is_customer_row c ≡ true → is_amount_within (pos 100) GREATEST_PAYMENT p.amount ≡ true → are_printable (payment_note p c) ≡ true
 note_of p d c at hd hc ha =
     let td = district_tells d hd in
     let tc = customer_tells c hc in
     let key = district_key_is p.warehouse p.district d at in
     note_printable p c (small_id 3000 c.id (omega arith) tc.0) (small_id 10 c.district (omega arith) tc.1) (small_id 100 c.warehouse (omega arith) tc.2) (small_id 10 p.district (omega arith) (ap is_district_id (sym key.1) ∙ td.0)) (small_id 100 p.warehouse (omega arith) (ap is_warehouse_id (sym key.0) ∙ td.1)) ha
 
-paid_customer_row : (rows : Rows) (p : Payment) (d : DistrictRow) (c : CustomerRow) → is_district p.warehouse p.district d ≡ true → is_district_row d ≡ true → is_customer_row c ≡ true → is_amount_within (pos 100) (pos 500000) p.amount ≡ true → is_balance (c.balance -ℤ p.amount) ≡ true → is_total (c.ytd_payment +ℤ p.amount) ≡ true → is_count (c.payment_count + 1) ≡ true → is_customer_row (paid_customer p c) ≡ true
+paid_customer_row : (rows : Rows) (p : Payment) (d : DistrictRow) (c : CustomerRow) → is_district p.warehouse p.district d ≡ true → is_district_row d ≡ true → is_customer_row c ≡ true → is_amount_within (pos 100) GREATEST_PAYMENT p.amount ≡ true → is_balance (c.balance -ℤ p.amount) ≡ true → is_total (c.ytd_payment +ℤ p.amount) ≡ true → is_count (c.payment_count + 1) ≡ true → is_customer_row (paid_customer p c) ≡ true
 unfolding is_customer_row
 paid_customer_row rows p d c at hd hc ha hb hy hn =
     let tc = customer_tells c hc in

@@ -5,7 +5,7 @@ use Rattle.std.specs.List.{list_all, list_any}
 use Rattle.std.proofs.lemmas.Int.{ints}
 use Rattle.std.proofs.lemmas.Bool.Decides.{nat_tests}
 use Rattle.std.proofs.lemmas.List.Sums.{sum_by-cons}
-use Rattle.tpcc_rows.specs.Amounts.{total}
+use Rattle.tpcc_money.specs.Amounts.{total}
 use Rattle.tpcc_rows.specs.Lists.{updated, largest, smallest, larger, smaller}
 use Rattle.tpcc_laws.proofs.List.{has_one}
 

@@ -4,8 +4,8 @@ ghost use Rattle.tpcc_rows.specs.ChosenCustomer.{chosen_customer};
 ghost use Rattle.tpcc_rows.specs.Lookups.{last_order_number, shown_order, status_refusal, status_reply};
 ghost use Rattle.tpcc_rows.specs.Tables.{find_order};
 
-use crate::asked::asking_customer;
 use crate::lines::shown_lines;
+use crate::queries::asking_customer;
 use tpcc_rows::{CustomerRow, LastOrder, Refusal, Status, StatusQuery};
 use tpcc_tables::Tables;
 

@@ -2,7 +2,7 @@
 ghost use Rattle.std.specs.Prelude.{◌≡◌, IfOk, IfErr, OnOk, Some, None};
 ghost use Rattle.tpcc_rows.specs.Lookups.{stock_refusal, stock_reply};
 
-use crate::asked::asked_district;
+use crate::queries::asked_district;
 use tpcc_rows::{Level, Refusal, StockQuery};
 use tpcc_tables::Tables;
 

@@ -13,7 +13,7 @@ use Rattle.tpcc_mailbox.specs.declared.rule.Mail.TheVariants.{Letter, Reply}
 use Rattle.tpcc_mailbox.specs.Views.{Phase, Fresh, Free, Sent, Role, Opening, Client, Server, Holder, View}
 use Rattle.atomic_table.specs.declared.shared.Seat.{Seat}
 use Rattle.tpcc_mailbox.specs.Rule.{word_of, Found, view_with, seat_with, server_seat, serving_role, serving_slots, splits_of, hand_of, splits_in, hand_in, half, halved, MailboxOk, Underway, Ruled}
-use Rattle.tpcc_mailbox.specs.Steps.{PostStep, TakeStep, AnswerStep, CollectStep, with_flag, FirstCollectStep}
+use Rattle.tpcc_mailbox.specs.Internal.Steps.{PostStep, TakeStep, AnswerStep, CollectStep, with_flag, FirstCollectStep}
 use Rattle.tpcc_mailbox.proofs.Moves.{word_in_block, put_here, stays, moves}
 
 module _ {J : Type 0} where

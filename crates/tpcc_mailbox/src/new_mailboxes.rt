@@ -16,7 +16,7 @@ use crate::table::{
 use crate::tokens::{Idle, Serving};
 use atomic_table::Table;
 use std::alloc::{AllocError, Global};
-use tpcc_money::NoMemory;
+use tpcc_rows::NoMemory;
 
 // Room for the answers of so many mailboxes.
 fn make_rooms<A: Drop>(alloc: Global, count: usize) -> Result<Vec<Room<A>>, AllocError>

@@ -41,7 +41,7 @@ impl<J, A> Model for Posted<J, A> {
 }
 
 impl<A> Model for Answered<A> {
-    ghost use Rattle.tpcc_mailbox.specs.Only.{only};
+    ghost use Rattle.tpcc_mailbox.specs.Internal.Only.{only};
 
     ghost Value = { A };
 

@@ -2,7 +2,7 @@
 ghost use Rattle.std.specs.Prelude.{◌≡◌, ◌<◌, ◌≤◌, [], ◌∷◌};
 ghost use mathlib.Core.Option.{none};
 ghost use Rattle.atomic_table.specs.Table.{rest, step, Allows, Splits};
-ghost use Rattle.tpcc_mailbox.specs.Steps.{MayStep};
+ghost use Rattle.tpcc_mailbox.specs.Internal.Steps.{MayStep};
 ghost use Rattle.tpcc_mailbox.specs.declared.table.TheConstants.{MOST_MAILBOXES};
 ghost use Rattle.tpcc_mailbox.specs.Rule.{IsSized, Ruled, word_of, words_of};
 

@@ -6,14 +6,12 @@
 
 mod amounts;
 mod cents;
-mod memory;
 mod moment;
 mod parse;
 mod rate;
 
 pub use amounts::{GREATEST_PRICE, GREATEST_SUM, line_amount, order_total};
 pub use cents::Cents;
-pub use memory::NoMemory;
 pub use moment::Moment;
 pub use parse::{AmountFault, GREATEST_AMOUNT, parse_amount, parse_number};
 pub use rate::Rate;

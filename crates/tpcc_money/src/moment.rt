@@ -4,9 +4,8 @@ ghost use Rattle.jiff_core.specs.DateTime.{civil_nanos};
 ghost use Rattle.tpcc_money.specs.Texts.{moment_text};
 ghost use Rattle.tpcc_money.specs.declared.moment.TheConstants.Moment.{LAST_SECOND};
 
-use crate::memory::NoMemory;
 use jiff_core::civil::DateTime;
-use std::alloc::Global;
+use std::alloc::{AllocError, Global};
 use std::fmt;
 use std::marker::Model;
 
@@ -59,7 +58,7 @@ impl Moment {
     }
 
     /// The civil date and time in UTC, as `1970-01-01T00:00:00`; refused only for want of memory.
-    pub fn text(self, alloc: Global) -> Result<Vec<u8>, NoMemory>
+    pub fn text(self, alloc: Global) -> Result<Vec<u8>, AllocError>
         ensures { IfOk result (λ text. text.items ≡ moment_text self) }
     {
         let text = self.to_string(alloc)?;

@@ -17,8 +17,10 @@ use Rattle.tpcc_rows.proofs.Booleans.{split}
 use Rattle.tpcc_laws.proofs.OrderRanges.{amount_fits}
 use Rattle.tpcc_laws.proofs.DeliveryKeeps.{some_of}
 use Rattle.tpcc_laws.proofs.Numbers.{amount_within}
-use Rattle.tpcc_new_order.specs.Supplied.{numbers_of, is_servable_line}
-use Rattle.tpcc_new_order.specs.Tests.{overruns_of, overruns_with}
+use Rattle.tpcc_new_order.specs.Internal.Supplied.{numbers_of, is_servable_line}
+use Rattle.tpcc_new_order.specs.Internal.Tests.{overruns_of, overruns_with}
+use Rattle.tpcc_rows.specs.declared.limits.TheConstants.{GREATEST_LINE_AMOUNT}
+use Rattle.tpcc_money.specs.declared.amounts.TheConstants.{GREATEST_PRICE}
 
 -- ---- what is known of a line
 
@@ -73,15 +75,15 @@ overruns_more f ls i lt =
 
 -- ---- amounts
 
-pub price_in_range : (i : ItemRow) → is_item_row i ≡ true → is_amount_within (pos 1) (pos 99999) i.price ≡ true
+pub price_in_range : (i : ItemRow) → is_item_row i ≡ true → is_amount_within (pos 1) GREATEST_PRICE i.price ≡ true
 unfolding is_item_row
 price_in_range i h = grind arith
 
-pub price_tells : (i : ItemRow) → is_item_row i ≡ true → (pos 1 ≤ℤ i.price) × (i.price ≤ℤ pos 99999)
-price_tells i h = amount_within (pos 1) (pos 99999) i.price (price_in_range i h)
+pub price_tells : (i : ItemRow) → is_item_row i ≡ true → (pos 1 ≤ℤ i.price) × (i.price ≤ℤ GREATEST_PRICE)
+price_tells i h = amount_within (pos 1) GREATEST_PRICE i.price (price_in_range i h)
 
-pub amount_tells : (i : ItemRow) (q : ℕ) → is_item_row i ≡ true → is_within 1 10 q ≡ true → (pos 0 ≤ℤ line_amount i.price q) × (line_amount i.price q ≤ℤ pos 999999)
-amount_tells i q h k = amount_within (pos 0) (pos 999999) (line_amount i.price q) (amount_fits q i.price k (price_in_range i h))
+pub amount_tells : (i : ItemRow) (q : ℕ) → is_item_row i ≡ true → is_within 1 10 q ≡ true → (pos 0 ≤ℤ line_amount i.price q) × (line_amount i.price q ≤ℤ GREATEST_LINE_AMOUNT)
+amount_tells i q h k = amount_within (pos 0) GREATEST_LINE_AMOUNT (line_amount i.price q) (amount_fits q i.price k (price_in_range i h))
 
 none_added : (a : ℤ) → a +ℤ pos 0 ≡ pos 0 +ℤ a
 none_added a = omega (arith, ints)

@@ -9,7 +9,7 @@ use Rattle.tpcc_rows.specs.declared.replies.AcceptedOrder.{AcceptedOrder}
 use Rattle.tpcc_rows.specs.Ranges.{is_within, is_district_row, is_moment}
 use Rattle.tpcc_rows.specs.Tables.{Rows, is_district, find_item, find_stock, no_warehouse, no_district, no_customer}
 use Rattle.tpcc_rows.specs.WellKeyed.{IsInRange, IsStocked}
-use Rattle.tpcc_rows.specs.NewOrder.{is_rolled_back, order_refusal, order_refusal_by_input, order_input_tests, accepted_order, rolled_back_order, amount_of, entered_line, order_number, order_row, order_line_row, order_line_rows}
+use Rattle.tpcc_rows.specs.NewOrder.{is_rolled_back, order_refusal, order_refusal_by_input, order_input_tests, accepted_order, rolled_back_order, amount_of, entered_line, order_number, order_row, order_line_row, order_line_rows, accepted_from, rolled_back_from}
 use Rattle.tpcc_laws.proofs.List.{list_all_both}
 use Rattle.tpcc_laws.proofs.Remove.{found_passes}
 use Rattle.tpcc_laws.proofs.PaymentRanges.{district_tells, district_key_is}
@@ -20,9 +20,8 @@ use Rattle.tpcc_rows.specs.declared.rows.OrderRow.{OrderRow}
 use Rattle.tpcc_rows.specs.declared.rows.OrderLineRow.{OrderLineRow}
 use Rattle.tpcc_tables.specs.Writes.{IsOrderOf}
 use Rattle.tpcc_new_order.specs.declared.order_rows.OrderRows.{OrderRows}
-use Rattle.tpcc_new_order.specs.Supplied.{IsServable}
-use Rattle.tpcc_new_order.specs.Tests.{IsNamed}
-use Rattle.tpcc_new_order.specs.Prepares.{accepted_from, rolled_back_from}
+use Rattle.tpcc_new_order.specs.Internal.Supplied.{IsServable}
+use Rattle.tpcc_new_order.specs.Internal.Tests.{IsNamed}
 
 -- ---- what is shown
 

@@ -12,7 +12,7 @@ use Rattle.tpcc_rows.specs.Lists.{first_finding}
 use Rattle.tpcc_rows.specs.Tables.{Rows, find_warehouse, find_district, find_customer}
 use Rattle.tpcc_rows.specs.NewOrder.{order_number, order_refusal, order_refusal_by_input, order_input_tests, order_refusal_by_range, order_range_tests, stocks_after}
 use Rattle.tpcc_laws.proofs.TurnKeeps.{all_false, first_none}
-use Rattle.tpcc_new_order.specs.Tests.{line_tests, overruns_of, range_tests}
+use Rattle.tpcc_new_order.specs.Internal.Tests.{line_tests, overruns_of, range_tests}
 
 -- the refusal by the three look-ups and the tests of the lines
 abbrev first_refusal : Option WarehouseRow → Option DistrictRow → Option CustomerRow → List (Bool × Refusal) → Option Refusal

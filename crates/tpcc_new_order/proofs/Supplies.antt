@@ -11,8 +11,8 @@ use Rattle.tpcc_rows.proofs.Booleans.{split}
 use Rattle.tpcc_laws.proofs.Numbers.{within, is_in}
 use Rattle.tpcc_new_order.specs.declared.ranges.Overruns.{Overruns}
 use Rattle.tpcc_new_order.specs.declared.supply.StockNumbers.{StockNumbers}
-use Rattle.tpcc_new_order.specs.Supplied.{numbers_of, numbers_after_line, is_far, IsNear}
-use Rattle.tpcc_new_order.specs.Tests.{overruns_with}
+use Rattle.tpcc_new_order.specs.Internal.Supplied.{numbers_of, numbers_after_line, is_far, IsNear}
+use Rattle.tpcc_new_order.specs.Internal.Tests.{overruns_with}
 
 abbrev is_line_of_item : ℕ → ℕ → Line → Bool
 is_line_of_item w i l = (l.supply == w) && (l.item == i)

@@ -1,3 +1,2 @@
-pub mod Supplied
-pub mod Tests
 pub mod Prepares
+pub mod Internal

@@ -12,5 +12,4 @@ mod rows;
 mod supply;
 mod transaction;
 
-pub use tpcc_rows::{Entered, Line, Order};
 pub use transaction::{PreparedOrder, enter, finish, prepare};

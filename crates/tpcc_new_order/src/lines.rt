@@ -3,9 +3,9 @@ ghost use Rattle.std.specs.Prelude.{◌≡◌, ◌≤◌, ◌≤ℤ◌, [], true
 ghost use Rattle.std.specs.List.{enumerate_from, list_all};
 ghost use Rattle.tpcc_money.specs.Amounts.{total};
 ghost use Rattle.tpcc_rows.specs.Ranges.{is_within, is_item_row, is_stock_row};
-ghost use Rattle.tpcc_rows.specs.NewOrder.{amount_of, district_information_of, entered_line, order_line_rows, order_number};
-ghost use Rattle.tpcc_new_order.specs.Supplied.{IsServable};
-ghost use Rattle.tpcc_new_order.specs.Prepares.{entered_line_from, order_line_from};
+ghost use Rattle.tpcc_rows.specs.NewOrder.{amount_of, district_information_of, entered_line, order_line_rows, order_number, entered_line_from};
+ghost use Rattle.tpcc_new_order.specs.Internal.Supplied.{IsServable};
+ghost use Rattle.tpcc_new_order.specs.Prepares.{order_line_from};
 ghost use Rattle.tpcc_rows.specs.declared.limits.TheConstants.{GREATEST_LINE_AMOUNT};
 ghost use Rattle.tpcc_money.specs.declared.amounts.TheConstants.{GREATEST_SUM};
 

@@ -3,9 +3,9 @@ ghost use Rattle.std.specs.Prelude.{◌≡◌, true, is_none};
 ghost use Rattle.std.specs.List.{list_any};
 ghost use Rattle.tpcc_rows.specs.Ranges.{is_item_row, is_stock_row};
 ghost use Rattle.tpcc_rows.specs.Tables.{find_item, item_at, stock_at};
-ghost use Rattle.tpcc_new_order.specs.Supplied.{is_servable_line};
+ghost use Rattle.tpcc_new_order.specs.Internal.Supplied.{is_servable_line};
 
-use tpcc_rows::{ItemRow, Line, StockRow};
+use tpcc_rows::{ItemRow, Line, StockRow, recall};
 use tpcc_tables::Tables;
 
 /// The ITEM row of a line.
@@ -14,7 +14,8 @@ pub fn item_of<'a>(tables: &'a Tables, line: &Line) -> &'a ItemRow
     ensures row { result.now ≡ item_at tables.now.rows line.now.item }
     ensures range { is_item_row result.now ≡ true }
 {
-    tables.well_keyed();
+    // For the proof: the tables are well-keyed.
+    recall!(tables.well_keyed());
     tables.item(line.item).unwrap()
 }
 
@@ -24,7 +25,8 @@ pub fn stock_of<'a>(tables: &'a Tables, line: &Line) -> &'a StockRow
     ensures row { result.now ≡ stock_at tables.now.rows line.now.supply line.now.item }
     ensures range { is_stock_row result.now ≡ true }
 {
-    tables.well_keyed();
+    // For the proof: the tables are well-keyed.
+    recall!(tables.well_keyed());
     tables.stock(line.supply, line.item).unwrap()
 }
 

@@ -5,7 +5,7 @@ ghost use Rattle.tpcc_rows.specs.Lists.{first_finding};
 ghost use Rattle.tpcc_rows.specs.Ranges.{is_within};
 ghost use Rattle.tpcc_rows.specs.Tables.{find_warehouse};
 ghost use Rattle.tpcc_rows.specs.NewOrder.{order_refusal, order_refusal_by_input};
-ghost use Rattle.tpcc_new_order.specs.Tests.{IsNamed, line_tests};
+ghost use Rattle.tpcc_new_order.specs.Internal.Tests.{IsNamed, line_tests};
 
 use tpcc_rows::{CustomerRow, DistrictRow, Line, Order, Refusal, WarehouseRow};
 use tpcc_tables::Tables;
@@ -46,7 +46,7 @@ fn has_no_supplies(tables: &Tables, lines: &[Line]) -> bool
 }
 
 /// The first refusal of an order's lines, if there is one.
-#[tactic(auto, unfolding(crate::specs::Tests::line_tests))]
+#[tactic(auto, unfolding(crate::specs::Internal::Tests::line_tests))]
 fn line_refusal(tables: &Tables, lines: &[Line]) -> Option<Refusal>
     ensures { result ≡ first_finding (line_tests tables.now.rows lines.now) }
 {

@@ -4,8 +4,8 @@ ghost use Rattle.tpcc_rows.specs.Lists.{first_finding};
 ghost use Rattle.tpcc_rows.specs.Ranges.{is_count, greatest_stock_ytd};
 ghost use Rattle.tpcc_rows.specs.Tables.{stock_at};
 ghost use Rattle.tpcc_rows.specs.NewOrder.{order_number, order_refusal_by_range, stock_after, stocks_after};
-ghost use Rattle.tpcc_new_order.specs.Supplied.{numbers_of, is_far, is_servable_line, IsServable};
-ghost use Rattle.tpcc_new_order.specs.Tests.{overruns_of, overruns_with, range_tests};
+ghost use Rattle.tpcc_new_order.specs.Internal.Supplied.{numbers_of, is_far, is_servable_line, IsServable};
+ghost use Rattle.tpcc_new_order.specs.Internal.Tests.{overruns_of, overruns_with, range_tests};
 
 use crate::lookups::stock_of;
 use crate::supply::{StockNumbers, numbers_after};
@@ -79,7 +79,7 @@ fn overruns_after(tables: &Tables, home: u32, lines: &[Line]) -> Overruns
 }
 
 /// The first refusal of the number and of the columns, if there is one.
-#[tactic(auto, unfolding(crate::specs::Tests::range_tests))]
+#[tactic(auto, unfolding(crate::specs::Internal::Tests::range_tests))]
 fn first_overrun(number: u32, over: Overruns) -> Option<Refusal>
     ensures { result ≡ first_finding (range_tests number over) }
 {
@@ -99,7 +99,7 @@ fn first_overrun(number: u32, over: Overruns) -> Option<Refusal>
 }
 
 /// The first refusal of an order that would take the number, if there is one.
-#[tactic(auto, unfolding(tpcc_rows::specs::NewOrder::order_range_tests, crate::specs::Tests::range_tests))]
+#[tactic(auto, unfolding(tpcc_rows::specs::NewOrder::order_range_tests, crate::specs::Internal::Tests::range_tests))]
 pub fn range_refusal(tables: &Tables, order: &Order, number: u32) -> Option<Refusal>
     requires servable { IsServable tables.now.rows order.now.lines }
     requires number { number ≡ order_number tables.now.rows order.now }

@@ -1,13 +1,12 @@
 //! What the terminal shows of an order (2.4.3.3, 2.4.3.4).
 ghost use Rattle.std.specs.Prelude.{◌≡◌, ◌≤◌, [], None, false, length, pos};
 ghost use Rattle.tpcc_rows.specs.WellKeyed.{IsStocked};
-ghost use Rattle.tpcc_rows.specs.NewOrder.{accepted_order, is_rolled_back, order_line_rows, order_refusal, rolled_back_order};
-ghost use Rattle.tpcc_new_order.specs.Prepares.{accepted_from};
+ghost use Rattle.tpcc_rows.specs.NewOrder.{accepted_order, is_rolled_back, order_line_rows, order_refusal, rolled_back_order, accepted_from};
 
 use crate::lines::add_lines;
 use crate::order_rows::{OrderRows, named_rows};
 use tpcc_money::{Cents, order_total};
-use tpcc_rows::{AcceptedOrder, Few, Order, OrderLineRow, RolledBackOrder};
+use tpcc_rows::{AcceptedOrder, Few, Order, OrderLineRow, RolledBackOrder, recall};
 use tpcc_tables::Tables;
 
 /// What is shown of an order's three rows, with no line yet and no total.
@@ -48,7 +47,8 @@ pub fn show_order(tables: &Tables, order: &Order, rows: &mut Few<OrderLineRow, 1
     ensures rows { rows.new ≡ order_line_rows tables.now.rows order.now }
     ensures reply { result ≡ accepted_order tables.now.rows order.now }
 {
-    tables.well_keyed();
+    // For the proof: the tables are well-keyed.
+    recall!(tables.well_keyed());
     let named = named_rows(tables, order);
     let mut shown = show_head(order, &named);
     let lines = order.lines.as_slice();

@@ -2,11 +2,10 @@
 ghost use Rattle.std.specs.Prelude.{◌≡◌, ◌==◌, ◌<◌, ◌≤◌, None, false, length};
 ghost use Rattle.std.specs.List.{list_all};
 ghost use Rattle.tpcc_rows.specs.WellKeyed.{IsStocked};
-ghost use Rattle.tpcc_rows.specs.NewOrder.{accepted_order, after_order, is_rolled_back, order_refusal};
-ghost use Rattle.tpcc_new_order.specs.Prepares.{order_row_from};
+ghost use Rattle.tpcc_rows.specs.NewOrder.{accepted_order, after_order, is_rolled_back, order_refusal, order_row_from};
 
 use crate::replies::show_order;
-use tpcc_rows::{AcceptedOrder, Few, Line, Order, OrderRow};
+use tpcc_rows::{AcceptedOrder, Few, Line, Order, OrderRow, recall};
 use tpcc_tables::Tables;
 
 /// Whether the warehouse supplies every line (O_ALL_LOCAL).
@@ -43,7 +42,8 @@ pub fn write_order(tables: &mut Tables, order: &Order) -> AcceptedOrder
     ensures rows { tables.new.rows ≡ after_order tables.old.rows order.now }
     ensures reply { result ≡ accepted_order tables.old.rows order.now }
 {
-    let _moment = order.moment.seconds();
+    // For the proof: the moment is in its range.
+    recall!(order.moment.seconds());
     let mut lines = Few::empty();
     let shown = show_order(tables, order, &mut lines);
     tables.append_order(order_row(order, shown.order), lines.as_slice());

@@ -3,7 +3,7 @@ ghost use Rattle.std.specs.Prelude.{◌≡◌, ◌≤◌, length, true};
 ghost use Rattle.std.specs.List.{list_all};
 ghost use Rattle.tpcc_rows.specs.Ranges.{is_within, is_stock_row};
 ghost use Rattle.tpcc_rows.specs.NewOrder.{quantity_after, stock_after};
-ghost use Rattle.tpcc_new_order.specs.Supplied.{numbers_of, numbers_after_line, IsNear};
+ghost use Rattle.tpcc_new_order.specs.Internal.Supplied.{numbers_of, numbers_after_line, IsNear};
 
 use tpcc_rows::{Line, StockRow};
 

@@ -10,8 +10,7 @@ use crate::order_rows::rows_of_order;
 use crate::ranges::range_refusal;
 use crate::replies::show_rollback;
 use crate::rows::write_order;
-use tpcc_money::NoMemory;
-use tpcc_rows::{Entered, Order, Refusal};
+use tpcc_rows::{Entered, NoMemory, Order, Refusal};
 use tpcc_tables::Tables;
 
 /// What is left to do for an order that nothing refuses.

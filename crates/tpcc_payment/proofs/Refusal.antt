@@ -11,8 +11,7 @@ use Rattle.tpcc_rows.specs.declared.refusals.Refusal.TheVariants.{NoWarehouse, N
 use Rattle.tpcc_rows.specs.Lists.{first_finding}
 use Rattle.tpcc_rows.specs.Tables.{Rows, find_warehouse, find_district, warehouse_at, district_at, no_warehouse, no_district, no_customer}
 use Rattle.tpcc_rows.specs.ChosenCustomer.{chosen_customer}
-use Rattle.tpcc_rows.specs.Payment.{payment_refusal, payment_tests, paying_customer}
-use Rattle.tpcc_payment.specs.Prepares.{range_tests}
+use Rattle.tpcc_rows.specs.Payment.{payment_refusal, payment_tests, payment_range_tests, paying_customer}
 
 none_or : {X Y : Type 0} (a : Option X) (b : Option Y) → a ≡ None → (is_none a || is_none b) ≡ true
 none_or a b e = λ i. is_none (e i) || is_none b
@@ -34,13 +33,13 @@ abbrev no_c : Rows → Payment → Bool
 no_c rows p = is_none (chosen_customer rows p.customer_warehouse p.customer_district p.who)
 
 abbrev ranges : Rows → Payment → List (Bool × Refusal)
-ranges rows p = range_tests (warehouse_at rows p.warehouse) (district_at rows p.warehouse p.district) (paying_customer rows p) p.amount
+ranges rows p = payment_range_tests (warehouse_at rows p.warehouse) (district_at rows p.warehouse p.district) (paying_customer rows p) p.amount
 
 abbrev first_refusal : Bool → Bool → Bool → List (Bool × Refusal) → Option Refusal
 first_refusal w d c rest = first_finding ((w, NoWarehouse) ∷ (d, NoDistrict) ∷ (c, NoCustomer) ∷ rest)
 
 laid_out : (rows : Rows) (p : Payment) → payment_refusal rows p ≡ first_refusal (no_w rows p) (no_d rows p) (no_c rows p) (ranges rows p)
-unfolding payment_tests range_tests
+unfolding payment_tests
 laid_out rows p = refl
 
 pub first_warehouse : (rows : Rows) (p : Payment) → find_warehouse rows p.warehouse ≡ None → payment_refusal rows p ≡ Some NoWarehouse
@@ -64,10 +63,10 @@ customer_missing rows p w w2 d d2 e f g h k =
     laid_out rows p
     ∙ (λ i. first_refusal (both_some (find_warehouse rows p.warehouse) (find_warehouse rows p.customer_warehouse) w w2 e f i) (both_some (find_district rows p.warehouse p.district) (find_district rows p.customer_warehouse p.customer_district) d d2 g h i) (is_none (k i)) (ranges rows p))
 
-pub by_ranges : (rows : Rows) (p : Payment) (w w2 : WarehouseRow) (d d2 : DistrictRow) (c : CustomerRow) → find_warehouse rows p.warehouse ≡ Some w → find_warehouse rows p.customer_warehouse ≡ Some w2 → find_district rows p.warehouse p.district ≡ Some d → find_district rows p.customer_warehouse p.customer_district ≡ Some d2 → chosen_customer rows p.customer_warehouse p.customer_district p.who ≡ Some c → payment_refusal rows p ≡ first_finding (range_tests w d c p.amount)
+pub by_ranges : (rows : Rows) (p : Payment) (w w2 : WarehouseRow) (d d2 : DistrictRow) (c : CustomerRow) → find_warehouse rows p.warehouse ≡ Some w → find_warehouse rows p.customer_warehouse ≡ Some w2 → find_district rows p.warehouse p.district ≡ Some d → find_district rows p.customer_warehouse p.customer_district ≡ Some d2 → chosen_customer rows p.customer_warehouse p.customer_district p.who ≡ Some c → payment_refusal rows p ≡ first_finding (payment_range_tests w d c p.amount)
 by_ranges rows p w w2 d d2 c e f g h k =
     laid_out rows p
-    ∙ (λ i. first_refusal (both_some (find_warehouse rows p.warehouse) (find_warehouse rows p.customer_warehouse) w w2 e f i) (both_some (find_district rows p.warehouse p.district) (find_district rows p.customer_warehouse p.customer_district) d d2 g h i) (is_none (k i)) (range_tests (unwrap_or (e i) no_warehouse) (unwrap_or (g i) no_district) (unwrap_or (k i) no_customer) p.amount))
+    ∙ (λ i. first_refusal (both_some (find_warehouse rows p.warehouse) (find_warehouse rows p.customer_warehouse) w w2 e f i) (both_some (find_district rows p.warehouse p.district) (find_district rows p.customer_warehouse p.customer_district) d d2 g h i) (is_none (k i)) (payment_range_tests (unwrap_or (e i) no_warehouse) (unwrap_or (g i) no_district) (unwrap_or (k i) no_customer) p.amount))
 
 -- ---- what a look-up answered
 

@@ -1,6 +1,6 @@
 //! The HISTORY row that a payment appends (2.5.2.2).
 ghost use Rattle.std.specs.Prelude.{◌≡◌, ◌++◌, codes};
-ghost use Rattle.tpcc_payment.specs.Prepares.{history_from};
+ghost use Rattle.tpcc_rows.specs.Payment.{history_from};
 
 use crate::payment_rows::PaymentRows;
 use tpcc_rows::{HistoryRow, Payment, Text};

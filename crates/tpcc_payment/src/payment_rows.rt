@@ -7,7 +7,9 @@ ghost use Rattle.tpcc_rows.specs.ChosenCustomer.{chosen_customer};
 ghost use Rattle.tpcc_payment.specs.Prepares.{IsNamed};
 
 use crate::ranges::range_refusal;
-use tpcc_rows::{CustomerKey, CustomerRow, DistrictRow, Payment, Refusal, WarehouseRow, Who};
+use tpcc_rows::{
+    CustomerKey, CustomerRow, DistrictRow, Payment, Refusal, WarehouseRow, Who, recall,
+};
 use tpcc_tables::Tables;
 
 /// The rows that a payment names.
@@ -87,7 +89,8 @@ pub fn named_rows<'a>(tables: &'a Tables, payment: &Payment, key: CustomerKey) -
         ≡ Some (paying_customer tables.now.rows payment.now) }
     ensures { IsNamed tables.now.rows payment.now result }
 {
-    tables.well_keyed();
+    // For the proof: the tables are well-keyed.
+    recall!(tables.well_keyed());
     PaymentRows {
         warehouse: tables.warehouse(payment.warehouse).unwrap(),
         district: tables

@@ -2,7 +2,7 @@
 ghost use Rattle.std.specs.Prelude.{◌≡◌, ◌+◌, ◌+ℤ◌, ◌-ℤ◌, pos};
 ghost use Rattle.tpcc_rows.specs.Lists.{first_finding};
 ghost use Rattle.tpcc_rows.specs.Ranges.{is_amount_within, is_total, is_balance, is_count};
-ghost use Rattle.tpcc_payment.specs.Prepares.{range_tests};
+ghost use Rattle.tpcc_rows.specs.Payment.{payment_range_tests};
 ghost use Rattle.tpcc_rows.specs.declared.limits.TheConstants.{LEAST_PAYMENT, GREATEST_PAYMENT};
 
 use crate::payment_rows::PaymentRows;
@@ -40,10 +40,9 @@ fn is_payable(amount: Cents) -> bool
 }
 
 /// The first refusal of the amounts and counts, if there is one.
-#[tactic(auto, unfolding(crate::specs::Prepares::range_tests))]
 pub fn range_refusal(named: &PaymentRows, amount: Cents) -> Option<Refusal>
     ensures { result
-        ≡ first_finding (range_tests named.now.warehouse.now named.now.district.now
+        ≡ first_finding (payment_range_tests named.now.warehouse.now named.now.district.now
         named.now.customer.now amount) }
 {
     if !is_payable(amount) {

@@ -1,7 +1,7 @@
 //! What the terminal shows of a payment (2.5.3.3).
 ghost use Rattle.std.specs.Prelude.{◌≡◌, ◌-ℤ◌, FitsSigned, take, option_map};
 ghost use Rattle.std.specs.Int.{w64};
-ghost use Rattle.tpcc_payment.specs.Prepares.{new_information, reply_from};
+ghost use Rattle.tpcc_rows.specs.Payment.{paid_customer, reply_from};
 
 use crate::payment_rows::PaymentRows;
 use tpcc_rows::{Paid, Payment, Text};
@@ -28,10 +28,9 @@ fn shown_information(information: &Option<Text<500>>) -> Option<Text<200>>
 /// What the terminal shows of a payment with that new C_DATA.
 pub fn show_payment(payment: &Payment, named: &PaymentRows, information: &Option<Text<500>>) -> Paid
     requires fits { FitsSigned w64 (named.now.customer.now.balance -ℤ payment.now.amount) }
-    requires information { information.now ≡ new_information payment.now named.now.customer.now }
     ensures { result
         ≡ reply_from payment.now named.now.warehouse.now named.now.district.now
-        named.now.customer.now }
+        (paid_customer payment.now named.now.customer.now) (option_map (take 200) information.now) }
 {
     Paid {
         warehouse: payment.warehouse,

@@ -8,7 +8,7 @@ use crate::history::history_row;
 use crate::note::information_after;
 use crate::payment_rows::{named_rows, rows_of_payment};
 use crate::replies::show_payment;
-use tpcc_rows::{CustomerKey, Paid, Payment, Refusal};
+use tpcc_rows::{CustomerKey, Paid, Payment, Refusal, recall};
 use tpcc_tables::Tables;
 
 /// What was found out of a payment that nothing refuses.
@@ -25,7 +25,8 @@ fn judge(tables: &Tables, payment: &Payment) -> Result<PreparedPayment, Refusal>
     ensures err { IfErr result (λ refusal.
         payment_refusal tables.now.rows payment.now ≡ Some refusal) }
 {
-    tables.well_keyed();
+    // For the proof: the tables are well-keyed.
+    recall!(tables.well_keyed());
     let named = rows_of_payment(tables, payment)?;
     let customer = CustomerKey {
         warehouse: named.customer.warehouse,
@@ -58,8 +59,9 @@ pub fn finish(tables: &mut Tables, payment: &Payment, prepared: PreparedPayment)
     ensures rows { tables.new.rows ≡ after_payment tables.old.rows payment.now }
     ensures reply { result ≡ payment_reply tables.old.rows payment.now }
 {
-    let _moment = payment.moment.seconds();
-    tables.well_keyed();
+    // For the proof: the moment is in its range; the tables are well-keyed.
+    recall!(payment.moment.seconds());
+    recall!(tables.well_keyed());
     let named = named_rows(tables, payment, prepared.customer);
     let information = information_after(payment, named.customer);
     let reply = show_payment(payment, &named, &information);

@@ -6,7 +6,7 @@ use Rattle.std.proofs.lemmas.List.Folds.{list_all-append}
 use Rattle.rand_core.specs.Stream.{Stream}
 use Rattle.tpcc_draws.specs.Draws.{stream_at, generator_of, between, nurand, a_string, n_string, permutation}
 use Rattle.tpcc_rows.specs.LastName.{last_name}
-use Rattle.tpcc_draws.specs.Within.{HasWords}
+use Rattle.tpcc_draws.specs.Internal.Within.{HasWords}
 use Rattle.tpcc_draws.proofs.Draw.{answers_are_words, between_is_between}
 use Rattle.tpcc_draws.proofs.Order.{permutation_is_within}
 use Rattle.tpcc_draws.proofs.PrintableDraws.{a_text, n_text}
@@ -18,6 +18,8 @@ use Rattle.tpcc_population.specs.Regular.{IsScale, RefersInside, HasRowsInRange}
 use Rattle.tpcc_population.specs.Seeded.{Seeding, seeded_rules, drawn_zip, drawn_address, drawn_last, drawn_information, drawn_texts, drawn_carrier, drawn_amount, with_original, district_number, number_in_districts, line_number, stock_number, seeded_warehouse, seeded_district, seeded_customer, seeded_history, seeded_order, seeded_order_line, seeded_item, seeded_stock}
 use Rattle.tpcc_population.proofs.Range.{within, amount_within, text_ok, exact_ok, last_name_ok}
 use Rattle.tpcc_population.proofs.PlainRanges.{text_where, moment_where, new_order_ok}
+use Rattle.tpcc_rows.specs.declared.limits.TheConstants.{GREATEST_LINE_AMOUNT, GREATEST_ORDER}
+use Rattle.tpcc_money.specs.declared.moment.TheConstants.Moment.{LAST_SECOND}
 
 words_at : (seed table row : ℕ) → HasWords (stream_at seed table row)
 words_at seed table row = answers_are_words (generator_of seed table row)
@@ -140,7 +142,7 @@ carrier_is_drawn true s words =
 carrier_is_drawn false s words = record { carrier = refl; words = words }
 
 record IsAmountOf (drawn : ℤ × Stream) : Type 0 where
-  amount : is_amount_within (pos 0) (pos 999999) drawn.0 ≡ true
+  amount : is_amount_within (pos 0) GREATEST_LINE_AMOUNT drawn.0 ≡ true
   words : HasWords drawn.1
 
 amount_is_drawn : (delivered : Bool) (s : Stream) → HasWords s → IsAmountOf (drawn_amount delivered s)
@@ -188,7 +190,7 @@ district_ok g n w d a b c e =
     let rate = between_is_between 0 2000 (drawn_address (a_string 6 10 start).1).1 (omega arith) (omega arith) address.words in
     let tax = within 0 9999 (between 0 2000 (drawn_address (a_string 6 10 start).1).1).0 (omega arith) (omega (arith, rate.most)) in
     let ytd = amount_within 0 999999999999 (g.scale.customers * 1000) (omega arith) (omega (arith, n.customers_most)) in
-    let next = within 1 9999999 (g.scale.customers + 1) (omega arith) (omega (arith, n.customers_most)) in
+    let next = within 1 GREATEST_ORDER (g.scale.customers + 1) (omega arith) (omega (arith, n.customers_most)) in
     λ i. id i && warehouse i && name.text i && address.address i && tax i && ytd i && next i
 
 customer_ok : (g : Seeding) → IsScale g.scale → g.moment ≤ greatest_moment → (w d k : ℕ) → 1 ≤ w → w < 1 + g.scale.warehouses → 1 ≤ d → d < 11 → 1 ≤ k → k < 1 + g.scale.customers → IsTrue (is_customer_row (seeded_customer g w d k))
@@ -213,7 +215,7 @@ customer_ok g n m w d k a b c e f h =
     let rate = between_is_between 0 5000 s_5 (omega arith) (omega arith) tenth.words in
     let discount = within 0 9999 (between 0 5000 s_5).0 (omega arith) (omega (arith, rate.most)) in
     let information = short_text 300 500 500 (between 0 5000 s_5).1 (omega arith) (omega arith) (omega arith) rate.words in
-    let since = within 0 4102444799 g.moment (omega arith) m in
+    let since = within 0 LAST_SECOND g.moment (omega arith) m in
     λ i. id i && district i && warehouse i && first.text i && true && last.text i && address.address i && phone_text i && since i && credit i && true && discount i && true && true && true && true && information.text i
 
 history_ok : (g : Seeding) → IsScale g.scale → g.moment ≤ greatest_moment → (w d k : ℕ) → 1 ≤ w → w < 1 + g.scale.warehouses → 1 ≤ d → d < 11 → 1 ≤ k → k < 1 + g.scale.customers → IsTrue (is_history_row (seeded_history g w d k))
@@ -222,7 +224,7 @@ history_ok g n m w d k a b c e f h =
     let id = within 1 3000 k f (omega (arith, n.customers_most)) in
     let district = within 1 10 d c (omega arith) in
     let warehouse = within 1 100 w a (omega (arith, n.warehouses_most)) in
-    let date = within 0 4102444799 g.moment (omega arith) m in
+    let date = within 0 LAST_SECOND g.moment (omega arith) m in
     let information = short_text 12 24 24 (stream_at g.seed 4 (number_in_districts g.scale w d k)) (omega arith) (omega arith) (omega arith) (words_at g.seed 4 (number_in_districts g.scale w d k)) in
     λ i. id i && district i && warehouse i && district i && warehouse i && date i && true && information.text i
 
@@ -231,11 +233,11 @@ unfolding is_order_row
 order_ok g n m w d o a b c e f h =
     let start = stream_at g.seed 5 (number_in_districts g.scale w d o) in
     let place = permutation_is_within g.scale.customers (o - 1) (stream_at g.seed 11 (district_number w d)) (omega arith) in
-    let id = within 1 9999999 o f (omega (arith, n.customers_most)) in
+    let id = within 1 GREATEST_ORDER o f (omega (arith, n.customers_most)) in
     let district = within 1 10 d c (omega arith) in
     let warehouse = within 1 100 w a (omega (arith, n.warehouses_most)) in
     let customer = within 1 3000 (slice_index (permutation g.scale.customers (stream_at g.seed 11 (district_number w d))).0 (o - 1)) place.0 (omega (arith, place.1, n.customers_most)) in
-    let date = within 0 4102444799 g.moment (omega arith) m in
+    let date = within 0 LAST_SECOND g.moment (omega arith) m in
     let carrier = carrier_is_drawn (is_delivered g.scale o) start (words_at g.seed 5 (number_in_districts g.scale w d o)) in
     let count = between_is_between 5 15 (drawn_carrier (is_delivered g.scale o) start).1 (omega arith) (omega arith) carrier.words in
     let lines = within 5 15 (between 5 15 (drawn_carrier (is_delivered g.scale o) start).1).0 count.least count.most in
@@ -249,12 +251,12 @@ order_line_ok g n m w d o j a b c e f h k l =
     let count = between_is_between 5 15 (drawn_carrier (is_delivered g.scale o) start).1 (omega arith) (omega arith) carrier.words in
     let own = stream_at g.seed 6 (line_number g.scale w d o j) in
     let draw = between_is_between 1 g.scale.items own (omega (arith, n.items_least)) (omega (arith, n.items_most)) (words_at g.seed 6 (line_number g.scale w d o j)) in
-    let order = within 1 9999999 o f (omega (arith, n.customers_most)) in
+    let order = within 1 GREATEST_ORDER o f (omega (arith, n.customers_most)) in
     let district = within 1 10 d c (omega arith) in
     let warehouse = within 1 100 w a (omega (arith, n.warehouses_most)) in
     let number = within 1 15 j k (omega (arith, count.most, l)) in
     let item = within 1 100000 (between 1 g.scale.items own).0 draw.least (omega (arith, draw.most, n.items_most)) in
-    let delivered = moment_where (is_delivered g.scale o) g.moment (within 0 4102444799 g.moment (omega arith) m) in
+    let delivered = moment_where (is_delivered g.scale o) g.moment (within 0 LAST_SECOND g.moment (omega arith) m) in
     let amount = amount_is_drawn (is_delivered g.scale o) (between 1 g.scale.items own).1 draw.words in
     let information = exact_text (drawn_amount (is_delivered g.scale o) (between 1 g.scale.items own).1).1 amount.words in
     λ i. order i && district i && warehouse i && number i && item i && warehouse i && delivered i && true && amount.amount i && information i

@@ -1,7 +1,7 @@
 //! The tables of an opening (4.3.3).
 ghost use Rattle.std.specs.Prelude.{◌≡◌, IfOk};
 ghost use Rattle.tpcc_rows.specs.Opening.{plain_rows};
-ghost use Rattle.tpcc_tables.specs.Listed.{listed};
+ghost use Rattle.tpcc_tables.specs.DistrictVecs.{listed};
 ghost use Rattle.tpcc_population.specs.Opening.{opening_rows, seeded_rows};
 
 use crate::lists::{GoodsLists, HomeLists, OrderLists, join};
@@ -11,8 +11,9 @@ use crate::scale::Scale;
 use crate::seeded::tables::*;
 use crate::seeded::{Seed, is_sound};
 use std::alloc::Global;
-use tpcc_money::NoMemory;
-use tpcc_tables::{Lists, Parts, Tables};
+use tpcc_rows::{NoMemory, recall};
+use tpcc_storage::ByDistrict;
+use tpcc_tables::{Lists, Tables};
 
 /// The tables as they start: each row of the opening at its place. Refuses for want of memory alone.
 pub fn fill(alloc: Global, opening: &Opening) -> Result<Tables, NoMemory>
@@ -39,7 +40,8 @@ fn fill_plain(alloc: Global, scale: Scale) -> Result<Tables, NoMemory>
     ensures rows { IfOk result (λ tables. tables.rows ≡ plain_rows scale) }
 {
     let lists = plain_lists(alloc, scale)?;
-    plain_is_sound(scale);
+    // For the proof: the conditions hold of the opening.
+    recall!(plain_is_sound(scale));
     Tables::of(lists, alloc)
 }
 
@@ -58,10 +60,11 @@ fn plain_order_lists(alloc: Global, scale: Scale) -> Result<OrderLists, NoMemory
     ensures lines { IfOk result (λ lists. lists.order_lines.rows ≡ (plain_rows scale).order_lines) }
     ensures new { IfOk result (λ lists. lists.new_orders.rows ≡ (plain_rows scale).new_orders) }
 {
-    plain_is_sound(scale);
-    let order_lines = Parts::from_sorted(plain_order_lines(alloc, scale)?, alloc)?;
-    let orders = Parts::from_sorted(plain_orders(alloc, scale)?, alloc)?;
-    let new_orders = Parts::from_sorted(plain_new_orders(alloc, scale)?, alloc)?;
+    // For the proof: the conditions hold of the opening.
+    recall!(plain_is_sound(scale));
+    let order_lines = ByDistrict::from_sorted(plain_order_lines(alloc, scale)?, alloc)?;
+    let orders = ByDistrict::from_sorted(plain_orders(alloc, scale)?, alloc)?;
+    let new_orders = ByDistrict::from_sorted(plain_new_orders(alloc, scale)?, alloc)?;
     Ok(OrderLists {
         orders,
         order_lines,
@@ -117,9 +120,9 @@ fn seeded_order_lists(alloc: Global, seed: Seed) -> Result<OrderLists, NoMemory>
     ensures new { IfOk result (λ lists. lists.new_orders.rows ≡ (seeded_rows seed).new_orders) }
 {
     is_sound(seed);
-    let order_lines = Parts::from_sorted(seeded_order_lines(alloc, seed)?, alloc)?;
-    let orders = Parts::from_sorted(seeded_orders(alloc, seed)?, alloc)?;
-    let new_orders = Parts::from_sorted(seeded_new_orders(alloc, seed)?, alloc)?;
+    let order_lines = ByDistrict::from_sorted(seeded_order_lines(alloc, seed)?, alloc)?;
+    let orders = ByDistrict::from_sorted(seeded_orders(alloc, seed)?, alloc)?;
+    let new_orders = ByDistrict::from_sorted(seeded_new_orders(alloc, seed)?, alloc)?;
     Ok(OrderLists {
         orders,
         order_lines,

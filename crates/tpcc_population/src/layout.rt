@@ -5,7 +5,7 @@ ghost use Rattle.tpcc_rows.specs.declared.limits.TheConstants.{GREATEST_WAREHOUS
 
 use crate::row_list::RowList;
 use std::alloc::Global;
-use tpcc_money::NoMemory;
+use tpcc_rows::NoMemory;
 
 /// The rows of a table by their numbers: warehouse, district and the row's own number. A table
 /// that has no use for one of them is asked with 1.

@@ -1,12 +1,13 @@
 //! The rows of an opening in three groups, so that a list that is refused memory lets few others go.
 ghost use Rattle.std.specs.Prelude.{◌≡◌};
-ghost use Rattle.tpcc_tables.specs.Listed.{listed};
+ghost use Rattle.tpcc_tables.specs.DistrictVecs.{listed};
 
 use tpcc_rows::{
     CustomerRow, DistrictRow, HistoryRow, ItemRow, NewOrderRow, OrderLineRow, OrderRow, StockRow,
     WarehouseRow,
 };
-use tpcc_tables::{KeyedRows, Listed, Lists, NewOrders};
+use tpcc_storage::{DistrictVecs, KeyedRows, PendingOrders};
+use tpcc_tables::Lists;
 
 /// The tables of warehouses, their districts and the customers there.
 #[derive(Drop)]
@@ -25,11 +26,11 @@ pub(crate) struct HomeLists {
 #[derive(Drop)]
 pub(crate) struct OrderLists {
     /// One of each customer.
-    pub orders: Listed<OrderRow>,
+    pub orders: DistrictVecs<OrderRow>,
     /// As many of each order as its O_OL_CNT.
-    pub order_lines: Listed<OrderLineRow>,
+    pub order_lines: DistrictVecs<OrderLineRow>,
     /// One of each order that is not delivered.
-    pub new_orders: NewOrders,
+    pub new_orders: PendingOrders,
 }
 
 /// The tables of items and of their stock.

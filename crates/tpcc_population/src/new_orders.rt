@@ -4,14 +4,13 @@ ghost use Rattle.tpcc_rows.specs.Opening.{plain_new_order};
 ghost use Rattle.tpcc_rows.specs.declared.limits.TheConstants.{GREATEST_CUSTOMER};
 
 use crate::layout::{TableRows, push};
-use tpcc_money::NoMemory;
-use tpcc_rows::NewOrderRow;
+use tpcc_rows::{NewOrderRow, NoMemory};
 
 /// NEW-ORDER.
 #[derive(Drop)]
-pub(crate) struct NewOrders;
+pub(crate) struct OpeningNewOrders;
 
-impl TableRows for NewOrders {
+impl TableRows for OpeningNewOrders {
     type Row = NewOrderRow;
 
     ghost rows_of = { λ table warehouse district number. plain_new_order warehouse district number ∷ [] };

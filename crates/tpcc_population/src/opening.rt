@@ -4,6 +4,7 @@ ghost use Rattle.tpcc_rows.specs.Opening.{plain_rows};
 
 use crate::scale::Scale;
 use tpcc_money::Moment;
+use tpcc_rows::recall;
 
 /// How the tables start: each row by its numbers alone, or drawn from its own stream.
 #[derive(Clone, Copy)]
@@ -41,13 +42,15 @@ pub fn opening_is_sound(opening: Opening)
 pub(crate) fn plain_is_sound(scale: Scale)
     ensures { IsSoundOpening scale.customers (plain_rows scale) }
 {
-    let _ = scale.customers();
+    // For the proof: the scale is in its ranges.
+    recall!(scale.customers());
 }
 
 pub(crate) fn seeded_is_sound(scale: Scale, seed: u64, moment: Moment)
     ensures { IsSoundOpening scale.customers
         (seeded_rows (record { scale = scale; seed = seed; moment = moment })) }
 {
-    let _ = scale.customers();
-    let _ = moment.seconds();
+    // For the proof: the scale is in its ranges; the moment is in its range.
+    recall!(scale.customers());
+    recall!(moment.seconds());
 }

@@ -4,8 +4,8 @@ ghost use Rattle.tpcc_rows.specs.Lists.{is_ascending};
 ghost use Rattle.tpcc_laws.proofs.List.{ascending_front};
 
 use std::alloc::Global;
-use tpcc_money::NoMemory;
-use tpcc_tables::{KeyedRows, Mapped};
+use tpcc_rows::NoMemory;
+use tpcc_storage::{KeyedRows, MapRow};
 
 /// Rows to which more are appended, each in its order.
 pub(crate) trait RowList<X: Copy>: Drop {
@@ -48,7 +48,7 @@ impl<X: Copy> RowList<X> for Vec<X> {
     }
 }
 
-impl<T: Mapped> RowList<T> for KeyedRows<T> {
+impl<T: MapRow> RowList<T> for KeyedRows<T> {
     ghost rows = { λ list. list.items };
 
     ghost suits = { λ rows. is_ascending T.key rows ≡ true };

@@ -14,6 +14,7 @@ use crate::opening::seeded_is_sound;
 use crate::scale::Scale;
 use std::marker::Model;
 use tpcc_money::Moment;
+use tpcc_rows::recall;
 
 /// What the draws start from. `moment` stands in every column of a date.
 #[derive(Clone, Copy)]
@@ -40,5 +41,6 @@ impl Model for Seed {
 pub(crate) fn is_sound(seed: Seed)
     ensures { IsSoundOpening seed.scale.customers (seeded_rows seed) }
 {
-    seeded_is_sound(seed.scale, seed.seed, seed.moment);
+    // For the proof: the conditions hold of the opening.
+    recall!(seeded_is_sound(seed.scale, seed.seed, seed.moment));
 }

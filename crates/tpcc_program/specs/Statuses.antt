@@ -2,12 +2,12 @@
 use Rattle.std.specs.Prelude.{ℕ}
 use Rattle.tpcc_program.specs.declared.words.fault.WordsFault.{WordsFault}
 use Rattle.tpcc_program.specs.declared.words.fault.WordsFault.TheVariants as words
-use Rattle.tpcc_parse.specs.declared.fault.ScriptFault.{ScriptFault}
-use Rattle.tpcc_parse.specs.declared.fault.ScriptFault.TheVariants as script
-use Rattle.tpcc_dump.specs.declared.fault.DumpFault.{DumpFault}
-use Rattle.tpcc_dump.specs.declared.fault.DumpFault.TheVariants as dump
-use Rattle.tpcc_run.specs.RunFault.{RunFault}
-use Rattle.tpcc_run.specs.RunFault.TheVariants as run
+use Rattle.tpcc_text.specs.declared.script.fault.ScriptFault.{ScriptFault}
+use Rattle.tpcc_text.specs.declared.script.fault.ScriptFault.TheVariants as script
+use Rattle.tpcc_show.specs.declared.table_dump.output_fault.OutputFault.{OutputFault}
+use Rattle.tpcc_show.specs.declared.table_dump.output_fault.OutputFault.TheVariants as dump
+use Rattle.tpcc_run.specs.declared.threads.fault.RunFault.{RunFault}
+use Rattle.tpcc_run.specs.declared.threads.fault.RunFault.TheVariants as run
 use Rattle.tpcc_program.specs.declared.fault.ProgramFault.{ProgramFault}
 use Rattle.tpcc_program.specs.declared.fault.ProgramFault.TheVariants as program
 
@@ -21,7 +21,7 @@ status_of_script script.Read = 3
 status_of_script script.Write = 3
 status_of_script script.NoMemory = 4
 
-abbrev pub status_of_dump : DumpFault → ℕ
+abbrev pub status_of_dump : OutputFault → ℕ
 status_of_dump dump.Write = 3
 status_of_dump dump.NoMemory = 4
 
@@ -40,5 +40,5 @@ status_of_words (words.Scale fault) = 1
 abbrev pub status_of : ProgramFault → ℕ
 status_of (program.Words fault) = status_of_words fault
 status_of (program.Script fault) = status_of_script fault
-status_of (program.Dump fault) = status_of_dump fault
+status_of (program.Output fault) = status_of_dump fault
 status_of (program.Run fault) = status_of_run fault

@@ -2,18 +2,17 @@
 ghost use Rattle.std.specs.Prelude.{◌≤◌};
 
 use crate::fault::ProgramFault;
-use crate::words::{Asked, Asking};
+use crate::requests::put_requests;
+use crate::timing::Timing;
+use crate::words::{Command, RequestsCommand};
 use std::alloc::Global;
 use std::io::{self, Eprint};
 use std::time::Clock;
-use tpcc_asked::Part;
-use tpcc_dump::{DumpFault, dump_to};
-use tpcc_parse::ScriptFault;
 use tpcc_population::{Opening, fill};
-use tpcc_progress::Timing;
-use tpcc_requests::put_requests;
 use tpcc_rows::Table;
-use tpcc_show_script::{run_script, show_script};
+use tpcc_script::{run_script, show_script};
+use tpcc_show::{OutputFault, Part, dump_to};
+use tpcc_text::ScriptFault;
 
 /// Serves a script's requests, from standard input to standard output; writes their screens, or the
 /// parts that are asked for.
@@ -65,14 +64,14 @@ pub(crate) fn dump_table<R: Print>(
     table: Table,
 ) -> Result<(), ProgramFault> {
     let Ok(tables) = fill(alloc, opening) else {
-        return Err(ProgramFault::Dump(DumpFault::NoMemory));
+        return Err(ProgramFault::Output(OutputFault::NoMemory));
     };
     let written = dump_to(alloc, &tables, table, &mut io::writer(rt));
     // Let go by a call, once, which keeps the tables' parts out of this function's proof.
     drop(tables);
     match written {
         Ok(()) => Ok(()),
-        Err(fault) => Err(ProgramFault::Dump(fault)),
+        Err(fault) => Err(ProgramFault::Output(fault)),
     }
 }
 
@@ -80,8 +79,8 @@ pub(crate) fn dump_table<R: Print>(
 pub(crate) fn put_asked<R: Print>(
     rt: &R,
     alloc: Global,
-    asked: &Asked,
-    asking: Asking,
+    asked: &Command,
+    asking: RequestsCommand,
 ) -> Result<(), ProgramFault>
     requires terminal { 1 ≤ asking.terminal }
 {
@@ -97,6 +96,6 @@ pub(crate) fn put_asked<R: Print>(
     );
     match ended {
         Ok(()) => Ok(()),
-        Err(fault) => Err(ProgramFault::Dump(fault)),
+        Err(fault) => Err(ProgramFault::Output(fault)),
     }
 }

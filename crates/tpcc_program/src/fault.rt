@@ -4,9 +4,9 @@ ghost use Rattle.tpcc_program.specs.Statuses.{status_of};
 
 use crate::words::WordsFault;
 use thiserror::Error;
-use tpcc_dump::DumpFault;
-use tpcc_parse::ScriptFault;
 use tpcc_run::RunFault;
+use tpcc_show::OutputFault;
+use tpcc_text::ScriptFault;
 
 /// Why the program ends early. The text is its line on standard error.
 #[derive(Clone, Copy, Debug, Error)]
@@ -19,7 +19,7 @@ pub enum ProgramFault {
     Script(ScriptFault),
     /// The table was not written whole.
     #[error("{0}")]
-    Dump(DumpFault),
+    Output(OutputFault),
     /// The run ended without its report.
     #[error("{0}")]
     Run(RunFault),
@@ -44,9 +44,9 @@ impl ProgramFault {
                 ScriptFault::Read | ScriptFault::Write => 3,
                 ScriptFault::NoMemory => 4,
             },
-            ProgramFault::Dump(fault) => match fault {
-                DumpFault::Write => 3,
-                DumpFault::NoMemory => 4,
+            ProgramFault::Output(fault) => match fault {
+                OutputFault::Write => 3,
+                OutputFault::NoMemory => 4,
             },
             ProgramFault::Run(fault) => match fault {
                 RunFault::Missing => 5,

@@ -1,18 +1,18 @@
 //! What the program does: what its words ask, and what is told of a fault.
 ghost use Rattle.std.specs.Prelude.{IfOk};
-ghost use Rattle.tpcc_program.specs.Tasks.{HasPlan};
+ghost use Rattle.tpcc_program.specs.Internal.Tasks.{HasPlan};
 
-use crate::asked_run::AskedRun;
 use crate::commands::{dump_table, put_asked, script};
 use crate::fault::ProgramFault;
-use crate::words::{Asked, Task, WordsFault, read_words, tell_usage};
+use crate::run_command::RunCommand;
+use crate::words::{Command, Task, WordsFault, read_words, tell_usage};
 use std::alloc::{AllocError, Global};
 use std::env::Env;
-use std::io::Eprint;
+use std::io::{Eprint, ErrorKind};
 use std::sync::Wait;
 use std::thread::Threads;
 use std::time::Clock;
-use tpcc_run::OneTurn;
+use tpcc_server::OneTurn;
 
 /// Does what the program's words ask, on standard input and output; `watched` is whether somebody sees standard error, who is
 /// then told how far a run has come, and `make` gives the call of each request of a run. What goes in and out no clause says:
@@ -32,7 +32,7 @@ pub fn perform<
         Task::Dump(table) => dump_table(rt, alloc, &opening, table),
         Task::Requests(asking) => put_asked(rt, alloc, &asked, asking),
         Task::Run(plan) => {
-            let run = AskedRun {
+            let run = RunCommand {
                 rt,
                 alloc,
                 opening: &opening,
@@ -58,15 +58,20 @@ pub fn explain<R: Env + AllocGlobal + Eprint>(rt: &R, alloc: Global, fault: Prog
     }
 }
 
-fn read_asked<R: Env + AllocGlobal>(rt: &R, alloc: Global) -> Result<Asked, WordsFault>
+fn read_asked<R: Env + AllocGlobal>(rt: &R, alloc: Global) -> Result<Command, WordsFault>
     ensures plan { IfOk result (λ asked. HasPlan asked.task) }
 {
     read_words(alloc, words(rt, alloc)?.as_slice())
 }
 
 fn words<R: Env + AllocGlobal>(rt: &R, alloc: Global) -> Result<Vec<String>, WordsFault> {
-    let Ok(words) = std::env::args(rt) else {
-        return Err(WordsFault::NoMemory);
+    let words = match std::env::args(rt) {
+        Ok(words) => words,
+        // a word that is not UTF-8
+        Err(error) if error.kind() == ErrorKind::InvalidData => {
+            return Err(WordsFault::Arguments);
+        }
+        Err(_) => return Err(WordsFault::NoMemory),
     };
     match words.collect(alloc) {
         Ok(words) => Ok(words),

@@ -5,5 +5,5 @@ mod reading;
 mod usage;
 
 pub use fault::WordsFault;
-pub(crate) use reading::{Asked, Asking, Task, read_words};
+pub(crate) use reading::{Command, RequestsCommand, Task, read_words};
 pub(crate) use usage::tell_usage;

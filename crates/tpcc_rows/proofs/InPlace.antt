@@ -5,8 +5,8 @@ use Rattle.std.proofs.Common.{arith, ap, ◌∙◌, sym, refl, length-take-le}
 use Rattle.std.proofs.lemmas.List.{drop-replicate, length-append, length-drop, length-replicate, length-set, drop-set-lt, take_min, take-replicate}
 use Rattle.std.proofs.Math.Seq.{take-append_seam, take-append-add, drop-append_seam, drop-drop}
 use Rattle.tpcc_rows.specs.Printable.{is_printable}
-use Rattle.tpcc_rows.specs.TextView.{IsText}
-use Rattle.tpcc_rows.specs.FewView.{IsFew}
+use Rattle.tpcc_rows.specs.Internal.TextView.{IsText}
+use Rattle.tpcc_rows.specs.Internal.FewView.{IsFew}
 use Rattle.tpcc_rows.specs.declared.text.Text.TheInside.{Inside}
 use Rattle.tpcc_rows.specs.declared.few.Few.TheInside as few
 use Rattle.tpcc_rows.proofs.PrintableTexts.{append_is_printable}

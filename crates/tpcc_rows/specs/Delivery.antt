@@ -12,6 +12,7 @@ use Rattle.tpcc_rows.specs.declared.replies.Delivery.TheVariants.{District, None
 use Rattle.tpcc_rows.specs.Lists.{updated, smallest, first_finding}
 use Rattle.tpcc_rows.specs.Ranges.{is_balance, is_count, is_carrier}
 use Rattle.tpcc_rows.specs.Tables.{Rows, State, is_order, is_new_order, is_line_of, is_customer, find_warehouse, order_at, customer_at, lines_of, new_orders_in}
+use Rattle.tpcc_rows.specs.declared.limits.TheConstants.{MOST_TICKETS}
 
 -- 2.7.4.2: the lowest NO_O_ID of the district, if there is one
 abbrev pub oldest_new_order : Rows → ℕ → ℕ → Option ℕ
@@ -82,7 +83,7 @@ abbrev pub queue_with : List QueuedTicket → Ticket → List QueuedTicket
 queue_with queue t = queue ++ record { ticket = t; next = 1 } ∷ []
 
 abbrev pub greatest_queue : ℕ
-greatest_queue = 1000
+greatest_queue = MOST_TICKETS
 
 unfoldable pub ticket_tests : Rows → List QueuedTicket → Ticket → List (Bool × Refusal)
 ticket_tests rows queue t =

@@ -1,7 +1,6 @@
 pub mod ChosenCustomer
 pub mod Conditions
 pub mod Delivery
-pub mod FewView
 pub mod LastName
 pub mod Layout
 pub mod Lists
@@ -16,8 +15,8 @@ pub mod RefusalOrder
 pub mod Replay
 pub mod SoundState
 pub mod Tables
-pub mod TextView
 pub mod Turn
 pub mod WellKeyed
 pub use Rattle.tpcc_money.specs.Amounts
 pub use Rattle.tpcc_money.specs.Texts
+pub mod Internal

@@ -6,7 +6,9 @@ use Rattle.tpcc_money.specs.Amounts.{total, line_amount, order_total}
 use Rattle.tpcc_rows.specs.declared.rows.OrderRow.{OrderRow}
 use Rattle.tpcc_rows.specs.declared.rows.OrderLineRow.{OrderLineRow}
 use Rattle.tpcc_rows.specs.declared.rows.NewOrderRow.{NewOrderRow}
+use Rattle.tpcc_rows.specs.declared.rows.WarehouseRow.{WarehouseRow}
 use Rattle.tpcc_rows.specs.declared.rows.DistrictRow.{DistrictRow}
+use Rattle.tpcc_rows.specs.declared.rows.CustomerRow.{CustomerRow}
 use Rattle.tpcc_rows.specs.declared.rows.ItemRow.{ItemRow}
 use Rattle.tpcc_rows.specs.declared.rows.StockRow.{StockRow}
 use Rattle.tpcc_rows.specs.declared.requests.Order.{Order}
@@ -59,11 +61,11 @@ stock_after home lines s = fold (stock_after_line home) s (lines_from s lines)
 abbrev pub district_information_of : StockRow → ℕ → List ℕ
 district_information_of s district = unwrap_or (slice_get s.district_information (district - 1)) []
 
--- 2.4.2.2: the ORDER and NEW-ORDER rows
-abbrev pub order_row : Rows → Order → OrderRow
-order_row rows order =
+-- 2.4.2.2: the ORDER row of the order with that number, and the NEW-ORDER row
+abbrev pub order_row_from : ℕ → Order → OrderRow
+order_row_from number order =
     record {
-      id = order_number rows order;
+      id = number;
       district = order.district;
       warehouse = order.warehouse;
       customer = order.customer;
@@ -72,6 +74,9 @@ order_row rows order =
       line_count = length order.lines;
       all_local = list_all (λ l. l.supply == order.warehouse) order.lines;
     }
+
+abbrev pub order_row : Rows → Order → OrderRow
+order_row rows order = order_row_from (order_number rows order) order
 
 abbrev pub new_order_row : Rows → Order → NewOrderRow
 new_order_row rows order = record { order = order_number rows order; district = order.district; warehouse = order.warehouse }
@@ -116,11 +121,9 @@ after_order rows order =
 abbrev pub brand_of : ItemRow → StockRow → Brand
 brand_of i s = if has_text (codes "ORIGINAL") i.information && has_text (codes "ORIGINAL") s.information then Original else Generic
 
--- 2.4.3.3: a line as the terminal shows it, with S_QUANTITY as it stands after that line
-abbrev pub entered_line : Rows → Order → ℕ → Line → EnteredLine
-entered_line rows order number l =
-    let i = item_at rows l.item in
-    let s = stock_at rows l.supply l.item in
+-- 2.4.3.3: the line with that number as the terminal shows it, of its ITEM and STOCK row, with S_QUANTITY as it stands after that line
+abbrev pub entered_line_from : Order → ℕ → Line → ItemRow → StockRow → EnteredLine
+entered_line_from order number l i s =
     record {
       number = number;
       supply = l.supply;
@@ -130,15 +133,15 @@ entered_line rows order number l =
       stock = (stock_after order.warehouse (take number order.lines) s).quantity;
       brand = brand_of i s;
       price = i.price;
-      amount = amount_of rows l;
+      amount = line_amount i.price l.quantity;
     }
 
--- 2.4.3.3: what the terminal shows of an order that was entered
-unfoldable pub accepted_order : Rows → Order → AcceptedOrder
-accepted_order rows order =
-    let w = warehouse_at rows order.warehouse in
-    let d = district_at rows order.warehouse order.district in
-    let c = customer_at rows order.warehouse order.district order.customer in
+abbrev pub entered_line : Rows → Order → ℕ → Line → EnteredLine
+entered_line rows order number l = entered_line_from order number l (item_at rows l.item) (stock_at rows l.supply l.item)
+
+-- 2.4.3.3: what the terminal shows of an order that was entered, of its three rows, its total and its lines as shown
+abbrev pub accepted_from : Order → WarehouseRow → DistrictRow → CustomerRow → ℤ → List EnteredLine → AcceptedOrder
+accepted_from order w d c due shown =
     record {
       warehouse = order.warehouse;
       district = order.district;
@@ -151,22 +154,26 @@ accepted_order rows order =
       warehouse_tax = w.tax;
       district_tax = d.tax;
       entry_date = order.moment;
-      total = order_total (total (amount_of rows) order.lines) c.discount w.tax d.tax;
-      lines = map (λ line. entered_line rows order line.0 line.1) (enumerate_from 1 order.lines);
+      total = due;
+      lines = shown;
     }
 
+unfoldable pub accepted_order : Rows → Order → AcceptedOrder
+accepted_order rows order =
+    let w = warehouse_at rows order.warehouse in
+    let d = district_at rows order.warehouse order.district in
+    let c = customer_at rows order.warehouse order.district order.customer in
+    let due = order_total (total (amount_of rows) order.lines) c.discount w.tax d.tax in
+    accepted_from order w d c due (map (λ line. entered_line rows order line.0 line.1) (enumerate_from 1 order.lines))
+
 -- 2.4.3.4: and of one that was rolled back
+abbrev pub rolled_back_from : Order → DistrictRow → CustomerRow → RolledBackOrder
+rolled_back_from order d c =
+    record { warehouse = order.warehouse; district = order.district; customer = order.customer; last = c.last; credit = c.credit; order = d.next_order }
+
 unfoldable pub rolled_back_order : Rows → Order → RolledBackOrder
 rolled_back_order rows order =
-    let c = customer_at rows order.warehouse order.district order.customer in
-    record {
-      warehouse = order.warehouse;
-      district = order.district;
-      customer = order.customer;
-      last = c.last;
-      credit = c.credit;
-      order = order_number rows order;
-    }
+    rolled_back_from order (district_at rows order.warehouse order.district) (customer_at rows order.warehouse order.district order.customer)
 
 abbrev pub rows_after_order : Rows → Order → Rows
 rows_after_order rows order = if is_rolled_back rows order then rows else after_order rows order

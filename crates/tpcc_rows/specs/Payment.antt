@@ -1,6 +1,6 @@
 -- 2.5: Payment.
 use Rattle.tpcc_rows.specs.declared.limits.TheConstants.{LEAST_PAYMENT, GREATEST_PAYMENT}
-use Rattle.std.specs.Prelude.{ℕ, ◌+◌, Bool, not, ◌||◌, List, [], ◌∷◌, ◌++◌, take, ◌+ℤ◌, ◌-ℤ◌, is_none, Option, Some, None, unwrap_or, if◌then◌else◌, codes, decimal}
+use Rattle.std.specs.Prelude.{ℕ, ◌+◌, Bool, not, ◌||◌, List, [], ◌∷◌, ◌++◌, take, ℤ, ◌+ℤ◌, ◌-ℤ◌, is_none, Option, Some, None, unwrap_or, if◌then◌else◌, codes, decimal}
 use Rattle.std.specs.Str.{bytes_eq}
 use Rattle.tpcc_money.specs.Texts.{amount_text}
 use Rattle.tpcc_rows.specs.declared.rows.WarehouseRow.{WarehouseRow}
@@ -48,8 +48,8 @@ paid_customer p c =
     }
 
 -- 2.5.2.2: H_DATA is W_NAME and D_NAME with four spaces between them
-abbrev pub payment_history : Rows → Payment → CustomerRow → HistoryRow
-payment_history rows p c =
+abbrev pub history_from : Payment → WarehouseRow → DistrictRow → CustomerRow → HistoryRow
+history_from p w d c =
     record {
       customer = c.id;
       customer_district = c.district;
@@ -58,8 +58,11 @@ payment_history rows p c =
       warehouse = p.warehouse;
       date = p.moment;
       amount = p.amount;
-      information = (warehouse_at rows p.warehouse).name ++ codes "    " ++ (district_at rows p.warehouse p.district).name;
+      information = w.name ++ codes "    " ++ d.name;
     }
+
+abbrev pub payment_history : Rows → Payment → CustomerRow → HistoryRow
+payment_history rows p c = history_from p (warehouse_at rows p.warehouse) (district_at rows p.warehouse p.district) c
 
 -- the payment's customer; each caller has seen that there is one
 abbrev pub paying_customer : Rows → Payment → CustomerRow
@@ -76,10 +79,9 @@ after_payment rows p =
       histories = rows.histories ++ payment_history rows p c ∷ [];
     }
 
--- 2.5.3.3: what the terminal shows, after the payment
-unfoldable pub payment_reply : Rows → Payment → Paid
-payment_reply rows p =
-    let c = paid_customer p (paying_customer rows p) in
+-- 2.5.3.3: what the terminal shows of the three rows after the payment, with that part of C_DATA
+abbrev pub reply_from : Payment → WarehouseRow → DistrictRow → CustomerRow → Option (List ℕ) → Paid
+reply_from p w d c information =
     record {
       warehouse = p.warehouse;
       district = p.district;
@@ -88,8 +90,8 @@ payment_reply rows p =
       customer = c.id;
       amount = p.amount;
       date = p.moment;
-      warehouse_address = (warehouse_at rows p.warehouse).address;
-      district_address = (district_at rows p.warehouse p.district).address;
+      warehouse_address = w.address;
+      district_address = d.address;
       first = c.first;
       middle = c.middle;
       last = c.last;
@@ -100,25 +102,33 @@ payment_reply rows p =
       credit_limit = c.credit_limit;
       discount = c.discount;
       balance = c.balance;
-      information = if has_bad_credit c then Some (take 200 c.information) else None;
+      information = information;
     }
+
+-- 2.5.3.3: of a customer with bad credit the first 200 bytes of C_DATA
+unfoldable pub payment_reply : Rows → Payment → Paid
+payment_reply rows p =
+    let c = paid_customer p (paying_customer rows p) in
+    reply_from p (warehouse_at rows p.warehouse) (district_at rows p.warehouse p.district) c (if has_bad_credit c then Some (take 200 c.information) else None)
+
+-- 2.5.1.3: the tests of the amount, and of what it makes of the three rows
+abbrev pub payment_range_tests : WarehouseRow → DistrictRow → CustomerRow → ℤ → List (Bool × Refusal)
+payment_range_tests w d c amount =
+    (not (is_amount_within LEAST_PAYMENT GREATEST_PAYMENT amount), Amount)
+    ∷ (not (is_count (c.payment_count + 1)), Count PaymentCount)
+    ∷ (not (is_total (w.ytd +ℤ amount)), Total WarehouseYtd)
+    ∷ (not (is_total (d.ytd +ℤ amount)), Total DistrictYtd)
+    ∷ (not (is_balance (c.balance -ℤ amount)), Total Balance)
+    ∷ (not (is_total (c.ytd_payment +ℤ amount)), Total YtdPayment)
+    ∷ []
 
 -- 2.5.1.2, 2.5.1.3: why a payment is refused: the first test that is true
 unfoldable pub payment_tests : Rows → Payment → List (Bool × Refusal)
 payment_tests rows p =
-    let w = paid_warehouse p (warehouse_at rows p.warehouse) in
-    let d = paid_district p (district_at rows p.warehouse p.district) in
-    let c = paid_customer p (paying_customer rows p) in
     (is_none (find_warehouse rows p.warehouse) || is_none (find_warehouse rows p.customer_warehouse), NoWarehouse)
     ∷ (is_none (find_district rows p.warehouse p.district) || is_none (find_district rows p.customer_warehouse p.customer_district), NoDistrict)
     ∷ (is_none (chosen_customer rows p.customer_warehouse p.customer_district p.who), NoCustomer)
-    ∷ (not (is_amount_within LEAST_PAYMENT GREATEST_PAYMENT p.amount), Amount)
-    ∷ (not (is_count c.payment_count), Count PaymentCount)
-    ∷ (not (is_total w.ytd), Total WarehouseYtd)
-    ∷ (not (is_total d.ytd), Total DistrictYtd)
-    ∷ (not (is_balance c.balance), Total Balance)
-    ∷ (not (is_total c.ytd_payment), Total YtdPayment)
-    ∷ []
+    ∷ payment_range_tests (warehouse_at rows p.warehouse) (district_at rows p.warehouse p.district) (paying_customer rows p) p.amount
 
 abbrev pub payment_refusal : Rows → Payment → Option Refusal
 payment_refusal rows p = first_finding (payment_tests rows p)

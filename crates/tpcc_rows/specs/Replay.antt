@@ -75,7 +75,3 @@ paid_by_entries journal = total (λ e. paid_by_request e.request) journal
 -- how far the sum of W_YTD has risen
 abbrev pub rise : Rows → Rows → ℤ
 rise opening rows = total (λ w. w.ytd) rows.warehouses -ℤ total (λ w. w.ytd) opening.warehouses
-
--- the purses split from one first purse with room for 10,000 are all there: their number and their rooms add up
-abbrev pub AreAllThere : List ℕ → Type 0
-AreAllThere rooms = length rooms + sum rooms ≡ 10001

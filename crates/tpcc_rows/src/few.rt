@@ -26,7 +26,7 @@ pub struct Few<T: Blank, const N: usize> {
 
 impl<T: Blank, const N: usize> Model for Few<T, N> {
     ghost use Rattle.std.specs.Prelude.{List};
-    ghost use Rattle.tpcc_rows.specs.FewView.{IsFew, used_values, fields_of, gives_back};
+    ghost use Rattle.tpcc_rows.specs.Internal.FewView.{IsFew, used_values, fields_of, gives_back};
 
     ghost Value = { List T };
 

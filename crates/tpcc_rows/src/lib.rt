@@ -6,7 +6,9 @@ mod entry;
 mod few;
 mod keys;
 pub mod limits;
+mod memory;
 mod numerals;
+mod recall;
 mod refusals;
 mod replies;
 mod requests;
@@ -19,6 +21,7 @@ pub use few::{Blank, Few};
 pub use keys::{
     CustomerKey, DistrictKey, ItemKey, NewOrderKey, OrderKey, OrderLineKey, StockKey, WarehouseKey,
 };
+pub use memory::NoMemory;
 pub use refusals::{Field, Refusal};
 pub use replies::{
     AcceptedOrder, Brand, Delivered, Delivery, DistrictDelivery, Entered, EnteredLine,
@@ -33,4 +36,3 @@ pub use rows::{
     StockRow, WarehouseRow,
 };
 pub use text::{Text, TextFault, are_plain};
-pub use tpcc_money::NoMemory;

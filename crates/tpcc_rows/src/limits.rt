@@ -36,5 +36,11 @@ pub const GREATEST_PAYMENT: i64 = 500_000;
 /// OL_AMOUNT and a row's H_AMOUNT, in cents: 9,999.99.
 pub const GREATEST_LINE_AMOUNT: i64 = 999_999;
 
+/// I_IM_ID.
+pub const GREATEST_IMAGE: u32 = 10_000;
+
+/// The tickets of Delivery requests that wait at most (2.7.2).
+pub const MOST_TICKETS: usize = 1_000;
+
 /// The greatest N of a `Text<N>` and of a `Few<T, N>`, whose lengths take 16 bits.
 pub const MOST_PLACES: usize = 65_535;

@@ -2,8 +2,8 @@
 ghost use Rattle.std.specs.Prelude.{◌≡◌};
 ghost use Rattle.tpcc_rows.specs.RefusalOrder.{refusal_number};
 
+use crate::memory::NoMemory;
 use thiserror::Error;
-use tpcc_money::NoMemory;
 
 /// A column that would leave its range: first the counts, each at most 999,999,999, then the totals.
 #[derive(Clone, Copy, Debug, PartialEq, Eq, Error)]

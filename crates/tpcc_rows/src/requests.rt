@@ -8,9 +8,11 @@ ghost use Rattle.tpcc_rows.specs.Replay.{paid_by_request};
 ghost use Rattle.std.specs.Cmp.Lexicographic.{pointwise, lists_equiv, lists_per};
 
 use crate::few::Blank;
+use crate::memory::NoMemory;
+use crate::recall;
 use crate::text::Text;
 use std::marker::Model;
-use tpcc_money::{Cents, Moment, NoMemory};
+use tpcc_money::{Cents, Moment};
 
 /// A customer by C_ID or by C_LAST (2.5.1.2, 2.6.1.2).
 #[derive(Clone, Copy, PartialEq, Eq)]
@@ -241,12 +243,12 @@ impl Request {
     pub fn moment_in_range(&self)
         ensures moment { has_moment_in_range self.now ≡ true }
     {
-        let _seconds = match self {
+        recall!(match self {
             Request::NewOrder(order) => order.moment.seconds(),
             Request::Payment(payment) => payment.moment.seconds(),
             Request::Delivery(ticket) => ticket.queued.seconds(),
             Request::Deliver(at) => at.seconds(),
             Request::Status(_) | Request::Stock(_) => 0,
-        };
+        });
     }
 }

@@ -34,7 +34,7 @@ pub struct Text<const N: usize> {
 
 impl<const N: usize> Model for Text<N> {
     ghost use Rattle.std.specs.Prelude.{ℕ, List};
-    ghost use Rattle.tpcc_rows.specs.TextView.{IsText, used_bytes, fields_of, gives_back};
+    ghost use Rattle.tpcc_rows.specs.Internal.TextView.{IsText, used_bytes, fields_of, gives_back};
 
     ghost Value = { List ℕ };
 

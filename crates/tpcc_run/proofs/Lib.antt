@@ -1,1 +1,9 @@
+mod RequestOutcome
+mod ComeBack
+mod Joined
+mod Kept
+mod StandAfter
+mod Started
+mod Turned
+mod Worked
 pub mod Reported

@@ -3,12 +3,12 @@ use Rattle.std.proofs.Common.{refl, ℕ, List, Option, Some, None, inl, inr}
 use Rattle.std.specs.Prelude.{Result, Ok, Err, OnErr}
 use Rattle.std.specs.Io.KnownBytes.{Appends}
 use Rattle.tpcc_population.specs.declared.opening.Opening.{Opening}
-use Rattle.tpcc_turns.specs.Past.{Past}
-use Rattle.tpcc_screens.specs.declared.report.Report.{Report}
-use Rattle.tpcc_asked.specs.declared.parts.Part.{Part}
-use Rattle.tpcc_asked.specs.declared.plan.Plan.{Plan}
+use Rattle.tpcc_book.specs.Past.{Past}
+use Rattle.tpcc_text.specs.declared.screens.report.Report.{Report}
+use Rattle.tpcc_show.specs.declared.parts.Part.{Part}
+use Rattle.tpcc_run.specs.declared.plan.Plan.{Plan}
 use Rattle.tpcc_show.specs.Shown.{book_report}
-use Rattle.tpcc_run.specs.Outcome.{HasCut, HasReported, HasShownPart, HasTotals}
+use Rattle.tpcc_run.specs.Outcome.{HasCut, HasReported, HasShownPrefix, HasTotals}
 
 -- the book's report is that of its totals
 pub report_of_totals : (opening : Opening) (plan : Plan) (book : Past) (report : Report) (before after : Option (List ℕ))
@@ -23,11 +23,11 @@ report_of_totals opening plan book report before after told written =
     }
 
 -- where nothing was written
-pub nothing_shown : (opening : Opening) (plan : Plan) (parts : List Part) (sink : Option (List ℕ)) → HasShownPart opening plan parts sink sink
+pub nothing_shown : (opening : Opening) (plan : Plan) (parts : List Part) (sink : Option (List ℕ)) → HasShownPrefix opening plan parts sink sink
 nothing_shown opening plan parts None = inr tt
 nothing_shown opening plan parts (Some bytes) = inr refl
 
 pub cut_shown : {X E : Type 0} (opening : Opening) (plan : Plan) (parts : List Part) (before after : Option (List ℕ)) (r : Result X E)
-    → OnErr r (HasCut opening plan parts before after) → OnErr r (HasShownPart opening plan parts before after)
+    → OnErr r (HasCut opening plan parts before after) → OnErr r (HasShownPrefix opening plan parts before after)
 cut_shown opening plan parts before after (Ok x) cut = tt
 cut_shown opening plan parts before after (Err e) cut = inl cut

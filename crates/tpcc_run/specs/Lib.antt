@@ -1,2 +1,8 @@
+pub mod Purses
+pub mod Plans
+pub mod Asking
+pub mod Posts
+pub mod Returned
+pub mod Working
 pub mod Outcome
-pub use Rattle.tpcc_threads.specs.declared.fault.RunFault
+pub mod Internal

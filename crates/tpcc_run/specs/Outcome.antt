@@ -4,19 +4,19 @@ use Rattle.std.specs.Io.KnownBytes.{Appends, Keeps}
 use Rattle.std.specs.declared.alloc.Global.{Global}
 use Rattle.tpcc_population.specs.declared.opening.Opening.{Opening}
 use Rattle.tpcc_population.specs.Opening.{opening_scale}
-use Rattle.tpcc_turns.specs.Past.{Past}
-use Rattle.tpcc_turns.specs.Purses.{all_parts, first_purse}
-use Rattle.tpcc_turns.specs.Serve.{rooms_of}
+use Rattle.tpcc_book.specs.Past.{Past}
+use Rattle.tpcc_book.specs.Purses.{all_parts, first_purse}
+use Rattle.tpcc_book.specs.Serve.{rooms_of}
 use Rattle.tpcc_turns.specs.Seats.{SeatedView, purses_of}
-use Rattle.tpcc_audit.specs.Receipt.{Receipt}
+use Rattle.tpcc_terminal.specs.declared.receipts.Receipt.{Receipt}
 use Rattle.tpcc_audit.specs.Settlement.{IsSettled, all_receipts}
-use Rattle.tpcc_screens.specs.declared.report.Report.{Report}
-use Rattle.tpcc_screens.specs.Report.{report_text}
-use Rattle.tpcc_blocks.specs.Part.{AppendsPart}
-use Rattle.tpcc_asked.specs.declared.parts.Part.{Part}
-use Rattle.tpcc_asked.specs.declared.plan.Plan.{Plan}
+use Rattle.tpcc_text.specs.declared.screens.report.Report.{Report}
+use Rattle.tpcc_text.specs.Report.{report_text}
+use Rattle.tpcc_text.specs.Prefix.{AppendsPrefix}
+use Rattle.tpcc_show.specs.declared.parts.Part.{Part}
+use Rattle.tpcc_run.specs.declared.plan.Plan.{Plan}
 use Rattle.tpcc_show.specs.Shown.{shown_text}
-use Rattle.tpcc_threads.specs.Returned.{HaveAllComeBack}
+use Rattle.tpcc_run.specs.Returned.{HaveAllComeBack}
 
 -- the first purse of a book of the opening, whose journal is empty
 abbrev pub opening_purse : Opening → SeatedView
@@ -50,7 +50,7 @@ pub record HasCut (opening : Opening) (plan : Plan) (parts : List Part) (before 
   pub book : Past
   pub report : Report
   pub told : HasTotals opening plan book report
-  pub part : AppendsPart before after (shown_text book parts)
+  pub part : AppendsPrefix before after (shown_text book parts)
 
-abbrev pub HasShownPart : Opening → Plan → List Part → Option (List ℕ) → Option (List ℕ) → Type 0
-HasShownPart opening plan parts before after = HasCut opening plan parts before after ⊎ Keeps before after
+abbrev pub HasShownPrefix : Opening → Plan → List Part → Option (List ℕ) → Option (List ℕ) → Type 0
+HasShownPrefix opening plan parts before after = HasCut opening plan parts before after ⊎ Keeps before after

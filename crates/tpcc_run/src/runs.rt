@@ -2,21 +2,25 @@
 ghost use Rattle.std.specs.Prelude.{◌≡◌, IfOk, OnErr};
 ghost use Rattle.tpcc_population.specs.Opening.{opening_scale};
 ghost use Rattle.tpcc_population.specs.declared.opening.Opening.{Opening};
-ghost use Rattle.tpcc_run.specs.Outcome.{HasReported, HasShown, HasShownPart, HasTotals};
-ghost use Rattle.tpcc_asked.specs.Plans.{IsPlan};
+ghost use Rattle.tpcc_run.specs.Outcome.{HasReported, HasShown, HasShownPrefix, HasTotals};
+ghost use Rattle.tpcc_run.specs.Plans.{IsPlan};
 
-use crate::lent::Lent;
+use crate::plan::Plan;
+use crate::run_context::RunContext;
 use crate::settled_book::{SettledBook, end_run, show_settled};
+use crate::threads::RunThreads;
+use crate::threads::fault::RunFault;
 use std::alloc::{AllocError, Global};
 use std::io::Write;
 use std::marker::{Brand, PhantomData};
 use std::sync::Wait;
 use std::thread::Threads;
-use tpcc_asked::{Part, Plan};
+use tpcc_book::{Blanks, Naming};
 use tpcc_population::{Opening, Scale};
-use tpcc_screens::Report;
-use tpcc_threads::{OneTurn, RunFault, RunThreads};
-use tpcc_turns::{Blanks, Naming, Seating, UnnamedTurns};
+use tpcc_server::OneTurn;
+use tpcc_show::Part;
+use tpcc_text::Report;
+use tpcc_turns::{Seating, UnnamedTurns};
 
 /// Runs terminals, a delivery runner and the plan's servers on the book of an opening, each in a thread of its own;
 /// `make` gives the call of each request. Where the plan has no servers each thread makes its own turns. Once all
@@ -65,9 +69,9 @@ pub fn run_shown<
     ensures shown { IfOk result (λ report.
         HasShown opening.now plan.now parts.now report (W.contents out.old) (W.contents out.new)) }
     ensures part { OnErr result
-        (HasShownPart opening.now plan.now parts.now (W.contents out.old) (W.contents out.new)) }
+        (HasShownPrefix opening.now plan.now parts.now (W.contents out.old) (W.contents out.new)) }
 {
-    let lent = Lent {
+    let lent = RunContext {
         rt,
         alloc,
         make: &make,
@@ -81,7 +85,7 @@ impl<
     C: OneTurn + Send,
     F: Fn(Global) -> Result<C, AllocError> + Sync,
     R: Threads + Wait + Sync,
-> Lent<'r, F, R> {
+> RunContext<'r, F, R> {
     // Runs with a name for the book, and writes parts of what it comes to.
     #[tactic(auto, using(crate::proofs::Reported::nothing_shown, crate::proofs::Reported::cut_shown))]
     fn run_named<N: Naming + Send + Sync, W: Write>(
@@ -98,7 +102,7 @@ impl<
             HasShown opening.now self.now.plan parts.now report
             (W.contents out.old) (W.contents out.new)) }
         ensures part { OnErr result
-            (HasShownPart opening.now self.now.plan parts.now
+            (HasShownPrefix opening.now self.now.plan parts.now
             (W.contents out.old) (W.contents out.new)) }
     {
         let settled = self.settle_book::<N>(opening, blanks)?;

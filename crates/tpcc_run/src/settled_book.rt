@@ -3,20 +3,23 @@ ghost use Rattle.std.specs.Prelude.{◌≡◌, IfErr, IfOk, IsErrOf, None, OnErr
 ghost use Rattle.tpcc_population.specs.Opening.{opening_scale};
 ghost use Rattle.tpcc_audit.specs.Settlement.{AllSeen, all_receipts};
 ghost use Rattle.tpcc_run.specs.Outcome.{HasCut, HasShown, HasTotals, opening_purse};
-ghost use Rattle.tpcc_threads.specs.Returned.{HaveAllComeBack};
-ghost use Rattle.tpcc_threads.specs.declared.fault.RunFault.{RunFault};
-ghost use Rattle.tpcc_threads.specs.declared.fault.RunFault.TheVariants.{Missing};
+ghost use Rattle.tpcc_run.specs.Returned.{HaveAllComeBack};
+ghost use Rattle.tpcc_run.specs.declared.threads.fault.RunFault.{RunFault};
+ghost use Rattle.tpcc_run.specs.declared.threads.fault.RunFault.TheVariants.{Missing};
 
+use crate::plan::Plan;
+use crate::threads::fault::RunFault;
+use crate::threads::results::ThreadResults;
 use std::alloc::Global;
 use std::io::Write;
-use tpcc_asked::Plan;
-use tpcc_audit::{Receipt, settle_terminals};
-use tpcc_dump::DumpFault;
+use tpcc_audit::settle;
+use tpcc_book::{Book, Naming};
 use tpcc_population::Opening;
-use tpcc_screens::Report;
-use tpcc_show::{Part, show};
-use tpcc_threads::{RunFault, ThreadResults};
-use tpcc_turns::{Book, Naming, SeatedPurse, Seating, Turns};
+use tpcc_rows::recall;
+use tpcc_show::{OutputFault, Part, show};
+use tpcc_terminal::Receipt;
+use tpcc_text::Report;
+use tpcc_turns::{SeatedPurse, Seating, Turns};
 
 /// The book of a run at its end, and what it comes to.
 pub(crate) struct SettledBook<N: Naming> {
@@ -69,8 +72,10 @@ fn totals_of<N: Naming, T: Seating>(
     ensures settled { IfOk result (λ s. HasTotals turns plan.now s.book s.report) }
     ensures missing { IfErr result (λ fault. fault ≡ Missing) }
 {
-    let _ = plan;
-    match settle_terminals(turns, purses, receipts) {
+    // For the proof: whose purses and receipts these are.
+    recall!(receipts);
+    recall!(plan);
+    match settle(turns, purses) {
         Ok((book, report)) => Ok(SettledBook { book, report }),
         Err(_left) => Err(RunFault::Missing),
     }
@@ -91,12 +96,13 @@ pub(crate) fn show_settled<N: Naming, W: Write>(
     ensures part { OnErr result
         (HasCut opening.now plan.now parts.now (W.contents out.old) (W.contents out.new)) }
 {
-    let _ = opening;
-    let _ = plan;
+    // For the proof: whose totals these are.
+    recall!(opening);
+    recall!(plan);
     let report = settled.report;
     match show(alloc, &settled.book, parts, out) {
         Ok(()) => Ok(report),
-        Err(DumpFault::Write) => Err(RunFault::Write),
-        Err(DumpFault::NoMemory) => Err(RunFault::NoMemory),
+        Err(OutputFault::Write) => Err(RunFault::Write),
+        Err(OutputFault::NoMemory) => Err(RunFault::NoMemory),
     }
 }

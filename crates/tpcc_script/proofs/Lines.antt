@@ -6,15 +6,17 @@ use Rattle.std.proofs.lemmas.Grind.{common_steps}
 use Rattle.std.proofs.lemmas.Option.{none-some}
 use Rattle.std.proofs.lemmas.Bool.{lt-ltb, le-ltb}
 use Rattle.std.specs.Prelude.{Ok}
-use Rattle.tpcc_parse.specs.declared.limits.TheConstants.{LONGEST_LINE, MOST_LINES}
-use Rattle.tpcc_parse.specs.declared.call.Call.{Call}
-use Rattle.tpcc_parse.specs.declared.fault.ScriptFault.{ScriptFault}
-use Rattle.tpcc_parse.specs.declared.fault.ScriptFault.TheVariants.{Bad, Cut, LongLine, TooManyLines, Read, Write, NoMemory}
+use Rattle.tpcc_text.specs.declared.script.limits.TheConstants.{LONGEST_LINE, MOST_LINES}
+use Rattle.tpcc_text.specs.declared.script.call.Call.{Call}
+use Rattle.tpcc_text.specs.declared.script.fault.ScriptFault.{ScriptFault}
+use Rattle.tpcc_text.specs.declared.script.fault.ScriptFault.TheVariants.{Bad, Cut, LongLine, TooManyLines, Read, Write, NoMemory}
 use Rattle.tpcc_script.specs.ScriptBook.{ScriptBook}
 use Rattle.tpcc_script.specs.Run.{Shows, HasServed}
-use Rattle.tpcc_parse.specs.Script.{parts_of, with_byte, lines_say, rest_says, then_says, call_of, ends, fails}
-use Rattle.tpcc_script.specs.Steps.{says, IsLine, IsRead, IsLineServed, IsStopped, IsFault}
+use Rattle.tpcc_text.specs.Script.{parts_of, with_byte, lines_say, rest_says, then_says, call_of, ends, fails}
+use Rattle.tpcc_script.specs.Internal.Steps.{says, IsLine, IsRead, IsLineServed, IsStopped, IsFault, IsStillBroken, IsLineBroken}
 use Rattle.std.specs.Io.KnownBytes.{Appends}
+use Rattle.tpcc_text.specs.Prefix.{AppendsPrefix}
+use Rattle.tpcc_text.proofs.BlockSteps.{part_of_more}
 
 -- bytes put before the first part
 abbrev pub onto_all : List ℕ → List (List ℕ) → List (List ℕ)
@@ -188,3 +190,16 @@ stopped_line number bytes old new left held now waits TooManyLines stopped added
 stopped_line number bytes old new left held now waits Read stopped added = record { stopped = stopped; added = added }
 stopped_line number bytes old new left held now waits NoMemory stopped added = record { stopped = stopped; added = added }
 stopped_line number bytes old new left held now waits Write stopped added = absurd stopped
+
+-- no screen is given, and the sink was given up at what waited
+pub broken_line : (number : ℕ) (bytes : List ℕ) (old new : ScriptBook) (left held now : Option (List ℕ)) (waits : List ℕ) (fault : ScriptFault)
+    → IsStopped number bytes old new left fault → AppendsPrefix held now waits → IsStillBroken old new held now waits ⊎ IsLineBroken number bytes old new left held now waits
+broken_line number bytes old new left held now waits (Bad n) stopped part = inl (record { book = stopped.book; part = part })
+broken_line number bytes old new left held now waits (Cut n) stopped part = inl (record { book = stopped.book; part = part })
+broken_line number bytes old new left held now waits (LongLine n) stopped part = inl (record { book = stopped.book; part = part })
+broken_line number bytes old new left held now waits TooManyLines stopped part = inl (record { book = stopped.book; part = part })
+broken_line number bytes old new left held now waits Read stopped part = inl (record { book = stopped; part = part })
+broken_line number bytes old new left held now waits NoMemory (inl same) part = inl (record { book = same; part = part })
+broken_line number bytes old new left held now waits NoMemory (inr line) part =
+    inr (record { screen = line.screen; served = line.served; part = part_of_more held now waits line.screen part })
+broken_line number bytes old new left held now waits Write stopped part = absurd stopped

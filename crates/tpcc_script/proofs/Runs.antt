@@ -2,15 +2,15 @@
 use Rattle.std.proofs.Common.{◌≡◌, ◌∙◌, sym, refl, ap, ℕ, ◌+◌, List, [], ◌∷◌, ◌++◌, append_assoc, append-nil, Bool, true, false, Option, Some, None, inl, inr}
 use Rattle.std.specs.Prelude.{◌⊎◌, Ok, Err}
 use Rattle.std.specs.Io.KnownBytes.{Appends}
-use Rattle.tpcc_parse.specs.declared.call.Call.{Call}
-use Rattle.tpcc_parse.specs.declared.fault.ScriptFault.{ScriptFault}
-use Rattle.tpcc_parse.specs.declared.fault.ScriptFault.TheVariants.{Bad, Cut, LongLine, TooManyLines, Read, Write, NoMemory}
-use Rattle.tpcc_parse.specs.Script.{Script, script_of, with_call, ends, fails}
+use Rattle.tpcc_text.specs.declared.script.call.Call.{Call}
+use Rattle.tpcc_text.specs.declared.script.fault.ScriptFault.{ScriptFault}
+use Rattle.tpcc_text.specs.declared.script.fault.ScriptFault.TheVariants.{Bad, Cut, LongLine, TooManyLines, Read, Write, NoMemory}
+use Rattle.tpcc_text.specs.Script.{Script, script_of, with_call, ends, fails}
 use Rattle.tpcc_script.specs.ScriptBook.{ScriptBook}
-use Rattle.tpcc_script.specs.Run.{Shows, Prints, Wrote, WroteFirst, WroteButLast, IsRun, HasRun}
-use Rattle.tpcc_script.specs.Steps.{says, IsLineServed, IsLineUnshown, IsEnd, IsStep, IsStillBroken, IsLineBroken}
-use Rattle.tpcc_blocks.specs.Part.{PassesBytes}
-use Rattle.tpcc_blocks.proofs.Parts.{all_wait, passes-on, passes-all, passes-part, passes-some}
+use Rattle.tpcc_script.specs.Run.{Shows, Prints, Wrote, WroteFirst, WroteButLast, IsRun, IsCounted, HasRun}
+use Rattle.tpcc_script.specs.Internal.Steps.{says, IsLineServed, IsLineUnshown, IsEnd, IsStep, IsStillBroken, IsLineBroken}
+use Rattle.tpcc_text.specs.Prefix.{PassesBytes}
+use Rattle.tpcc_text.proofs.BlockSteps.{all_wait, passes-on, passes-all, passes-part, passes-some}
 
 abbrev pub with_calls : List Call → Script → Script
 with_calls [] script = script
@@ -210,3 +210,7 @@ not_begun start script (Some held) =
 
 pub not_started : (start : ScriptBook) (script : Script) (sink : Option (List ℕ)) → HasRun start script sink sink (Err NoMemory)
 not_started start script sink = (start, not_begun start script sink)
+
+-- a run that tells its entries fails as one that doesn't
+pub counted_fault : (start : ScriptBook) (script : Script) (old new : Option (List ℕ)) (left : ScriptBook) (fault : ScriptFault) → IsRun start script old new left (Err fault) → IsCounted start script old new left (Err fault)
+counted_fault start script old new left fault run = run

@@ -15,8 +15,8 @@ use Rattle.tpcc_book.specs.Purses.{PurseView}
 use Rattle.tpcc_book.specs.AnswerView.{AnswerView}
 use Rattle.tpcc_book.specs.Serve.{IsServed}
 use Rattle.tpcc_script.specs.ScriptBook.{terminal}
-use Rattle.tpcc_parse.specs.declared.fault.ScriptFault.{ScriptFault}
-use Rattle.tpcc_parse.specs.Script.{Script}
+use Rattle.tpcc_text.specs.declared.script.fault.ScriptFault.{ScriptFault}
+use Rattle.tpcc_text.specs.Script.{Script}
 use Rattle.tpcc_script.specs.Run.{HasRun, IsCounted}
 use Rattle.tpcc_script.specs.Session.{IsAtHand, opened_book, book_of}
 

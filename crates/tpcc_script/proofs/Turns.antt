@@ -14,8 +14,8 @@ use Rattle.tpcc_book.specs.Purses.{PurseView}
 use Rattle.tpcc_book.specs.Serve.{IsServed}
 use Rattle.tpcc_book.specs.AnswerView.{AnswerView}
 use Rattle.tpcc_book.specs.Turn.{after, turn_refusal}
-use Rattle.tpcc_screens.specs.Screens.{answer_screen, reply_screen, refused_screen, check_screen, results_screen}
-use Rattle.tpcc_parse.specs.declared.call.Call.TheVariants.{Ask, Check, Results}
+use Rattle.tpcc_text.specs.Screens.{answer_screen, reply_screen, refused_screen, check_screen, results_screen}
+use Rattle.tpcc_text.specs.declared.script.call.Call.TheVariants.{Ask, Check, Results}
 use Rattle.tpcc_script.specs.ScriptBook.{ScriptBook, terminal, screen_of, book_after, screen_by, book_by, book_with_entry, request_refusal}
 use Rattle.tpcc_script.specs.Run.{HasServed, Shows}
 use Rattle.tpcc_script.specs.Session.{IsAtHand, book_of}

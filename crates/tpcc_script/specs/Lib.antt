@@ -1,5 +1,5 @@
 pub mod ScriptBook
 pub mod Run
-pub mod Steps
-pub mod Attempts
 pub mod Session
+pub mod ShownScript
+pub mod Internal

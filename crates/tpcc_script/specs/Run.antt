@@ -2,12 +2,12 @@
 use Rattle.std.specs.Prelude.{◌≡◌, ◌⊎◌, ℕ, ◌≤◌, Bool, true, false, List, [], ◌∷◌, ◌++◌, length, take, Option, Some, None, Result, Ok, Err}
 use Rattle.std.specs.Io.KnownBytes.{Appends}
 use Rattle.tpcc_rows.specs.declared.refusals.Refusal.TheVariants as refused
-use Rattle.tpcc_screens.specs.Screens.{refused_screen}
-use Rattle.tpcc_parse.specs.declared.call.Call.{Call}
-use Rattle.tpcc_parse.specs.declared.call.Call.TheVariants.{Ask, Check, Results}
-use Rattle.tpcc_parse.specs.declared.fault.ScriptFault.{ScriptFault}
-use Rattle.tpcc_parse.specs.declared.fault.ScriptFault.TheVariants.{Bad, Cut, LongLine, TooManyLines, Read, Write, NoMemory}
-use Rattle.tpcc_parse.specs.Script.{Script}
+use Rattle.tpcc_text.specs.Screens.{refused_screen}
+use Rattle.tpcc_text.specs.declared.script.call.Call.{Call}
+use Rattle.tpcc_text.specs.declared.script.call.Call.TheVariants.{Ask, Check, Results}
+use Rattle.tpcc_text.specs.declared.script.fault.ScriptFault.{ScriptFault}
+use Rattle.tpcc_text.specs.declared.script.fault.ScriptFault.TheVariants.{Bad, Cut, LongLine, TooManyLines, Read, Write, NoMemory}
+use Rattle.tpcc_text.specs.Script.{Script}
 use Rattle.tpcc_script.specs.ScriptBook.{ScriptBook, screen_of, book_after, call_refusal}
 
 -- the call's screen, and the book after it
@@ -46,7 +46,7 @@ pub record Wrote (start : ScriptBook) (calls : List Call) (old new : Option (Lis
   pub prints : Prints start calls text left
   pub added : Appends old new text
 
-pub record WrotePart (start : ScriptBook) (calls : List Call) (old new : Option (List ℕ)) (left : ScriptBook) : Type 0 where
+pub record WrotePrefix (start : ScriptBook) (calls : List Call) (old new : Option (List ℕ)) (left : ScriptBook) : Type 0 where
   pub text : List ℕ
   pub prints : Prints start calls text left
   pub count : ℕ
@@ -60,11 +60,11 @@ pub record WroteFirst (start : ScriptBook) (calls : List Call) (old new : Option
   pub calls_are : calls ≡ done ++ rest
   pub wrote : Wrote start done old new left
 
-pub record WrotePartOfFirst (start : ScriptBook) (calls : List Call) (old new : Option (List ℕ)) (left : ScriptBook) : Type 0 where
+pub record WrotePrefixOfFirst (start : ScriptBook) (calls : List Call) (old new : Option (List ℕ)) (left : ScriptBook) : Type 0 where
   pub done : List Call
   pub rest : List Call
   pub calls_are : calls ≡ done ++ rest
-  pub wrote : WrotePart start done old new left
+  pub wrote : WrotePrefix start done old new left
 
 -- some first calls, and one more that was served and has no screen
 pub record WroteButLast (start : ScriptBook) (calls : List Call) (old new : Option (List ℕ)) (left : ScriptBook) : Type 0 where
@@ -88,7 +88,7 @@ IsRun start script old new left (Err (LongLine n)) = (script.fault ≡ Some (Lon
 IsRun start script old new left (Err TooManyLines) = (script.fault ≡ Some TooManyLines) × Wrote start script.calls old new left
 IsRun start script old new left (Err Read) = WroteFirst start script.calls old new left
 IsRun start script old new left (Err NoMemory) = WroteFirst start script.calls old new left ⊎ WroteButLast start script.calls old new left
-IsRun start script old new left (Err Write) = WrotePartOfFirst start script.calls old new left
+IsRun start script old new left (Err Write) = WrotePrefixOfFirst start script.calls old new left
 
 -- the same of a run that tells how many entries the book has, where it comes to its end
 abbrev pub IsCounted : ScriptBook → Script → Option (List ℕ) → Option (List ℕ) → ScriptBook → Result ℕ ScriptFault → Type 0

@@ -9,9 +9,9 @@ use Rattle.tpcc_rows.specs.Tables.{State}
 use Rattle.tpcc_rows.specs.Turn.{state_after, reply_to}
 use Rattle.tpcc_book.specs.Turn.{turn_refusal}
 use Rattle.tpcc_rows.specs.Replay.{count_of, results_of}
-use Rattle.tpcc_screens.specs.Screens.{reply_screen, refused_screen, check_screen, results_screen}
-use Rattle.tpcc_parse.specs.declared.call.Call.{Call}
-use Rattle.tpcc_parse.specs.declared.call.Call.TheVariants.{Ask, Check, Results}
+use Rattle.tpcc_text.specs.Screens.{reply_screen, refused_screen, check_screen, results_screen}
+use Rattle.tpcc_text.specs.declared.script.call.Call.{Call}
+use Rattle.tpcc_text.specs.declared.script.call.Call.TheVariants.{Ask, Check, Results}
 
 -- the opening, the state and the journal that led from the one to the other
 pub record ScriptBook : Type 0 where

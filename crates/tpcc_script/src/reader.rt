@@ -1,13 +1,13 @@
 //! Lines of a script, read byte by byte.
 ghost use Rattle.std.specs.Prelude.{◌≡◌, ◌≢◌, ◌≤◌, ℕ, List, Some, true, IfOk, IfSome, IfErr};
-ghost use Rattle.tpcc_script.specs.Attempts.{HasGivenUp, TakesByte};
-ghost use Rattle.tpcc_script.specs.Steps.{IsRead};
-ghost use Rattle.tpcc_parse.specs.declared.limits.TheConstants.{MOST_LINES};
+ghost use Rattle.tpcc_script.specs.Internal.Attempts.{HasGivenUp, TakesByte};
+ghost use Rattle.tpcc_script.specs.Internal.Steps.{IsRead};
+ghost use Rattle.tpcc_text.specs.declared.script.limits.TheConstants.{MOST_LINES};
 
 use crate::watch::{Attempt, Watch, try_byte};
 use std::alloc::Global;
 use std::io::Read;
-use tpcc_parse::{LONGEST_LINE, MOST_LINES, ScriptFault};
+use tpcc_text::{LONGEST_LINE, MOST_LINES, ScriptFault};
 
 /// The next line, whose number is given, without its line feed; none at the end.
 ///
@@ -54,7 +54,7 @@ pub fn next_byte<R: Read>(input: &mut R, watch: &mut Watch) -> Result<Option<u8>
     ensures gave_up { IfErr result
         (λ f. (f ≡ ScriptFault.Read) × (watch.new.reader_failed ≡ true)) }
 {
-    'turns: loop {
+    'reads: loop {
         match try_byte(input, watch) {
             Ok(Attempt::Done(byte)) => return Ok(byte),
             Ok(Attempt::Again) => {}

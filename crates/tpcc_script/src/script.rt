@@ -1,27 +1,24 @@
 //! A script from its first line to its end.
 ghost use Rattle.std.specs.Prelude.{◌≡◌, ◌≢◌, ◌≤◌, ◌++◌, ℕ, true, List, Some, IfErr, IfOk, IfSome, OnErr, OnOk};
 ghost use Rattle.std.specs.Io.Buffered.{reader_remaining};
-ghost use Rattle.tpcc_parse.specs.declared.limits.TheConstants.{MOST_LINES};
-ghost use Rattle.tpcc_script.specs.Attempts.{HasGivenUp};
-ghost use Rattle.tpcc_parse.specs.Script.{script_of};
-ghost use Rattle.tpcc_script.specs.Run.{HasRun, IsCounted, IsRun};
-ghost use Rattle.tpcc_script.specs.Steps.{IsAnswered, IsStep};
-ghost use Rattle.tpcc_blocks.specs.Part.{AppendsPart, PassesBytes};
+ghost use Rattle.tpcc_text.specs.declared.script.limits.TheConstants.{MOST_LINES};
+ghost use Rattle.tpcc_script.specs.Internal.Attempts.{HasGivenUp};
+ghost use Rattle.tpcc_text.specs.Script.{script_of};
+ghost use Rattle.tpcc_script.specs.Run.{HasRun, IsCounted};
+ghost use Rattle.tpcc_script.specs.Internal.Steps.{IsAnswered, IsStep};
+ghost use Rattle.tpcc_text.specs.Prefix.{AppendsPrefix, PassesBytes};
 ghost use Rattle.tpcc_script.specs.Session.{opened_book, book_of};
 
-use crate::answering::answer;
-use crate::engine::Engine;
 use crate::reader::read_line;
+use crate::screen_buffer::ScreenBuffer;
 use crate::session::Session;
-use crate::waiting_screens::WaitingScreens;
 use crate::watch::Watch;
 use std::alloc::Global;
 use std::io::{BufReader, Read, Write};
 use std::marker::Brand;
 use tpcc_book::{Blanks, Naming};
-use tpcc_parse::{ScriptFault, parse_line};
 use tpcc_population::Opening;
-use tpcc_screens::Screen;
+use tpcc_text::{Screen, ScriptFault, parse_line};
 
 /// Runs a script on a fresh book: each request by a purse of terminal 1, through the book. It is read ahead in blocks,
 /// and its screens are written in blocks: those of all whole lines that were read are written, and the writer is
@@ -41,28 +38,25 @@ pub fn run_script<R: Read, W: Write>(
         → HasRun (opened_book opening.now) (script_of bytes) (W.contents out.old)
         (W.contents out.new) result }
 {
-    let mut watch = Watch::new();
-    run_named::<Brand, R, W>(alloc, input, out, &mut watch, opening, Blanks::new())
+    run_named::<Brand, R, W>(alloc, input, out, opening, Blanks::new())
 }
 
-// The same with a name for the book.
+// Names the book, by its type.
 fn run_named<N: Naming, R: Read, W: Write>(
     alloc: Global,
     input: &mut R,
     out: &mut W,
-    watch: &mut Watch,
     opening: &Opening,
     blanks: Blanks,
 ) -> Result<usize, ScriptFault>
     requires entries { blanks.entries.name ≡ N.entries }
     requires cents { blanks.cents.name ≡ N.cents }
-    ensures gave_up { IfErr result (HasGivenUp watch.new) }
     ensures run { (bytes : List ℕ) → R.remaining input.old ≡ Some bytes
         → HasRun (opened_book opening.now) (script_of bytes) (W.contents out.old)
         (W.contents out.new) result }
 {
     match Session::<N>::start(alloc, opening, blanks) {
-        Ok(mut session) => serve_session(alloc, &mut session, input, out, watch),
+        Ok(mut session) => session.run(alloc, input, out),
         Err(_) => Err(ScriptFault::NoMemory),
     }
 }
@@ -80,79 +74,42 @@ impl<N: Naming> Session<N> {
             → IsCounted (book_of self.old) (script_of bytes)
             (W.contents out.old) (W.contents out.new) (book_of self.new) result }
     {
-        let mut watch = Watch::new();
-        serve_session(alloc, self, input, out, &mut watch)
+        let Ok(mut ahead) = BufReader::new(alloc, input) else {
+            return Err(ScriptFault::NoMemory);
+        };
+        serve_lines(alloc, self, &mut ahead, out)
     }
 }
 
-// Reads a script and serves its lines on a session; answers how many entries it then has.
-fn serve_session<N: Naming, R: Read, W: Write>(
+// Serves all lines of a script, and answers how many entries the book then has.
+fn serve_lines<N: Naming, R: Read, W: Write>(
     alloc: Global,
     session: &mut Session<N>,
-    input: &mut R,
+    ahead: &mut BufReader<R>,
     out: &mut W,
-    watch: &mut Watch,
 ) -> Result<usize, ScriptFault>
-    ensures gave_up { IfErr result (HasGivenUp watch.new) }
-    ensures counted { (bytes : List ℕ) → R.remaining input.old ≡ Some bytes
+    ensures counted { (bytes : List ℕ) → reader_remaining R.remaining ahead.old ≡ Some bytes
         → IsCounted (book_of session.old) (script_of bytes)
         (W.contents out.old) (W.contents out.new) (book_of session.new) result }
 {
-    match serve_script(alloc, session, input, out, watch) {
-        Ok(()) => Ok(session.entries()),
-        Err(fault) => Err(fault),
-    }
-}
-
-// Reads a script, serves its lines and writes their screens.
-fn serve_script<E: Engine, R: Read, W: Write>(
-    alloc: Global,
-    engine: &mut E,
-    input: &mut R,
-    out: &mut W,
-    watch: &mut Watch,
-) -> Result<(), ScriptFault>
-    ensures gave_up { IfErr result (HasGivenUp watch.new) }
-    ensures run { (bytes : List ℕ) → R.remaining input.old ≡ Some bytes
-        → IsRun (E.book engine.old) (script_of bytes) (W.contents out.old) (W.contents out.new)
-        (E.book engine.new) result }
-{
-    let Ok(mut ahead) = BufReader::new(alloc, input) else {
-        return Err(ScriptFault::NoMemory);
-    };
-    serve_lines(alloc, engine, &mut ahead, out, watch)
-}
-
-// Serves all lines of a script.
-fn serve_lines<E: Engine, R: Read, W: Write>(
-    alloc: Global,
-    engine: &mut E,
-    ahead: &mut BufReader<R>,
-    out: &mut W,
-    watch: &mut Watch,
-) -> Result<(), ScriptFault>
-    ensures gave_up { IfErr result (HasGivenUp watch.new) }
-    ensures run { (bytes : List ℕ) → reader_remaining R.remaining ahead.old ≡ Some bytes
-        → IsRun (E.book engine.old) (script_of bytes) (W.contents out.old) (W.contents out.new)
-        (E.book engine.new) result }
-{
-    let mut waiting = WaitingScreens::new(alloc);
+    let mut waiting = ScreenBuffer::new(alloc);
+    let mut watch = Watch::new();
     let mut number = 1u32;
     'lines: loop {
-        match show_line(alloc, engine, ahead, &mut waiting, out, watch, number) {
+        match show_line(alloc, session, ahead, &mut waiting, out, &mut watch, number) {
             Ok(true) => number += 1,
-            Ok(false) => return Ok(()),
+            Ok(false) => return Ok(session.entries()),
             Err(fault) => return Err(fault),
         }
     }
 }
 
 // Serves one line and shows its screen; false at the end. At the end and at a fault all that waited is written.
-fn show_line<E: Engine, R: Read, W: Write>(
+fn show_line<N: Naming, R: Read, W: Write>(
     alloc: Global,
-    engine: &mut E,
+    session: &mut Session<N>,
     ahead: &mut BufReader<R>,
-    waiting: &mut WaitingScreens,
+    waiting: &mut ScreenBuffer,
     out: &mut W,
     watch: &mut Watch,
     number: u32,
@@ -160,11 +117,11 @@ fn show_line<E: Engine, R: Read, W: Write>(
     ensures within { IfOk result (λ more. more ≡ true → number ≤ MOST_LINES) }
     ensures gave_up { IfErr result (HasGivenUp watch.new) }
     ensures step { (bytes : List ℕ) → reader_remaining R.remaining ahead.old ≡ Some bytes
-        → IsStep number bytes (E.book engine.old) (E.book engine.new)
+        → IsStep number bytes (book_of session.old) (book_of session.new)
         (reader_remaining R.remaining ahead.new)
         (W.contents out.old) (W.contents out.new) waiting.old waiting.new result }
 {
-    match serve_line(alloc, engine, ahead, watch, number) {
+    match serve_line(alloc, session, ahead, watch, number) {
         Ok(Some(screen)) => {
             show_screen(ahead, waiting, out, watch, screen.bytes())?;
             Ok(true)
@@ -184,14 +141,14 @@ fn show_line<E: Engine, R: Read, W: Write>(
 // all that waits.
 fn show_screen<R: Read, W: Write>(
     ahead: &BufReader<R>,
-    waiting: &mut WaitingScreens,
+    waiting: &mut ScreenBuffer,
     out: &mut W,
     watch: &mut Watch,
     screen: &[u8],
 ) -> Result<(), ScriptFault>
     ensures ok { OnOk result (PassesBytes (W.contents out.old) (W.contents out.new)
         (waiting.old ++ screen.now) waiting.new) }
-    ensures err { OnErr result (AppendsPart (W.contents out.old) (W.contents out.new)
+    ensures err { OnErr result (AppendsPrefix (W.contents out.old) (W.contents out.new)
         (waiting.old ++ screen.now)) }
     ensures gave_up { IfErr result
         (λ f. (f ≡ ScriptFault.Write) × (watch.new.writer_failed ≡ true)) }
@@ -204,9 +161,9 @@ fn show_screen<R: Read, W: Write>(
 }
 
 // Serves one line and gives its screen; none at the end.
-fn serve_line<E: Engine, R: Read>(
+fn serve_line<N: Naming, R: Read>(
     alloc: Global,
-    engine: &mut E,
+    session: &mut Session<N>,
     input: &mut R,
     watch: &mut Watch,
     number: u32,
@@ -214,7 +171,7 @@ fn serve_line<E: Engine, R: Read>(
     ensures within { IfOk result (λ screen. IfSome screen (λ _. number ≤ MOST_LINES)) }
     ensures gave_up { IfErr result (HasGivenUp watch.new) }
     ensures answered { (bytes : List ℕ) → R.remaining input.old ≡ Some bytes
-        → IsAnswered number bytes (E.book engine.old) (E.book engine.new)
+        → IsAnswered number bytes (book_of session.old) (book_of session.new)
         (R.remaining input.new) result }
 {
     let line = match read_line(alloc, input, watch, number) {
@@ -227,7 +184,7 @@ fn serve_line<E: Engine, R: Read>(
         Ok(None) => return Err(ScriptFault::Bad(number)),
         Err(_) => return Err(ScriptFault::NoMemory),
     };
-    match answer(alloc, engine, call) {
+    match session.answer(alloc, call) {
         Ok(screen) => Ok(Some(screen)),
         Err(_) => Err(ScriptFault::NoMemory),
     }

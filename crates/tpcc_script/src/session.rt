@@ -1,16 +1,20 @@
 //! A book that serves the requests of one script.
 ghost use Rattle.std.specs.Prelude.{◌≡◌, IfOk, length};
 ghost use Rattle.tpcc_book.specs.Past.{opening_past};
+ghost use Rattle.tpcc_rows.specs.Conditions.{first_broken};
+ghost use Rattle.tpcc_rows.specs.Replay.{results_of};
+ghost use Rattle.tpcc_text.specs.Screens as screens;
+ghost use Rattle.tpcc_text.specs.declared.script.call.Call.TheVariants.{Ask};
+ghost use Rattle.tpcc_script.specs.Run.{HasServed, Shows};
+ghost use Rattle.tpcc_script.specs.Session.{book_of};
 
-use crate::engine::Engine;
 use std::alloc::Global;
 use std::marker::Model;
 use tpcc_book::{Answer, Blanks, Book, Naming, Purse};
-use tpcc_book_screens::{check_screen, results_screen, screen};
-use tpcc_money::NoMemory;
 use tpcc_population::Opening;
-use tpcc_rows::Request;
-use tpcc_screens::Screen;
+use tpcc_rows::{NoMemory, Request};
+use tpcc_show::{check_screen, results_screen, screen};
+use tpcc_text::{Call, Screen};
 
 /// A book, with the purse of terminal 1, which makes each of the script's requests.
 pub struct Session<N: Naming> {
@@ -69,12 +73,28 @@ impl<N: Naming> Session<N> {
     }
 }
 
-impl<N: Naming> Engine for Session<N> {
-    ghost use Rattle.tpcc_script.specs.Session.{book_of};
+impl<N: Naming> Session<N> {
+    /// Serves a call and gives its screen; refused only for want of memory for the screen, and then the call was served.
+    #[tactic(auto, using(crate::proofs::Turns::shows_check, crate::proofs::Turns::shows_results))]
+    pub(crate) fn answer(&mut self, alloc: Global, call: Call) -> Result<Screen, NoMemory>
+        ensures shown { IfOk result
+            (λ screen. Shows (book_of self.old) call screen (book_of self.new)) }
+        ensures served { HasServed (book_of self.old) call (book_of self.new) }
+    {
+        match call {
+            Call::Ask(request) => self.serve(alloc, request),
+            Call::Check => self.check(alloc),
+            Call::Results => self.results(alloc),
+        }
+    }
 
-    ghost book = { book_of };
-
-    fn serve(&mut self, alloc: Global, request: Request) -> Result<Screen, NoMemory> {
+    // Serves a request and gives the screen of the answer: one turn, which is a transaction and its entry, or a refusal and no
+    // change.
+    fn serve(&mut self, alloc: Global, request: Request) -> Result<Screen, NoMemory>
+        ensures shown { IfOk result
+            (λ s. Shows (book_of self.old) (Ask request) s (book_of self.new)) }
+        ensures served { HasServed (book_of self.old) (Ask request) (book_of self.new) }
+    {
         let Some(purse) = self.purse.take() else {
             unreachable!()
         };
@@ -84,11 +104,19 @@ impl<N: Naming> Engine for Session<N> {
         shown
     }
 
-    fn check(&self, alloc: Global) -> Result<Screen, NoMemory> {
+    // The screen of the consistency conditions (3.3.2).
+    fn check(&self, alloc: Global) -> Result<Screen, NoMemory>
+        ensures { IfOk result
+            (λ s. s ≡ screens.check_screen (first_broken (book_of self.now).state.rows)) }
+    {
         check_screen(alloc, self.book.tables())
     }
 
-    fn results(&self, alloc: Global) -> Result<Screen, NoMemory> {
+    // The screens of the delivery result log (2.7.2.2).
+    fn results(&self, alloc: Global) -> Result<Screen, NoMemory>
+        ensures { IfOk result
+            (λ s. s ≡ screens.results_screen (results_of (book_of self.now).journal)) }
+    {
         results_screen(alloc, self.book.journal())
     }
 }

@@ -1,14 +1,13 @@
 //! Calls of a reader and a writer that are made again where they were interrupted, and whether one of the two failed.
 ghost use Rattle.std.specs.Prelude.{◌≡◌, ◌<◌, ◌++◌, [], ℕ, List, Some, slice_get, drop, true, false, IfOk, IfErr, OnErr, OnOk};
 ghost use Rattle.std.specs.Io.KnownBytes.{Appends, Keeps};
-ghost use Rattle.tpcc_blocks.specs.Part.{AppendsPart, PassesBytes};
-ghost use Rattle.tpcc_blocks.specs.declared.writing.TheConstants.{MOST_RETRIES};
-ghost use Rattle.tpcc_script.specs.Attempts.{HasFlushed, HasRead, IsNoWorse};
+ghost use Rattle.tpcc_text.specs.Prefix.{AppendsPrefix, PassesBytes};
+ghost use Rattle.tpcc_text.specs.declared.blocks.writing.TheConstants.{MOST_RETRIES};
+ghost use Rattle.tpcc_script.specs.Internal.Attempts.{HasFlushed, HasRead, IsNoWorse};
 
 use std::io::{Error, ErrorKind, Read, Write};
 use std::marker::Model;
-use tpcc_blocks::{Blocks, MOST_RETRIES};
-use tpcc_parse::ScriptFault;
+use tpcc_text::{Blocks, MOST_RETRIES, ScriptFault};
 
 /// What became of the calls of a script's reader and writer. That one of the two failed is noted by the calls of this
 /// file alone, which saw it fail.
@@ -23,7 +22,7 @@ pub struct Watch {
 }
 
 impl Model for Watch {
-    ghost use Rattle.tpcc_script.specs.Attempts.{WatchView};
+    ghost use Rattle.tpcc_script.specs.Internal.Attempts.{WatchView};
 
     ghost Value = { WatchView };
 
@@ -125,7 +124,7 @@ pub fn put_bytes<W: Write>(
 ) -> Result<(), ScriptFault>
     ensures ok { OnOk result (PassesBytes (W.contents out.old) (W.contents out.new)
         (blocks.old ++ bytes.now) blocks.new) }
-    ensures err { OnErr result (AppendsPart (W.contents out.old) (W.contents out.new)
+    ensures err { OnErr result (AppendsPrefix (W.contents out.old) (W.contents out.new)
         (blocks.old ++ bytes.now)) }
     ensures same { OnOk result (IsNoWorse watch.old watch.new) }
     ensures reader { watch.new.reader_failed ≡ watch.old.reader_failed }
@@ -150,7 +149,7 @@ pub fn write_blocks<W: Write>(
     ensures none { OnOk result (blocks.new ≡ []) }
     ensures ok { OnOk result (Appends (W.contents out.old) (W.contents out.new) blocks.old) }
     ensures err { OnErr result
-        (AppendsPart (W.contents out.old) (W.contents out.new) blocks.old) }
+        (AppendsPrefix (W.contents out.old) (W.contents out.new) blocks.old) }
     ensures same { OnOk result (IsNoWorse watch.old watch.new) }
     ensures reader { watch.new.reader_failed ≡ watch.old.reader_failed }
     ensures gave_up { IfErr result

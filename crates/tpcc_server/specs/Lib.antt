@@ -1,4 +1,4 @@
 pub mod Jobs
 pub mod Rounds
 pub mod Servings
-pub mod TurnStates
+pub mod Internal

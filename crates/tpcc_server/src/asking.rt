@@ -6,7 +6,8 @@ ghost use Rattle.tpcc_mailbox.specs.Tokens.{identity, idle_origin, idle_mailbox,
 use crate::job::{Job, JobAnswer, JobIdle, JobMailboxes, JobWaiting};
 use std::sync::Wait;
 use std::time::Duration;
-use tpcc_turns::{Naming, Pause, Seating};
+use tpcc_book::Naming;
+use tpcc_turns::{Pause, Seating};
 
 /// How long a client sleeps at most before it looks again, in milliseconds; the answer wakes it.
 const LONGEST: u64 = 100;

@@ -3,7 +3,8 @@ ghost use Rattle.tpcc_rows.specs.declared.requests.Request.{Request};
 ghost use Rattle.tpcc_turns.specs.Seats.{SeatedView, IsTurned};
 
 use std::sync::Wait;
-use tpcc_turns::{Answer, Naming, SeatedPurse, Seating, Turns};
+use tpcc_book::{Answer, Naming};
+use tpcc_turns::{SeatedPurse, Seating, Turns};
 
 /// A request and a purse that are served once, in turn: running the errand spends it.
 pub trait Errand<N: Naming, T: Seating> {

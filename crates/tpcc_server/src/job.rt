@@ -1,6 +1,6 @@
 //! Jobs, and the answers that fit them.
 ghost use Rattle.std.specs.Prelude.{◌≡◌};
-ghost use Rattle.tpcc_turns.specs.Turn.{IsTurn, TakesTurn, MakesTurn};
+ghost use Rattle.tpcc_book.specs.Turn.{IsTurn, TakesTurn, MakesTurn};
 ghost use Rattle.tpcc_turns.specs.Seats.{IsTurned, keeper_of};
 ghost use mathlib.Core.List.{IsPrefix};
 
@@ -8,9 +8,10 @@ use crate::errand::Errand;
 use crate::one_turn::{BoxedTurn, OneTurn, TurnCall};
 use std::marker::Model;
 use std::sync::Wait;
+use tpcc_book::{Answer, Naming, Register, Turned};
 use tpcc_mailbox::{Answers, Idle, Mailboxes, Serving, Waiting};
 use tpcc_rows::Request;
-use tpcc_turns::{Answer, HeldTurn, Naming, Register, SeatedPurse, Seating, Turned, Turns};
+use tpcc_turns::{HeldTurn, SeatedPurse, Seating, Turns};
 
 /// A request, a seated purse, and the call that is to serve the request for it. It has no copy, and
 /// running it or giving it back spends it.

@@ -42,4 +42,3 @@ pub use gate::{Gate, OpenGate};
 pub use job::{Job, JobAnswer, JobIdle, JobLabel, JobMailboxes, JobServing, JobWaiting};
 pub use one_turn::{BoxedTurn, OneTurn, TurnCall};
 pub use serving::{serve_round, serve_until_closed};
-pub use tpcc_turns::{Register, Turned};

@@ -1,8 +1,8 @@
 //! Calls that make one turn of a register.
-ghost use Rattle.tpcc_turns.specs.Turn.{IsTurn, TakesTurn, MakesTurn};
+ghost use Rattle.tpcc_book.specs.Turn.{IsTurn, TakesTurn, MakesTurn};
 
+use tpcc_book::{Register, Turned};
 use tpcc_rows::Request;
-use tpcc_turns::{Register, Turned};
 
 /// What makes one turn of a register, once: it takes the request, the terminal and the number of entries
 /// that the terminal made.

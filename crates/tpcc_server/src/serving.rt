@@ -4,7 +4,7 @@ ghost use Rattle.tpcc_mailbox.specs.Tokens.{identity, mailbox_count, serving_ori
 ghost use Rattle.tpcc_turns.specs.Seats.{keeper_of};
 ghost use Rattle.tpcc_server.specs.Rounds.{HasAnswered, HasAnsweredInTurn};
 ghost use Rattle.tpcc_server.specs.Servings.{HasServed};
-ghost use Rattle.tpcc_server.specs.TurnStates.{keeper_in};
+ghost use Rattle.tpcc_server.specs.Internal.TurnStates.{keeper_in};
 
 use crate::errand::Errand;
 use crate::gate::Gate;
@@ -13,7 +13,8 @@ use crate::lull::Lull;
 use crate::one_turn::OneTurn;
 use crate::turn_state::TurnState;
 use std::sync::Wait;
-use tpcc_turns::{HeldTurn, Naming, SeatedPurse, Seating, Turns};
+use tpcc_book::Naming;
+use tpcc_turns::{HeldTurn, SeatedPurse, Seating, Turns};
 
 /// Looks at each mailbox once, in order, and answers the jobs that it finds, each in a turn of its own. It gives
 /// their number. The server's own purse keeps the book's turn from one job to the next while nobody else waits for it,

@@ -1,12 +1,13 @@
 //! Whether a server has the turn.
 ghost use Rattle.std.specs.Prelude.{◌≡◌};
 ghost use Rattle.tpcc_turns.specs.Seats.{keeper_of};
-ghost use Rattle.tpcc_server.specs.TurnStates.{keeper_in};
+ghost use Rattle.tpcc_server.specs.Internal.TurnStates.{keeper_in};
 
 use crate::job::JobMailboxes;
 use crate::lull::Lull;
 use std::sync::Wait;
-use tpcc_turns::{HeldTurn, Naming, Pause, SeatedPurse, Seating, Turns};
+use tpcc_book::Naming;
+use tpcc_turns::{HeldTurn, Pause, SeatedPurse, Seating, Turns};
 
 /// How often a server that stands by looks again whether the book is free.
 const LOOKS: u32 = 20;

@@ -3,14 +3,14 @@ use Rattle.std.specs.Prelude.{ℕ, List, [], ◌∷◌, ◌++◌, flat_map, leng
 use Rattle.tpcc_rows.specs.Conditions.{first_broken}
 use Rattle.tpcc_rows.specs.Replay.{results_of}
 use Rattle.tpcc_rows.specs.declared.entry.Entry.{Entry}
-use Rattle.tpcc_book_screens.specs.Past.{Past, rise_of}
-use Rattle.tpcc_screens.specs.Screens.{reply_screen, results_screen, check_screen}
-use Rattle.tpcc_screens.specs.Report.{report_text}
-use Rattle.tpcc_screens.specs.RequestLines.{journal_lines}
-use Rattle.tpcc_asked.specs.Names.{part_name}
-use Rattle.tpcc_dump.specs.Dump.{dump_text}
-use Rattle.tpcc_asked.specs.declared.parts.Part.{Part}
-use Rattle.tpcc_asked.specs.declared.parts.Part.TheVariants as parts
+use Rattle.tpcc_book.specs.Past.{Past, rise_of}
+use Rattle.tpcc_text.specs.Screens.{reply_screen, results_screen, check_screen}
+use Rattle.tpcc_text.specs.Report.{report_text}
+use Rattle.tpcc_text.specs.RequestLines.{journal_lines}
+use Rattle.tpcc_show.specs.Names.{part_name}
+use Rattle.tpcc_show.specs.Dump.{dump_text}
+use Rattle.tpcc_show.specs.declared.parts.Part.{Part}
+use Rattle.tpcc_show.specs.declared.parts.Part.TheVariants as parts
 
 -- the screens of the stored replies, in the journal's order
 abbrev pub journal_screens : List Entry → List ℕ

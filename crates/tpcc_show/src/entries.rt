@@ -1,18 +1,17 @@
 //! The journal's entries, one after another.
 ghost use Rattle.std.specs.Prelude.{◌≡◌, ◌++◌, IfOk, OnErr, OnOk, flat_map};
-ghost use Rattle.tpcc_blocks.specs.Part.{AppendsPart, PassesBytes};
+ghost use Rattle.tpcc_text.specs.Prefix.{AppendsPrefix, PassesBytes};
 ghost use Rattle.tpcc_journal.specs.Kept.{entry_of};
-ghost use Rattle.tpcc_screens.specs.RequestLines as lines;
-ghost use Rattle.tpcc_screens.specs.Screens as screens;
+ghost use Rattle.tpcc_text.specs.RequestLines as lines;
+ghost use Rattle.tpcc_text.specs.Screens as screens;
 
+use crate::table_dump::output_fault::OutputFault;
 use crate::texts::put_screen;
 use std::alloc::Global;
 use std::io::Write;
-use tpcc_blocks::Blocks;
-use tpcc_dump::DumpFault;
 use tpcc_journal::{EntryRef, Journal};
-use tpcc_money::NoMemory;
-use tpcc_screens::{Screen, reply_screen, request_line};
+use tpcc_rows::NoMemory;
+use tpcc_text::{Blocks, Screen, reply_screen, request_line};
 
 /// What is written of each entry.
 pub trait EntryText {
@@ -55,10 +54,10 @@ pub fn put_each<T: EntryText, W: Write>(
     blocks: &mut Blocks,
     out: &mut W,
     journal: &Journal,
-) -> Result<(), DumpFault>
+) -> Result<(), OutputFault>
     ensures written { OnOk result (PassesBytes (W.contents out.old) (W.contents out.new)
         (blocks.old ++ flat_map T.text journal.now.entries) blocks.new) }
-    ensures part { OnErr result (AppendsPart (W.contents out.old) (W.contents out.new)
+    ensures part { OnErr result (AppendsPrefix (W.contents out.old) (W.contents out.new)
         (blocks.old ++ flat_map T.text journal.now.entries)) }
 {
     for place in 0..journal.len() {

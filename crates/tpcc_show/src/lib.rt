@@ -4,19 +4,38 @@
 //! `show` writes parts in the order in which they are given: one alone as it is, several each under a heading with its word. The
 //! screens that it shows are those of the journal's replies; `show_served` shows screens that were kept as they were written.
 //!
-//! `put_screen` puts a screen, or another such text, into blocks.
+//! # Screens of a book
 //!
-//! A writer that is interrupted is called again, as often in a row as `tpcc_blocks` says; at a fault a first part of the text is
+//! `screen` gives the text of an answer, accepted or refused, in the words of `tpcc_text`. `check_screen` and `results_screen`
+//! answer the two calls of a script that are no requests, and leave the book as it is. `put_screen` puts a screen, or another such
+//! text, into blocks.
+//!
+//! # Tables
+//!
+//! `dump` and `dump_to` write a table as comma-separated values; `table_named` finds it by its name. `dump_is_read_back` is a law,
+//! the contract of a function with nothing to do: a reader of comma-separated values gets the very records.
+//!
+//! A writer that is interrupted is called again, as often in a row as `tpcc_text` says; at a fault a first part of the text is
 //! written.
 //!
 //! Not promised: that the writer is flushed, and that memory is found. A text is made whole before it is put, a journal and a
 //! table some rows at a time.
 #![tactic(auto)]
 
+mod book_screens;
 mod entries;
+mod parts;
 mod showing;
+mod table_dump;
+mod table_names;
 mod texts;
 
+pub use book_screens::answer_screen::screen;
+pub use book_screens::calls::{check_screen, results_screen};
+pub use parts::{Part, ShownParts, part_named};
 pub use showing::{show, show_served};
+pub use table_dump::dumping::{dump, dump_to};
+pub use table_dump::laws::dump_is_read_back;
+pub use table_dump::output_fault::OutputFault;
+pub use table_names::table_named;
 pub use texts::put_screen;
-pub use tpcc_asked::{Part, ShownParts, part_named};

@@ -1,34 +1,35 @@
 //! Parts of a book, written one after another.
 ghost use Rattle.std.specs.Prelude.{◌≡◌, ◌++◌, OnErr, OnOk, Some, flat_map, option_map};
 ghost use Rattle.std.specs.Io.KnownBytes.{Appends};
-ghost use Rattle.tpcc_blocks.specs.Part.{AppendsPart, PassesBytes};
+ghost use Rattle.tpcc_text.specs.Prefix.{AppendsPrefix, PassesBytes};
 ghost use Rattle.tpcc_show.specs.Shown.{book_report, headed_text, heading, named_line, part_text, parts_text, screens_shown, served_text, shown_text};
 
+use crate::book_screens::calls::{check_screen, results_screen};
 use crate::entries::{ReplyScreens, RequestLines, put_each};
+use crate::parts::Part;
+use crate::table_dump::dumping::put_dump;
+use crate::table_dump::output_fault::OutputFault;
 use crate::texts::{put_bytes, put_screen};
 use std::alloc::Global;
 use std::io::Write;
-use tpcc_asked::Part;
-use tpcc_blocks::Blocks;
-use tpcc_book_screens::{Book, Naming, check_screen, results_screen};
-use tpcc_dump::{DumpFault, put_dump};
-use tpcc_screens::Report;
+use tpcc_book::{Book, Naming};
+use tpcc_text::{Blocks, Report};
 
 /// Writes parts of a book, in their order: one part alone as it is, several each under a line `== PART`.
 /// Its screens are those of its journal's entries.
 ///
 /// Write where the writer fails or takes nothing, NoMemory where a growth was refused. An interrupted write is made
 /// again, at most 1,000 times in a row.
-#[tactic(auto, using(tpcc_blocks::proofs::Parts::ends_whole, tpcc_blocks::proofs::Parts::ends_part))]
+#[tactic(auto, using(tpcc_text::proofs::BlockSteps::ends_whole, tpcc_text::proofs::BlockSteps::ends_part))]
 pub fn show<N: Naming, W: Write>(
     alloc: Global,
     book: &Book<N>,
     parts: &[Part],
     out: &mut W,
-) -> Result<(), DumpFault>
+) -> Result<(), OutputFault>
     ensures written { OnOk result (Appends (W.contents out.old) (W.contents out.new)
         (shown_text book.now parts.now)) }
-    ensures part { OnErr result (AppendsPart (W.contents out.old) (W.contents out.new)
+    ensures part { OnErr result (AppendsPrefix (W.contents out.old) (W.contents out.new)
         (shown_text book.now parts.now)) }
 {
     let mut blocks = Blocks::new(alloc);
@@ -38,17 +39,17 @@ pub fn show<N: Naming, W: Write>(
 }
 
 /// Writes parts of a book whose screens were kept as they were shown. Else as [`show`].
-#[tactic(auto, using(tpcc_blocks::proofs::Parts::ends_whole, tpcc_blocks::proofs::Parts::ends_part))]
+#[tactic(auto, using(tpcc_text::proofs::BlockSteps::ends_whole, tpcc_text::proofs::BlockSteps::ends_part))]
 pub fn show_served<N: Naming, W: Write>(
     alloc: Global,
     book: &Book<N>,
     screens: &[u8],
     parts: &[Part],
     out: &mut W,
-) -> Result<(), DumpFault>
+) -> Result<(), OutputFault>
     ensures written { OnOk result (Appends (W.contents out.old) (W.contents out.new)
         (served_text screens.now book.now parts.now)) }
-    ensures part { OnErr result (AppendsPart (W.contents out.old) (W.contents out.new)
+    ensures part { OnErr result (AppendsPrefix (W.contents out.old) (W.contents out.new)
         (served_text screens.now book.now parts.now)) }
 {
     let mut blocks = Blocks::new(alloc);
@@ -64,11 +65,11 @@ fn show_parts<N: Naming, W: Write>(
     parts: &[Part],
     blocks: &mut Blocks,
     out: &mut W,
-) -> Result<(), DumpFault>
+) -> Result<(), OutputFault>
     ensures written { OnOk result (PassesBytes (W.contents out.old) (W.contents out.new)
         (blocks.old ++ parts_text (option_map (λ s. s.now) screens.entry) book.now parts.now)
         blocks.new) }
-    ensures part { OnErr result (AppendsPart (W.contents out.old) (W.contents out.new)
+    ensures part { OnErr result (AppendsPrefix (W.contents out.old) (W.contents out.new)
         (blocks.old ++ parts_text (option_map (λ s. s.now) screens.entry) book.now parts.now)) }
 {
     match parts {
@@ -84,12 +85,12 @@ fn show_all<N: Naming, W: Write>(
     parts: &[Part],
     blocks: &mut Blocks,
     out: &mut W,
-) -> Result<(), DumpFault>
+) -> Result<(), OutputFault>
     ensures written { OnOk result (PassesBytes (W.contents out.old) (W.contents out.new)
         (blocks.old
         ++ flat_map (headed_text (option_map (λ s. s.now) screens.entry) book.now) parts.now)
         blocks.new) }
-    ensures part { OnErr result (AppendsPart (W.contents out.old) (W.contents out.new)
+    ensures part { OnErr result (AppendsPrefix (W.contents out.old) (W.contents out.new)
         (blocks.old
         ++ flat_map (headed_text (option_map (λ s. s.now) screens.entry) book.now) parts.now)) }
 {
@@ -106,31 +107,31 @@ fn show_headed<N: Naming, W: Write>(
     part: Part,
     blocks: &mut Blocks,
     out: &mut W,
-) -> Result<(), DumpFault>
+) -> Result<(), OutputFault>
     ensures written { OnOk result (PassesBytes (W.contents out.old) (W.contents out.new)
         (blocks.old ++ headed_text (option_map (λ s. s.now) screens.entry) book.now part)
         blocks.new) }
-    ensures part { OnErr result (AppendsPart (W.contents out.old) (W.contents out.new)
+    ensures part { OnErr result (AppendsPrefix (W.contents out.old) (W.contents out.new)
         (blocks.old ++ headed_text (option_map (λ s. s.now) screens.entry) book.now part)) }
 {
     put_heading(blocks, out, part)?;
     show_part(alloc, book, screens, part, blocks, out)
 }
 
-fn put_heading<W: Write>(blocks: &mut Blocks, out: &mut W, part: Part) -> Result<(), DumpFault>
+fn put_heading<W: Write>(blocks: &mut Blocks, out: &mut W, part: Part) -> Result<(), OutputFault>
     ensures written { OnOk result (PassesBytes (W.contents out.old) (W.contents out.new)
         (blocks.old ++ heading part) blocks.new) }
-    ensures part { OnErr result (AppendsPart (W.contents out.old) (W.contents out.new)
+    ensures part { OnErr result (AppendsPrefix (W.contents out.old) (W.contents out.new)
         (blocks.old ++ heading part)) }
 {
     put_bytes(blocks, out, b"== ")?;
     put_name(blocks, out, part)
 }
 
-fn put_name<W: Write>(blocks: &mut Blocks, out: &mut W, part: Part) -> Result<(), DumpFault>
+fn put_name<W: Write>(blocks: &mut Blocks, out: &mut W, part: Part) -> Result<(), OutputFault>
     ensures written { OnOk result (PassesBytes (W.contents out.old) (W.contents out.new)
         (blocks.old ++ named_line part) blocks.new) }
-    ensures part { OnErr result (AppendsPart (W.contents out.old) (W.contents out.new)
+    ensures part { OnErr result (AppendsPrefix (W.contents out.old) (W.contents out.new)
         (blocks.old ++ named_line part)) }
 {
     put_bytes(blocks, out, part.name())?;
@@ -145,11 +146,11 @@ fn show_part<N: Naming, W: Write>(
     part: Part,
     blocks: &mut Blocks,
     out: &mut W,
-) -> Result<(), DumpFault>
+) -> Result<(), OutputFault>
     ensures written { OnOk result (PassesBytes (W.contents out.old) (W.contents out.new)
         (blocks.old ++ part_text (option_map (λ s. s.now) screens.entry) book.now part)
         blocks.new) }
-    ensures part { OnErr result (AppendsPart (W.contents out.old) (W.contents out.new)
+    ensures part { OnErr result (AppendsPrefix (W.contents out.old) (W.contents out.new)
         (blocks.old ++ part_text (option_map (λ s. s.now) screens.entry) book.now part)) }
 {
     match part {
@@ -168,11 +169,11 @@ fn put_shown<N: Naming, W: Write>(
     out: &mut W,
     book: &Book<N>,
     screens: Option<&[u8]>,
-) -> Result<(), DumpFault>
+) -> Result<(), OutputFault>
     ensures written { OnOk result (PassesBytes (W.contents out.old) (W.contents out.new)
         (blocks.old ++ screens_shown (option_map (λ s. s.now) screens.entry) book.now)
         blocks.new) }
-    ensures part { OnErr result (AppendsPart (W.contents out.old) (W.contents out.new)
+    ensures part { OnErr result (AppendsPrefix (W.contents out.old) (W.contents out.new)
         (blocks.old ++ screens_shown (option_map (λ s. s.now) screens.entry) book.now)) }
 {
     match screens {
@@ -181,16 +182,16 @@ fn put_shown<N: Naming, W: Write>(
     }
 }
 
-#[tactic(auto, using(tpcc_blocks::proofs::Parts::none_part))]
+#[tactic(auto, using(tpcc_text::proofs::BlockSteps::none_part))]
 fn put_report<N: Naming, W: Write>(
     alloc: Global,
     blocks: &mut Blocks,
     out: &mut W,
     book: &Book<N>,
-) -> Result<(), DumpFault>
+) -> Result<(), OutputFault>
     ensures written { OnOk result (PassesBytes (W.contents out.old) (W.contents out.new)
         (blocks.old ++ book_report book.now) blocks.new) }
-    ensures part { OnErr result (AppendsPart (W.contents out.old) (W.contents out.new)
+    ensures part { OnErr result (AppendsPrefix (W.contents out.old) (W.contents out.new)
         (blocks.old ++ book_report book.now)) }
 {
     let rise = book.rise();
@@ -200,7 +201,7 @@ fn put_report<N: Naming, W: Write>(
         rise,
     };
     let Ok(text) = totals.to_string(alloc) else {
-        return Err(DumpFault::NoMemory);
+        return Err(OutputFault::NoMemory);
     };
     put_bytes(blocks, out, text.as_bytes())
 }

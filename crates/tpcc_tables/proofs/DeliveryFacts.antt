@@ -23,9 +23,10 @@ use Rattle.tpcc_laws.proofs.Numbers.{amount_within, balance_fits, count_fits, no
 use Rattle.tpcc_rows.proofs.Booleans.{split}
 use Rattle.tpcc_laws.proofs.Remove.{found_passes}
 use Rattle.tpcc_laws.proofs.TurnKeeps.{all_false}
+use Rattle.tpcc_rows.specs.declared.limits.TheConstants.{GREATEST_LINE_AMOUNT, GREATEST_TOTAL}
 
 abbrev pub is_paid : OrderLineRow → Bool
-is_paid l = is_amount_within (pos 0) (pos 999999) l.amount
+is_paid l = is_amount_within (pos 0) GREATEST_LINE_AMOUNT l.amount
 
 pub line_is_paid : (l : OrderLineRow) → is_order_line_row l ≡ true → is_paid l ≡ true
 unfolding is_order_line_row
@@ -48,7 +49,7 @@ paid_above : (xs : List OrderLineRow) → list_all is_paid xs ≡ true → pos 0
 paid_above [] h = omega (arith, ints)
 paid_above (x ∷ xs) h =
     let s = split (is_paid x) (list_all is_paid xs) h in
-    let a = amount_within (pos 0) (pos 999999) x.amount s.0 in
+    let a = amount_within (pos 0) GREATEST_LINE_AMOUNT x.amount s.0 in
     let rest = paid_above xs s.1 in
     omega (arith, ints, a, rest)
 
@@ -57,7 +58,7 @@ part_paid xs zero h = (omega (arith, ints), paid_above xs h)
 part_paid [] (suc k) h = (omega (arith, ints), omega (arith, ints))
 part_paid (x ∷ xs) (suc k) h =
     let s = split (is_paid x) (list_all is_paid xs) h in
-    let a = amount_within (pos 0) (pos 999999) x.amount s.0 in
+    let a = amount_within (pos 0) GREATEST_LINE_AMOUNT x.amount s.0 in
     let rest = part_paid xs k s.1 in
     (omega (arith, ints, a, rest), omega (arith, ints, a, rest))
 
@@ -69,7 +70,7 @@ paid_below : (xs : List OrderLineRow) → list_all is_paid xs ≡ true → total
 paid_below [] h = omega (arith, ints)
 paid_below (x ∷ xs) h =
     let s = split (is_paid x) (list_all is_paid xs) h in
-    let a = amount_within (pos 0) (pos 999999) x.amount s.0 in
+    let a = amount_within (pos 0) GREATEST_LINE_AMOUNT x.amount s.0 in
     let rest = paid_below xs s.1 in
     omega (arith, ints, a, rest)
 
@@ -88,8 +89,8 @@ balance_of rows w d k (Some c) e h = (λ i. is_balance (unwrap_or (e i) no_custo
 
 part_fits : (b a s : ℤ) → is_balance b ≡ true → is_balance (b +ℤ a) ≡ true → IsPart s a → FitsSigned w64 s
 part_fits b a s h k p =
-    let before = amount_within (neg_ℤ (pos 999999999999)) (pos 999999999999) b h in
-    let after = amount_within (neg_ℤ (pos 999999999999)) (pos 999999999999) (b +ℤ a) k in
+    let before = amount_within (neg_ℤ GREATEST_TOTAL) GREATEST_TOTAL b h in
+    let after = amount_within (neg_ℤ GREATEST_TOTAL) GREATEST_TOTAL (b +ℤ a) k in
     omega (arith, ints, before, after, p)
 
 pub record IsDeliverable (rows : Rows) (w d o : ℕ) : Type 0 where

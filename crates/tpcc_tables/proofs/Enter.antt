@@ -20,13 +20,14 @@ use Rattle.tpcc_rows.proofs.Booleans.{split, both_true}
 use Rattle.tpcc_laws.proofs.DeliveryKeeps.{some_of}
 use Rattle.std.proofs.lemmas.Bool.Decides.{nat_tests}
 use Rattle.tpcc_rows.specs.declared.keys.DistrictKey.{DistrictKey}
-use Rattle.tpcc_district_rows.specs.Parts.{has_owner}
-use Rattle.tpcc_tables.specs.Ready.{is_open}
+use Rattle.tpcc_storage.specs.ByDistrict.{has_owner}
+use Rattle.tpcc_tables.specs.Internal.Ready.{is_open}
 use Rattle.tpcc_tables.proofs.Ready.{open-found}
 use Rattle.tpcc_laws.proofs.Remove.{found_passes}
 use Rattle.tpcc_laws.proofs.TurnKeeps.{all_false, first_none}
 use Rattle.tpcc_laws.proofs.TurnKeys.{order_is_sound}
 use Rattle.tpcc_tables.specs.Writes.{line_of, waiting, with_entered_order, IsOrderOf, IsOrder}
+use Rattle.tpcc_rows.specs.declared.limits.TheConstants.{GREATEST_ORDER}
 
 lines_from : (rows : Rows) (order : Order) (n : ℕ) (ls : List Line) → map line_of (map (λ line. order_line_row rows order line.0 line.1) (enumerate_from n ls)) ≡ ls
 lines_from rows order n [] = refl
@@ -56,7 +57,7 @@ lines_in_order rows o lines k well = (entered_is_well_keyed rows o lines k well)
 
 next_fits : (d : DistrictRow) → is_district_row d ≡ true → d.next_order + 1 < 2 ^ 32
 unfolding is_district_row
-next_fits d h = let next = within 1 9999999 d.next_order (split _ (is_order_id d.next_order) h).1 in omega (arith, next)
+next_fits d h = let next = within 1 GREATEST_ORDER d.next_order (split _ (is_order_id d.next_order) h).1 in omega (arith, next)
 
 pub district_fits : (rows : Rows) (w d : ℕ) → IsInRange rows → (x : DistrictRow) → find_district rows w d ≡ Some x → x.next_order + 1 < 2 ^ 32
 district_fits rows w d h x e = next_fits x (found_passes (is_district w d) is_district_row rows.districts x e h.districts).1

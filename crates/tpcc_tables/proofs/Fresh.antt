@@ -9,7 +9,7 @@ use Rattle.tpcc_rows.specs.declared.rows.StockRow.{StockRow}
 use Rattle.tpcc_rows.specs.Ranges.{is_warehouse_row, is_district_row, is_customer_row, is_item_row, is_stock_row}
 use Rattle.tpcc_rows.specs.Tables.{Rows, warehouse_key, district_key, customer_key, item_key, stock_key, is_warehouse, is_district, is_customer, is_item, is_stock, find_warehouse, find_district, find_customer, find_item, find_stock}
 use Rattle.tpcc_rows.specs.WellKeyed.{has_warehouse, has_district, has_warehouse_and_item}
-use Rattle.tpcc_keyed.proofs.Halves.{is_it, same_find}
+use Rattle.tpcc_storage.proofs.Halves.{is_it, same_find}
 use Rattle.tpcc_tables.specs.Loads.{warehouse_fault, district_fault, customer_fault, item_fault, stock_fault}
 use Rattle.tpcc_tables.proofs.KeyTests.{warehouse_test, district_test, customer_test, item_test, stock_test}
 use Rattle.tpcc_tables.proofs.Load.{fault_none}

@@ -12,7 +12,7 @@ use Rattle.tpcc_rows.specs.declared.rows.OrderLineRow.{OrderLineRow}
 use Rattle.tpcc_rows.specs.declared.rows.NewOrderRow.{NewOrderRow}
 use Rattle.tpcc_rows.specs.Lists.{key_before}
 use Rattle.tpcc_rows.specs.Tables.{is_warehouse, is_district, is_customer, is_order, is_new_order, is_item, is_stock, warehouse_key, district_key, customer_key, order_key, order_line_key, new_order_key, item_key, stock_key}
-use Rattle.tpcc_keyed.proofs.Halves.{is_it}
+use Rattle.tpcc_storage.proofs.Halves.{is_it}
 use Rattle.tpcc_tables.specs.Loads.{is_order_line}
 
 last_true : (a : Bool) → (a && true) ≡ a

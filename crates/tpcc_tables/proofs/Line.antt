@@ -11,9 +11,10 @@ use Rattle.tpcc_rows.specs.Tables.{Rows, is_line_of, lines_of, order_lines_in, o
 use Rattle.tpcc_rows.specs.WellKeyed.{IsWellKeyed}
 use Rattle.tpcc_laws.proofs.Numbers.{within}
 use Rattle.tpcc_rows.proofs.Booleans.{split}
-use Rattle.tpcc_district_rows.specs.Runs.{is_line_between}
+use Rattle.tpcc_storage.specs.Runs.{is_line_between}
 use Rattle.tpcc_tables.specs.Loads.{is_order_line, find_order_line}
 use Rattle.tpcc_tables.proofs.Filter.{below, exactly, filter-next, filter-key, filter-agree, filter-same, filter-nothing, filter-twice}
+use Rattle.tpcc_rows.specs.declared.limits.TheConstants.{GREATEST_LINE_AMOUNT}
 
 -- the lines of an order with numbers below n
 abbrev pub lines_below : Rows → ℕ → ℕ → ℕ → ℕ → List OrderLineRow
@@ -32,7 +33,7 @@ unfolding is_order_line_row
 number_within l h =
     within 1 15 l.number
     (split (is_order_id l.order && is_district_id l.district && is_warehouse_id l.warehouse) (is_within 1 15 l.number)
-    (tests_of_key (is_order_id l.order && is_district_id l.district && is_warehouse_id l.warehouse && is_within 1 15 l.number) (is_item_id l.item) (is_warehouse_id l.supply) (is_null_or is_moment l.delivered) (is_within 1 10 l.quantity) (is_amount_within (pos 0) (pos 999999) l.amount) (is_exact_text 24 l.district_information) h)).1
+    (tests_of_key (is_order_id l.order && is_district_id l.district && is_warehouse_id l.warehouse && is_within 1 15 l.number) (is_item_id l.item) (is_warehouse_id l.supply) (is_null_or is_moment l.delivered) (is_within 1 10 l.quantity) (is_amount_within (pos 0) GREATEST_LINE_AMOUNT l.amount) (is_exact_text 24 l.district_information) h)).1
 
 numbers_rise : (w d o : ℕ) (a b : OrderLineRow) → is_line_of w d o a ≡ true → is_line_of w d o b ≡ true → key_before (order_line_key a) (order_line_key b) ≡ true → nat_le a.number b.number ≡ true
 numbers_rise w d o a b ha hb h = grind (arith, nat_tests)

@@ -17,15 +17,15 @@ use Rattle.tpcc_laws.proofs.Numbers.{total_fits, balance_fits, count_fits}
 use Rattle.tpcc_laws.proofs.PaymentFacts.{IsPaid, payment_facts}
 use Rattle.tpcc_laws.proofs.PaymentRanges.{one_customer, payment_in_range, same_found}
 use Rattle.tpcc_laws.proofs.PaymentParents.{payment_is_keyed, payment_has_parents}
-use Rattle.tpcc_tables.specs.Writes.{with_payment, charged_customer, IsPaymentOf, IsPayment}
+use Rattle.tpcc_tables.specs.Writes.{with_payment, customer_after_payment, IsPaymentOf, IsPayment}
 
 -- two changes that agree on the one row that is changed
 pub updated_agree : {X : Type 0} (passes : X → Bool) (f g : X → X) (xs : List X) (x : X) → has_one passes xs ≡ true → find passes xs ≡ Some x → f x ≡ g x → updated passes f xs ≡ updated passes g xs
 updated_agree passes f g [] x one e same = refl
 updated_agree passes f g (y ∷ xs) x one e same = grind (arith, updated_absent passes f xs, updated_absent passes g xs, updated_agree passes f g xs x)
 
-charged_is_paid : (p : Payment) (info : Option (List ℕ)) (c : CustomerRow) → unwrap_or info c.information ≡ information_after p c → charged_customer p.amount info c ≡ paid_customer p c
-charged_is_paid p info c e = λ i. record c { balance = c.balance -ℤ p.amount; ytd_payment = c.ytd_payment +ℤ p.amount; payment_count = c.payment_count + 1; information = e i }
+paying_is_paid : (p : Payment) (info : Option (List ℕ)) (c : CustomerRow) → unwrap_or info c.information ≡ information_after p c → customer_after_payment p.amount info c ≡ paid_customer p c
+paying_is_paid p info c e = λ i. record c { balance = c.balance -ℤ p.amount; ytd_payment = c.ytd_payment +ℤ p.amount; payment_count = c.payment_count + 1; information = e i }
 
 payer_found : (rows : Rows) (p : Payment) (f : IsPaid rows p) → let payer = paying_customer rows p in find_customer rows payer.warehouse payer.district payer.id ≡ Some payer
 payer_found rows p f = (λ i. find (is_customer (f.payer i).warehouse (f.payer i).district (f.payer i).id) rows.customers) ∙ f.customer_is ∙ ap Some (sym f.payer)
@@ -36,8 +36,8 @@ unfolding with_payment after_payment
 written_history rows info p keyed f e =
     let payer = paying_customer rows p in
     let found = payer_found rows p f in
-    let customers : updated (is_customer payer.warehouse payer.district payer.id) (charged_customer p.amount info) rows.customers ≡ updated (is_customer payer.warehouse payer.district payer.id) (paid_customer p) rows.customers =
-    updated_agree (is_customer payer.warehouse payer.district payer.id) (charged_customer p.amount info) (paid_customer p) rows.customers payer (one_customer rows payer.warehouse payer.district payer.id payer keyed found) found (charged_is_paid p info payer e) in
+    let customers : updated (is_customer payer.warehouse payer.district payer.id) (customer_after_payment p.amount info) rows.customers ≡ updated (is_customer payer.warehouse payer.district payer.id) (paid_customer p) rows.customers =
+    updated_agree (is_customer payer.warehouse payer.district payer.id) (customer_after_payment p.amount info) (paid_customer p) rows.customers payer (one_customer rows payer.warehouse payer.district payer.id payer keyed found) found (paying_is_paid p info payer e) in
     λ i. record (after_payment rows p) { customers = customers i }
 
 pub payment_is : (rows : Rows) (h : HistoryRow) (info : Option (List ℕ)) (p : Payment) → IsKeyed rows → IsPaymentOf rows h info p → with_payment rows h info ≡ after_payment rows p

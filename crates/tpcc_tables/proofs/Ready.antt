@@ -12,8 +12,8 @@ use Rattle.tpcc_rows.specs.declared.rows.NewOrderRow.{NewOrderRow}
 use Rattle.tpcc_rows.specs.Lists.{updated}
 use Rattle.tpcc_rows.specs.Tables.{district_key}
 use Rattle.tpcc_laws.proofs.List.{list_all-mono, key-chosen}
-use Rattle.tpcc_district_rows.specs.Parts.{PartsView, has_owner}
-use Rattle.tpcc_tables.specs.Ready.{is_open, IsOpen, IsReady, IsOpening}
+use Rattle.tpcc_storage.specs.ByDistrict.{ByDistrictView, has_owner}
+use Rattle.tpcc_tables.specs.Internal.Ready.{is_open, IsOpen, IsReady, IsOpening}
 
 -- no district loses its part
 abbrev pub KeepsOwners : List DistrictKey → List DistrictKey → Type 0
@@ -28,7 +28,7 @@ open-updated passes change same owners [] = refl
 open-updated passes change same owners (d ∷ ds) = λ i. has_owner owners (key-chosen district_key passes change same d i) && open-updated passes change same owners ds i
 
 -- with no room promised it is enough that no district loses its part
-pub ready-kept : (b : Bool) (r : ℕ) (ds : List DistrictRow) (os os2 : PartsView OrderRow) (ls ls2 : PartsView OrderLineRow) (ns ns2 : PartsView NewOrderRow) → KeepsOwners os.owners os2.owners → KeepsOwners ls.owners ls2.owners → KeepsOwners ns.owners ns2.owners → IsReady b r ds os ls ns → IsReady b 0 ds os2 ls2 ns2
+pub ready-kept : (b : Bool) (r : ℕ) (ds : List DistrictRow) (os os2 : ByDistrictView OrderRow) (ls ls2 : ByDistrictView OrderLineRow) (ns ns2 : ByDistrictView NewOrderRow) → KeepsOwners os.owners os2.owners → KeepsOwners ls.owners ls2.owners → KeepsOwners ns.owners ns2.owners → IsReady b r ds os ls ns → IsReady b 0 ds os2 ls2 ns2
 ready-kept b r ds os os2 ls ls2 ns ns2 ko kl kn h =
     record {
       parts = λ is. record {
@@ -41,7 +41,7 @@ ready-kept b r ds os os2 ls ls2 ns ns2 ko kl kn h =
     }
 
 -- and where no room is lost either, what was promised stays
-pub ready-grown : (b : Bool) (r : ℕ) (ds : List DistrictRow) (os os2 : PartsView OrderRow) (ls ls2 : PartsView OrderLineRow) (ns ns2 : PartsView NewOrderRow) → KeepsOwners os.owners os2.owners → KeepsOwners ls.owners ls2.owners → KeepsOwners ns.owners ns2.owners → os.room ≤ os2.room → ls.room ≤ ls2.room → ns.room ≤ ns2.room → IsReady b r ds os ls ns → IsReady b r ds os2 ls2 ns2
+pub ready-grown : (b : Bool) (r : ℕ) (ds : List DistrictRow) (os os2 : ByDistrictView OrderRow) (ls ls2 : ByDistrictView OrderLineRow) (ns ns2 : ByDistrictView NewOrderRow) → KeepsOwners os.owners os2.owners → KeepsOwners ls.owners ls2.owners → KeepsOwners ns.owners ns2.owners → os.room ≤ os2.room → ls.room ≤ ls2.room → ns.room ≤ ns2.room → IsReady b r ds os ls ns → IsReady b r ds os2 ls2 ns2
 ready-grown b r ds os os2 ls ls2 ns ns2 ko kl kn ro rl rn h =
     record {
       parts = (ready-kept b r ds os os2 ls ls2 ns ns2 ko kl kn h).parts;
@@ -52,7 +52,7 @@ ready-grown b r ds os os2 ls ls2 ns ns2 ko kl kn ro rl rn h =
 pub keeps-same : (old new : List DistrictKey) → new ≡ old → KeepsOwners old new
 keeps-same old new e k h = ap (λ ks. has_owner ks k) e ∙ h
 
-pub ready-updated : (b : Bool) (r : ℕ) (passes : DistrictRow → Bool) (change : DistrictRow → DistrictRow) (ds : List DistrictRow) (os : PartsView OrderRow) (ls : PartsView OrderLineRow) (ns : PartsView NewOrderRow) → ((d : DistrictRow) → district_key (change d) ≡ district_key d) → IsReady b r ds os ls ns → IsReady b r (updated passes change ds) os ls ns
+pub ready-updated : (b : Bool) (r : ℕ) (passes : DistrictRow → Bool) (change : DistrictRow → DistrictRow) (ds : List DistrictRow) (os : ByDistrictView OrderRow) (ls : ByDistrictView OrderLineRow) (ns : ByDistrictView NewOrderRow) → ((d : DistrictRow) → district_key (change d) ≡ district_key d) → IsReady b r ds os ls ns → IsReady b r (updated passes change ds) os ls ns
 ready-updated b r passes change ds os ls ns same h =
     record {
       parts = λ is. record {
@@ -64,7 +64,7 @@ ready-updated b r passes change ds os ls ns same h =
       room = h.room;
     }
 
-pub ready-none : (ds : List DistrictRow) (os : PartsView OrderRow) (ls : PartsView OrderLineRow) (ns : PartsView NewOrderRow) → IsReady false 0 ds os ls ns
+pub ready-none : (ds : List DistrictRow) (os : ByDistrictView OrderRow) (ls : ByDistrictView OrderLineRow) (ns : ByDistrictView NewOrderRow) → IsReady false 0 ds os ls ns
 ready-none ds os ls ns = record { parts = λ is. cc; opened = λ lt. absurd (omega (arith, lt)); room = λ lt. absurd (omega (arith, lt)) }
 
 -- a district that is there has its part
@@ -83,11 +83,11 @@ open-found owners passes [] d h e = cc
 open-found owners passes (x ∷ ds) d h e = found_step owners passes x ds d (passes x) refl h e (open-found owners passes ds d)
 
 -- an order for which there is room finds its parts
-pub parted : (b : Bool) (r n : ℕ) (ds : List DistrictRow) (os : PartsView OrderRow) (ls : PartsView OrderLineRow) (ns : PartsView NewOrderRow) → IsReady b r ds os ls ns → n < r → IsOpen ds os ls ns
+pub parted : (b : Bool) (r n : ℕ) (ds : List DistrictRow) (os : ByDistrictView OrderRow) (ls : ByDistrictView OrderLineRow) (ns : ByDistrictView NewOrderRow) → IsReady b r ds os ls ns → n < r → IsOpen ds os ls ns
 parted b r n ds os ls ns h lt = h.parts (h.opened (omega (arith, lt)))
 
 -- one more district has its part
-pub opening-more : {T : Type 0} (old now new : PartsView T) (ds : List DistrictRow) (n : ℕ) (d : DistrictRow) → IsOpening old now ds n → n < length ds → d ≡ get_or ds n d → new.rows ≡ now.rows → new.room ≡ now.room → KeepsOwners now.owners new.owners → has_owner new.owners (district_key d) ≡ true → IsOpening old new ds (n + 1)
+pub opening-more : {T : Type 0} (old now new : ByDistrictView T) (ds : List DistrictRow) (n : ℕ) (d : DistrictRow) → IsOpening old now ds n → n < length ds → d ≡ get_or ds n d → new.rows ≡ now.rows → new.room ≡ now.room → KeepsOwners now.owners new.owners → has_owner new.owners (district_key d) ≡ true → IsOpening old new ds (n + 1)
 opening-more old now new ds n d h lt is rows room keeps has =
     record {
       kept = record { rows = rows ∙ h.kept.rows; room = room ∙ h.kept.room; owners = λ k e. keeps k (h.kept.owners k e) };

@@ -15,7 +15,7 @@ use Rattle.tpcc_rows.proofs.Booleans.{split}
 use Rattle.tpcc_laws.proofs.List.{list_all-mono}
 use Rattle.tpcc_laws.proofs.Numbers.{within}
 use Rattle.tpcc_laws.proofs.Remove.{is_rising, above-smallest}
-use Rattle.tpcc_district_rows.specs.Parts.{is_of}
+use Rattle.tpcc_storage.specs.ByDistrict.{is_of}
 
 -- of the rows that pass, a later one has a greater number
 abbrev pub Climbs : {X : Type 0} → (X → List ℕ) → (X → ℕ) → (X → Bool) → Type 0

@@ -4,12 +4,12 @@ use Rattle.std.specs.Prelude.{find, position, if◌then◌else◌, ◌==◌, ◌
 use Rattle.std.specs.List.{list_all}
 use Rattle.std.specs.Option.{option_map}
 use Rattle.tpcc_rows.specs.Lists.{updated, inserted, by_key, key_before, is_ascending}
-use Rattle.tpcc_keyed.specs.Searches.{is_same_key}
-use Rattle.tpcc_keyed.proofs.Keys.{same_keys, same_swapped, not_before_itself}
+use Rattle.tpcc_storage.specs.Searches.{is_same_key}
+use Rattle.tpcc_storage.proofs.Keys.{same_keys, same_swapped, not_before_itself}
 use Rattle.tpcc_laws.proofs.List.{list_all-map}
-use Rattle.tpcc_district_rows.proofs.Shown.{ascending-shown}
-use Rattle.tpcc_keyed.proofs.Place.{written_row, unwritten}
-use Rattle.tpcc_tables.specs.Sums.{has_key}
+use Rattle.tpcc_storage.proofs.Shown.{ascending-shown}
+use Rattle.tpcc_storage.proofs.Place.{written_row, unwritten}
+use Rattle.tpcc_tables.specs.Internal.Sums.{has_key}
 
 -- ---- the table changes
 

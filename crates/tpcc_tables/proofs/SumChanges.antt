@@ -12,10 +12,10 @@ use Rattle.tpcc_laws.proofs.List.{has_one, total-push, total-same}
 use Rattle.tpcc_laws.proofs.Insert.{total-inserted, sum_by-inserted, largest-inserted}
 use Rattle.tpcc_laws.proofs.Remove.{total-changed_one}
 use Rattle.tpcc_laws.proofs.OrderKeeps.{all_equal}
-use Rattle.tpcc_keyed.proofs.Change.{found_passes}
+use Rattle.tpcc_storage.proofs.Change.{found_passes}
 use Rattle.tpcc_tables.specs.declared.sums.Sums.{Sums}
 use Rattle.tpcc_tables.specs.Loads.{with_history}
-use Rattle.tpcc_tables.specs.Sums.{has_key, warehouse_sums_key, district_sums_key, customer_sums_key, warehouse_sums, district_sums, customer_sums, AreSums, warehouse_with_payment, district_with_payment, customer_with_payment, district_with_order, customer_with_order, customer_with_delivery, HasPaid, HasEntered, HasDelivered}
+use Rattle.tpcc_tables.specs.Internal.Sums.{has_key, warehouse_sums_key, district_sums_key, customer_sums_key, warehouse_sums, district_sums, customer_sums, AreSums, warehouse_with_payment, district_with_payment, customer_with_payment, district_with_order, customer_with_order, customer_with_delivery, HasPaid, HasEntered, HasDelivered}
 use Rattle.tpcc_tables.proofs.Sum.{map-same, updated-map, chosen, both_chosen, one_number, two_numbers, three_numbers}
 
 -- ---- a payment

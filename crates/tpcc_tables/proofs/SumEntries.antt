@@ -20,13 +20,13 @@ use Rattle.tpcc_laws.proofs.List.{filter-none}
 use Rattle.tpcc_laws.proofs.OrderKeeps.{both_equal, all_equal, by_contradiction, true_is_false}
 use Rattle.tpcc_laws.proofs.DeliveryKeeps.{some_of}
 use Rattle.tpcc_laws.proofs.Remove.{found_passes}
-use Rattle.tpcc_keyed.proofs.Change as change
+use Rattle.tpcc_storage.proofs.Change as change
 use Rattle.tpcc_tables.specs.declared.sums.Sums.{Sums}
 use Rattle.tpcc_tables.specs.declared.sums.entry.WarehouseSums.{WarehouseSums}
 use Rattle.tpcc_tables.specs.declared.sums.entry.DistrictSums.{DistrictSums}
 use Rattle.tpcc_tables.specs.declared.sums.entry.CustomerSums.{CustomerSums}
 use Rattle.tpcc_tables.specs.Loads.{find_order_line, warehouse_fault, district_fault, customer_fault, order_fault, order_line_fault, is_order_in_range}
-use Rattle.tpcc_tables.specs.Sums.{has_key, warehouse_sums_key, district_sums_key, customer_sums_key, no_warehouse_sums, no_district_sums, no_customer_sums, warehouse_sums, district_sums, customer_sums, AreSums}
+use Rattle.tpcc_tables.specs.Internal.Sums.{has_key, warehouse_sums_key, district_sums_key, customer_sums_key, no_warehouse_sums, no_district_sums, no_customer_sums, warehouse_sums, district_sums, customer_sums, AreSums}
 use Rattle.tpcc_tables.proofs.KeyTests.{warehouse_test, district_test, customer_test}
 use Rattle.tpcc_tables.proofs.Load.{customer_district, fault_none}
 use Rattle.tpcc_tables.proofs.Sum.{find-map, map-inserted}

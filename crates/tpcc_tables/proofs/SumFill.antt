@@ -12,11 +12,11 @@ use Rattle.tpcc_rows.specs.Ranges.{is_order_row}
 use Rattle.tpcc_rows.specs.Tables.{Rows, is_line_of, lines_of}
 use Rattle.tpcc_rows.specs.WellKeyed.{IsWellKeyed}
 use Rattle.tpcc_rows.specs.Conditions.{delivered_amount}
-use Rattle.tpcc_keyed.proofs.Halves.{all_at}
+use Rattle.tpcc_storage.proofs.Halves.{all_at}
 use Rattle.tpcc_tables.specs.declared.lists.Lists.{Lists}
 use Rattle.tpcc_tables.specs.declared.sums.Sums.{Sums}
-use Rattle.tpcc_tables.specs.Listed.{listed}
-use Rattle.tpcc_tables.specs.Sums.{AreSums, first_rows, HasPaid, HasEntered, CanGrow}
+use Rattle.tpcc_tables.specs.DistrictVecs.{listed}
+use Rattle.tpcc_tables.specs.Internal.Sums.{AreSums, first_rows, HasPaid, HasEntered, CanGrow}
 use Rattle.tpcc_tables.proofs.Filter.{filter-same, filter-twice}
 use Rattle.tpcc_tables.proofs.SumChanges.{paid, entered}
 use Rattle.tpcc_tables.proofs.SumRanges.{summable, summable_first, can_grow, order_lines_most}

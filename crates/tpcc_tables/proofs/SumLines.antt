@@ -10,8 +10,8 @@ use Rattle.tpcc_rows.specs.Ranges.{is_order_line_row}
 use Rattle.tpcc_rows.specs.Tables.{Rows, is_line_of, lines_of}
 use Rattle.tpcc_rows.specs.WellKeyed.{IsWellKeyed}
 use Rattle.tpcc_laws.proofs.Numbers.{is_amount}
-use Rattle.tpcc_keyed.proofs.Halves.{all_at}
-use Rattle.tpcc_tables.specs.Sums.{is_order_amount}
+use Rattle.tpcc_storage.proofs.Halves.{all_at}
+use Rattle.tpcc_tables.specs.Internal.Sums.{is_order_amount}
 use Rattle.tpcc_tables.proofs.Line.{few_lines}
 use Rattle.tpcc_tables.proofs.SumRanges.{IsUpTo, line_amount, all-filter}
 

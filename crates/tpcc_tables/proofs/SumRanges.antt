@@ -22,14 +22,15 @@ use Rattle.tpcc_rows.proofs.Booleans.{split}
 use Rattle.tpcc_rows.proofs.PrintableTexts.{list_all-take}
 use Rattle.tpcc_laws.proofs.Numbers.{amount_within, is_amount, within}
 use Rattle.tpcc_tables.specs.declared.sums.Sums.{Sums}
-use Rattle.tpcc_tables.specs.Sums.{warehouse_sums_key, district_sums_key, customer_sums_key, warehouse_sums, district_sums, customer_sums, AreSums, first_rows, is_payments_sum, is_order_amount, is_delivered_sum, is_lines_sum, CanGrow}
+use Rattle.tpcc_tables.specs.Internal.Sums.{warehouse_sums_key, district_sums_key, customer_sums_key, warehouse_sums, district_sums, customer_sums, AreSums, first_rows, is_payments_sum, is_order_amount, is_delivered_sum, is_lines_sum, CanGrow}
 use Rattle.tpcc_tables.proofs.Filter.{filter-twice}
 use Rattle.tpcc_tables.proofs.Line.{few_lines}
 use Rattle.tpcc_tables.proofs.DeliveryFacts.{line_is_paid}
 use Rattle.tpcc_tables.specs.declared.tables.Tables.TheInside.{Inside}
-use Rattle.tpcc_tables.specs.View.{rows_of, IsHeld}
+use Rattle.tpcc_tables.specs.Internal.View.{rows_of, IsHeld}
 use Rattle.tpcc_tables.proofs.Sum.{in_order, each_value}
 use Rattle.tpcc_tables.proofs.Rising.{rising, rising_count, order_rises, in_district}
+use Rattle.tpcc_rows.specs.declared.limits.TheConstants.{GREATEST_LINE_AMOUNT, GREATEST_ORDER}
 
 -- ---- sums of numbers in a range
 
@@ -69,11 +70,11 @@ sum_up_to column test most each (x ∷ xs) h =
 history_amount : (h : HistoryRow) → is_history_row h ≡ true → IsUpTo 999999 h.amount
 unfolding is_history_row
 history_amount h e =
-    let a = amount_within (pos 1) (pos 999999) h.amount (split _ (is_amount_within (pos 1) (pos 999999) h.amount) (split _ (is_text 24 h.information) e).0).1 in
+    let a = amount_within (pos 1) GREATEST_LINE_AMOUNT h.amount (split _ (is_amount_within (pos 1) GREATEST_LINE_AMOUNT h.amount) (split _ (is_text 24 h.information) e).0).1 in
     (omega (arith, ints, a), a.1)
 
 pub line_amount : (l : OrderLineRow) → is_order_line_row l ≡ true → IsUpTo 999999 l.amount
-line_amount l e = amount_within (pos 0) (pos 999999) l.amount (line_is_paid l e)
+line_amount l e = amount_within (pos 0) GREATEST_LINE_AMOUNT l.amount (line_is_paid l e)
 
 pub order_lines_most : (o : OrderRow) → is_order_row o ≡ true → o.line_count ≤ 15
 unfolding is_order_row
@@ -149,8 +150,8 @@ payments_within rows q h =
     is_amount (pos 0) (pos (2 ^ 63 * 999999)) _ t.0 (omega (arith, ints, t.1, fewer q rows.histories, h.few))
 
 -- a district or a customer has at most as many orders as there are numbers
-few_orders : (rows : Rows) (w d : ℕ) (p : OrderRow → Bool) → ((o : OrderRow) → p o ≡ true → in_district w d o ≡ true) → IsSummable rows → length (filter p rows.orders) ≤ 9999999
-few_orders rows w d p inside h = rising_count 9999999 (λ o. o.id) is_order_row order_id_most (filter p rows.orders) (all-filter is_order_row p rows.orders h.entered) (rising order_key (λ o. o.id) p (order_rises w d p inside) rows.orders h.orders)
+few_orders : (rows : Rows) (w d : ℕ) (p : OrderRow → Bool) → ((o : OrderRow) → p o ≡ true → in_district w d o ≡ true) → IsSummable rows → length (filter p rows.orders) ≤ GREATEST_ORDER
+few_orders rows w d p inside h = rising_count GREATEST_ORDER (λ o. o.id) is_order_row order_id_most (filter p rows.orders) (all-filter is_order_row p rows.orders h.entered) (rising order_key (λ o. o.id) p (order_rises w d p inside) rows.orders h.orders)
 
 lines_within : (rows : Rows) (w d : ℕ) → IsSummable rows → is_lines_sum (sum_by (λ o. o.line_count) (orders_in rows w d)) ≡ true
 lines_within rows w d h =
@@ -158,7 +159,7 @@ lines_within rows w d h =
     let few = few_orders rows w d (in_district w d) (λ o e. e) h in
     small (length (orders_in rows w d)) (sum_by (λ o. o.line_count) (orders_in rows w d)) few most
   where
-    small : (n s : ℕ) → n ≤ 9999999 → s ≤ n * 15 → nat_le s (9999999 * 15) ≡ true
+    small : (n s : ℕ) → n ≤ GREATEST_ORDER → s ≤ n * 15 → nat_le s (GREATEST_ORDER * 15) ≡ true
     small n s h k = grind (arith, nat_tests)
 
 customer_in : (w d c : ℕ) (o : OrderRow) → is_order_of w d c o ≡ true → in_district w d o ≡ true
@@ -168,7 +169,7 @@ delivered_within : (rows : Rows) (w d c : ℕ) → IsSummable rows → is_delive
 delivered_within rows w d c h =
     let t = total_up_to (delivered_amount rows) is_order_row (15 * 999999) (λ o _. amount_within (pos 0) (pos (15 * 999999)) (delivered_amount rows o) (h.delivered o)) (orders_of rows w d c) (all-filter is_order_row (is_order_of w d c) rows.orders h.entered) in
     let few = few_orders rows w d (is_order_of w d c) (customer_in w d c) h in
-    is_amount (pos 0) (pos (9999999 * (15 * 999999))) _ t.0 (omega (arith, ints, t.1, few))
+    is_amount (pos 0) (pos (GREATEST_ORDER * (15 * 999999))) _ t.0 (omega (arith, ints, t.1, few))
 
 pub can_grow : (rows : Rows) (s : Sums) → IsSummable rows → AreSums rows s → CanGrow s
 can_grow rows s h are =

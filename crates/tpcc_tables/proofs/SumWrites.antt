@@ -25,8 +25,8 @@ use Rattle.tpcc_laws.proofs.OrderKeeps.{both_equal, all_equal, by_contradiction,
 use Rattle.tpcc_laws.proofs.DeliveryKeeps.{with_carrier, with_delivery_date}
 use Rattle.tpcc_tables.specs.declared.sums.Sums.{Sums}
 use Rattle.tpcc_tables.specs.Loads.{with_history, with_order, with_order_line}
-use Rattle.tpcc_tables.specs.Sums.{warehouse_sums, district_sums, customer_sums, AreSums, HasEntered, HasDelivered}
-use Rattle.tpcc_tables.specs.Writes.{with_payment, with_entered_order, richer_warehouse, richer_district, charged_customer, IsOrder}
+use Rattle.tpcc_tables.specs.Internal.Sums.{warehouse_sums, district_sums, customer_sums, AreSums, HasEntered, HasDelivered}
+use Rattle.tpcc_tables.specs.Writes.{with_payment, with_entered_order, richer_warehouse, richer_district, customer_after_payment, IsOrder}
 use Rattle.tpcc_tables.proofs.Filter.{filter-twice}
 use Rattle.tpcc_tables.proofs.KeyTests.{orders_apart}
 use Rattle.tpcc_tables.proofs.Sum as sum
@@ -43,7 +43,7 @@ paid_rows rows h information s are =
     record {
       warehouses = are.warehouses ∙ sym (sum.map-updated_same (λ w. warehouse_sums (with_history rows h) w.id) (is_warehouse h.warehouse) (richer_warehouse h.amount) (λ w. refl) rows.warehouses);
       districts = are.districts ∙ sym (sum.map-updated_same (λ d. district_sums (with_history rows h) d.warehouse d.id) (is_district h.warehouse h.district) (richer_district h.amount) (λ d. refl) rows.districts);
-      customers = are.customers ∙ sym (sum.map-updated_same (λ c. customer_sums (with_history rows h) c.warehouse c.district c.id) (is_customer h.customer_warehouse h.customer_district h.customer) (charged_customer h.amount information) (λ c. refl) rows.customers);
+      customers = are.customers ∙ sym (sum.map-updated_same (λ c. customer_sums (with_history rows h) c.warehouse c.district c.id) (is_customer h.customer_warehouse h.customer_district h.customer) (customer_after_payment h.amount information) (λ c. refl) rows.customers);
     }
 
 pub entered_rows : (rows : Rows) (o : OrderRow) (lines : List OrderLineRow) (s : Sums) → AreSums (with_lines (with_order rows o) (inserted_all (by_key order_line_key) lines rows.order_lines)) s → AreSums (with_entered_order rows o lines) s

@@ -15,9 +15,9 @@ use Rattle.tpcc_laws.proofs.List.{ascending-updated, list_all-updated, list_all-
 use Rattle.tpcc_laws.proofs.Body.{lines_one_by_one}
 use Rattle.tpcc_rows.proofs.Booleans.{split, both_true}
 use Rattle.tpcc_laws.proofs.Numbers.{within}
-use Rattle.tpcc_keyed.specs.Searches.{is_same_key}
+use Rattle.tpcc_storage.specs.Searches.{is_same_key}
 use Rattle.tpcc_tables.specs.Writes.{line_of}
-use Rattle.tpcc_tables.specs.Supplies.{is_supplied_by, HasRoomFor, is_near}
+use Rattle.tpcc_tables.specs.Internal.Supplies.{is_supplied_by, HasRoomFor, is_near}
 
 -- the STOCK row of a line has its key
 pub supply_test : (l : Line) (s : StockRow) → is_same_key (stock_key s) (l.supply ∷ l.item ∷ []) ≡ is_supplied_by l s

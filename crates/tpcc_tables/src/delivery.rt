@@ -9,19 +9,18 @@ ghost use Rattle.tpcc_rows.specs.Lists.{updated, is_ascending};
 ghost use Rattle.tpcc_rows.specs.Tables.{is_customer, is_new_order, is_order, no_order, customer_key, new_order_key, order_key};
 ghost use Rattle.tpcc_rows.specs.Ranges.{is_order_line_row};
 ghost use Rattle.tpcc_rows.specs.Delivery.{delivered_customer};
-ghost use Rattle.tpcc_tables.specs.Sums.{is_order_amount};
+ghost use Rattle.tpcc_tables.specs.Internal.Sums.{is_order_amount};
 ghost use Rattle.tpcc_tables.specs.Writes.{IsCreditable};
 
 use crate::find;
-use tpcc_district_rows::{Listed, NewOrders};
-use tpcc_keyed::{KeyedRows, RowChange};
 use tpcc_money::Cents;
 use tpcc_rows::{
     CustomerKey, CustomerRow, NewOrderKey, NewOrderRow, OrderKey, OrderLineRow, OrderRow,
 };
+use tpcc_storage::{DistrictVecs, KeyedRows, PendingOrders, RowChange};
 
 /// The customer of an order, or 0, which no customer has, where there is no such order.
-pub fn customer_of(rows: &Listed<OrderRow>, warehouse: u32, district: u32, order: u32) -> u32
+pub fn customer_of(rows: &DistrictVecs<OrderRow>, warehouse: u32, district: u32, order: u32) -> u32
     requires keyed { is_ascending order_key rows.now.rows ≡ true }
     ensures { result
         ≡ (unwrap_or (find (is_order warehouse district order) rows.now.rows) no_order).customer }
@@ -72,7 +71,7 @@ pub fn amount_where(lines: &[OrderLineRow], delivered: bool) -> Cents
 }
 
 /// The NEW-ORDER row of an order, removed.
-pub fn remove_new_order(rows: &mut NewOrders, warehouse: u32, district: u32, order: u32)
+pub fn remove_new_order(rows: &mut PendingOrders, warehouse: u32, district: u32, order: u32)
     requires keyed { is_ascending new_order_key rows.old.rows ≡ true }
     ensures removed { rows.new.rows
         ≡ filter (λ n. not (is_new_order warehouse district order n)) rows.old.rows }
@@ -87,7 +86,13 @@ pub fn remove_new_order(rows: &mut NewOrders, warehouse: u32, district: u32, ord
 }
 
 /// The carrier of an order, set.
-pub fn carry(rows: &mut Listed<OrderRow>, warehouse: u32, district: u32, order: u32, carrier: u32)
+pub fn carry(
+    rows: &mut DistrictVecs<OrderRow>,
+    warehouse: u32,
+    district: u32,
+    order: u32,
+    carrier: u32,
+)
     requires keyed { is_ascending order_key rows.old.rows ≡ true }
     ensures rows { rows.new.rows ≡ updated (is_order warehouse district order)
         (λ o. record o { carrier = Some carrier }) rows.old.rows }
@@ -107,11 +112,11 @@ pub fn carry(rows: &mut Listed<OrderRow>, warehouse: u32, district: u32, order: 
 
 /// What a delivered order adds to its customer's balance.
 #[derive(Drop)]
-struct Credit {
+struct DeliveredAmount {
     amount: Cents,
 }
 
-impl RowChange<CustomerRow> for Credit {
+impl RowChange<CustomerRow> for DeliveredAmount {
     ghost changed = { λ credit. delivered_customer credit.amount };
 
     ghost fits = { λ credit. IsCreditable credit.amount };
@@ -144,5 +149,5 @@ pub fn charge(
         district,
         customer,
     };
-    rows.change(&key, &Credit { amount });
+    rows.change(&key, &DeliveredAmount { amount });
 }

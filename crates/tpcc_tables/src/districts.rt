@@ -3,11 +3,11 @@ ghost use Rattle.std.specs.Prelude.{◌≡◌, ◌==◌, ◌&&◌, filter, lengt
 ghost use Rattle.tpcc_rows.specs.Lists.{largest, smallest, is_ascending};
 ghost use Rattle.tpcc_rows.specs.Tables.{new_order_key, order_key};
 
-use tpcc_district_rows::{Listed, NewOrders};
 use tpcc_rows::{DistrictKey, NewOrderRow, OrderLineRow, OrderRow};
+use tpcc_storage::{DistrictVecs, PendingOrders};
 
 /// The ORDER rows of a district.
-pub fn orders(rows: &Listed<OrderRow>, warehouse: u32, district: u32) -> &[OrderRow]
+pub fn orders(rows: &DistrictVecs<OrderRow>, warehouse: u32, district: u32) -> &[OrderRow]
     ensures { result.now
         ≡ filter (λ o. (o.warehouse == warehouse) && (o.district == district)) rows.now.rows }
 {
@@ -18,7 +18,7 @@ pub fn orders(rows: &Listed<OrderRow>, warehouse: u32, district: u32) -> &[Order
 }
 
 /// The ORDER-LINE rows of a district.
-pub fn lines(rows: &Listed<OrderLineRow>, warehouse: u32, district: u32) -> &[OrderLineRow]
+pub fn lines(rows: &DistrictVecs<OrderLineRow>, warehouse: u32, district: u32) -> &[OrderLineRow]
     ensures { result.now
         ≡ filter (λ l. (l.warehouse == warehouse) && (l.district == district)) rows.now.rows }
 {
@@ -29,7 +29,7 @@ pub fn lines(rows: &Listed<OrderLineRow>, warehouse: u32, district: u32) -> &[Or
 }
 
 /// How many NEW-ORDER rows a district has.
-pub fn count_new(rows: &NewOrders, warehouse: u32, district: u32) -> usize
+pub fn count_new(rows: &PendingOrders, warehouse: u32, district: u32) -> usize
     ensures { result ≡ length
         (filter (λ n. (n.warehouse == warehouse) && (n.district == district)) rows.now.rows) }
 {
@@ -40,7 +40,7 @@ pub fn count_new(rows: &NewOrders, warehouse: u32, district: u32) -> usize
 }
 
 /// The NEW-ORDER row of a district at a place, from 0, in the order of numbers.
-fn nth_new(rows: &NewOrders, warehouse: u32, district: u32, place: usize) -> Option<NewOrderRow>
+fn nth_new(rows: &PendingOrders, warehouse: u32, district: u32, place: usize) -> Option<NewOrderRow>
     ensures { result ≡ slice_get
         (filter (λ n. (n.warehouse == warehouse) && (n.district == district)) rows.now.rows) place }
 {
@@ -52,7 +52,7 @@ fn nth_new(rows: &NewOrders, warehouse: u32, district: u32, place: usize) -> Opt
 }
 
 /// The largest O_ID of a district.
-pub fn newest_order(rows: &Listed<OrderRow>, warehouse: u32, district: u32) -> Option<u32>
+pub fn newest_order(rows: &DistrictVecs<OrderRow>, warehouse: u32, district: u32) -> Option<u32>
     requires keyed { is_ascending order_key rows.now.rows ≡ true }
     ensures { result ≡ largest (map (λ o. o.id)
         (filter (λ o. (o.warehouse == warehouse) && (o.district == district)) rows.now.rows)) }
@@ -64,7 +64,7 @@ pub fn newest_order(rows: &Listed<OrderRow>, warehouse: u32, district: u32) -> O
 }
 
 /// The largest NO_O_ID of a district.
-pub fn newest_new(rows: &NewOrders, warehouse: u32, district: u32) -> Option<u32>
+pub fn newest_new(rows: &PendingOrders, warehouse: u32, district: u32) -> Option<u32>
     requires keyed { is_ascending new_order_key rows.now.rows ≡ true }
     ensures { result ≡ largest (map (λ n. n.order)
         (filter (λ n. (n.warehouse == warehouse) && (n.district == district)) rows.now.rows)) }
@@ -77,7 +77,7 @@ pub fn newest_new(rows: &NewOrders, warehouse: u32, district: u32) -> Option<u32
 }
 
 /// The smallest NO_O_ID of a district.
-pub fn oldest_new(rows: &NewOrders, warehouse: u32, district: u32) -> Option<u32>
+pub fn oldest_new(rows: &PendingOrders, warehouse: u32, district: u32) -> Option<u32>
     requires keyed { is_ascending new_order_key rows.now.rows ≡ true }
     ensures { result ≡ smallest (map (λ n. n.order)
         (filter (λ n. (n.warehouse == warehouse) && (n.district == district)) rows.now.rows)) }

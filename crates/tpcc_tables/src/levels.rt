@@ -5,8 +5,8 @@ ghost use Rattle.tpcc_rows.specs.Lists.{distinct, is_ascending};
 ghost use Rattle.tpcc_rows.specs.Tables.{is_stock, stock_key};
 
 use crate::find;
-use tpcc_keyed::KeyedRows;
 use tpcc_rows::{OrderLineRow, StockRow};
+use tpcc_storage::KeyedRows;
 
 /// Whether an item's stock in a warehouse is below a threshold.
 fn is_short(stocks: &KeyedRows<StockRow>, warehouse: u32, threshold: u32, item: u32) -> bool

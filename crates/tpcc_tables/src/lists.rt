@@ -1,11 +1,10 @@
 //! Nine lists of rows that stand ready to be tables.
 
-use tpcc_district_rows::{Listed, NewOrders};
-use tpcc_keyed::KeyedRows;
 use tpcc_rows::{
     CustomerRow, DistrictRow, HistoryRow, ItemRow, NewOrderRow, OrderLineRow, OrderRow, StockRow,
     WarehouseRow,
 };
+use tpcc_storage::{DistrictVecs, KeyedRows, PendingOrders};
 
 /// The rows of each table, in ascending key order; those of orders in parts of their districts.
 #[derive(Drop)]
@@ -19,11 +18,11 @@ pub struct Lists {
     /// HISTORY, whose rows have no key: in the order of appending.
     pub histories: Vec<HistoryRow>,
     /// ORDER.
-    pub orders: Listed<OrderRow>,
+    pub orders: DistrictVecs<OrderRow>,
     /// ORDER-LINE.
-    pub order_lines: Listed<OrderLineRow>,
+    pub order_lines: DistrictVecs<OrderLineRow>,
     /// NEW-ORDER.
-    pub new_orders: NewOrders,
+    pub new_orders: PendingOrders,
     /// ITEM.
     pub items: KeyedRows<ItemRow>,
     /// STOCK.

@@ -5,14 +5,14 @@ ghost use Rattle.tpcc_rows.specs.Lists.{updated, is_ascending};
 ghost use Rattle.tpcc_rows.specs.Tables.{is_district, district_key};
 ghost use Rattle.tpcc_rows.specs.NewOrder.{with_next_order};
 
-use tpcc_keyed::{KeyedRows, RowChange};
 use tpcc_rows::{DistrictKey, DistrictRow};
+use tpcc_storage::{KeyedRows, RowChange};
 
 /// D_NEXT_O_ID raised by one.
 #[derive(Drop)]
-struct Rise;
+struct NextOrderNumber;
 
-impl RowChange<DistrictRow> for Rise {
+impl RowChange<DistrictRow> for NextOrderNumber {
     ghost changed = { λ rise. with_next_order };
 
     ghost fits = { λ rise d. d.next_order + 1 < 2 ^ 32 };
@@ -36,5 +36,5 @@ pub fn raise_next_order(rows: &mut KeyedRows<DistrictRow>, warehouse: u32, distr
         warehouse,
         district,
     };
-    rows.change(&key, &Rise);
+    rows.change(&key, &NextOrderNumber);
 }

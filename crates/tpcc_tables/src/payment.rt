@@ -6,22 +6,22 @@ ghost use Rattle.tpcc_rows.specs.declared.rows.DistrictRow.{DistrictRow};
 ghost use Rattle.tpcc_rows.specs.declared.rows.CustomerRow.{CustomerRow};
 ghost use Rattle.tpcc_rows.specs.Lists.{updated, is_ascending};
 ghost use Rattle.tpcc_rows.specs.Tables.{is_warehouse, is_district, is_customer, warehouse_key, district_key, customer_key};
-ghost use Rattle.tpcc_tables.specs.Writes.{richer_warehouse, richer_district, charged_customer, IsChargeable};
+ghost use Rattle.tpcc_tables.specs.Writes.{richer_warehouse, richer_district, customer_after_payment, IsPayable};
 
-use tpcc_keyed::{KeyedRows, RowChange};
 use tpcc_money::Cents;
 use tpcc_rows::{
     CustomerKey, CustomerRow, DistrictKey, DistrictRow, HistoryRow, Text, WarehouseKey,
     WarehouseRow,
 };
+use tpcc_storage::{KeyedRows, RowChange};
 
 /// What is paid into a warehouse and a district.
 #[derive(Drop)]
-struct Receipt {
+struct PaidAmount {
     amount: Cents,
 }
 
-impl RowChange<WarehouseRow> for Receipt {
+impl RowChange<WarehouseRow> for PaidAmount {
     ghost changed = { λ receipt. richer_warehouse receipt.amount };
 
     ghost fits = { λ receipt w. FitsSigned w64 (w.ytd +ℤ receipt.amount) };
@@ -33,7 +33,7 @@ impl RowChange<WarehouseRow> for Receipt {
     }
 }
 
-impl RowChange<DistrictRow> for Receipt {
+impl RowChange<DistrictRow> for PaidAmount {
     ghost changed = { λ receipt. richer_district receipt.amount };
 
     ghost fits = { λ receipt d. FitsSigned w64 (d.ytd +ℤ receipt.amount) };
@@ -53,7 +53,7 @@ pub fn pay_warehouse(rows: &mut KeyedRows<WarehouseRow>, warehouse: u32, amount:
     ensures { rows.new.items
         ≡ updated (is_warehouse warehouse) (richer_warehouse amount) rows.old.items }
 {
-    rows.change(&WarehouseKey { warehouse }, &Receipt { amount });
+    rows.change(&WarehouseKey { warehouse }, &PaidAmount { amount });
 }
 
 /// D_YTD rises by an amount.
@@ -68,20 +68,20 @@ pub fn pay_district(rows: &mut KeyedRows<DistrictRow>, warehouse: u32, district:
         warehouse,
         district,
     };
-    rows.change(&key, &Receipt { amount });
+    rows.change(&key, &PaidAmount { amount });
 }
 
 /// What a customer pays, with C_DATA where it changes.
 #[derive(Drop)]
-struct Charge {
+struct CustomerPayment {
     amount: Cents,
     information: Option<Text<500>>,
 }
 
-impl RowChange<CustomerRow> for Charge {
-    ghost changed = { λ charge. charged_customer charge.amount charge.information };
+impl RowChange<CustomerRow> for CustomerPayment {
+    ghost changed = { λ charge. customer_after_payment charge.amount charge.information };
 
-    ghost fits = { λ charge. IsChargeable charge.amount };
+    ghost fits = { λ charge. IsPayable charge.amount };
 
     ghost keeps_key = { λ charge c. refl };
 
@@ -109,16 +109,16 @@ pub fn pay_customer(
 )
     requires keyed { is_ascending customer_key rows.old.items ≡ true }
     requires fits { (c : CustomerRow) → find (is_customer warehouse district customer)
-        rows.old.items ≡ Some c → IsChargeable amount c }
+        rows.old.items ≡ Some c → IsPayable amount c }
     ensures { rows.new.items ≡ updated (is_customer warehouse district customer)
-        (charged_customer amount information) rows.old.items }
+        (customer_after_payment amount information) rows.old.items }
 {
     let key = CustomerKey {
         warehouse,
         district,
         customer,
     };
-    let charge = Charge {
+    let charge = CustomerPayment {
         amount,
         information,
     };

@@ -4,10 +4,11 @@ ghost use Rattle.std.specs.Prelude.{ℕ, ℤ};
 ghost use Rattle.std.specs.List.{list_all};
 ghost use Rattle.tpcc_rows.specs.Ranges as ranges;
 
-use tpcc_money::{Cents, Moment, Rate};
+use tpcc_money::{Cents, GREATEST_PRICE, Moment, Rate};
 use tpcc_rows::limits::{
-    GREATEST_CARRIER, GREATEST_COUNT, GREATEST_CUSTOMER, GREATEST_DISTRICT, GREATEST_ITEM,
-    GREATEST_ORDER, GREATEST_STOCK_YTD, GREATEST_TOTAL, GREATEST_WAREHOUSE,
+    GREATEST_CARRIER, GREATEST_COUNT, GREATEST_CUSTOMER, GREATEST_DISTRICT, GREATEST_IMAGE,
+    GREATEST_ITEM, GREATEST_LINE_AMOUNT, GREATEST_ORDER, GREATEST_STOCK_YTD, GREATEST_TOTAL,
+    GREATEST_WAREHOUSE,
 };
 use tpcc_rows::{
     Address, CustomerRow, DistrictRow, HistoryRow, ItemRow, NewOrderRow, OrderLineRow, OrderRow,
@@ -187,7 +188,7 @@ pub fn is_history_row(row: &HistoryRow) -> bool
         && is_district_id(row.district)
         && is_warehouse_id(row.warehouse)
         && is_moment(row.date)
-        && is_amount_within(1, 999_999, row.amount)
+        && is_amount_within(1, GREATEST_LINE_AMOUNT, row.amount)
         && is_text(24, &row.information)
 }
 
@@ -218,7 +219,7 @@ pub fn is_order_line_row(row: &OrderLineRow) -> bool
         && is_warehouse_id(row.supply)
         && is_moment_or_null(row.delivered)
         && is_within(1, 10, row.quantity)
-        && is_amount_within(0, 999_999, row.amount)
+        && is_amount_within(0, GREATEST_LINE_AMOUNT, row.amount)
         && is_exact_text(24, &row.district_information)
 }
 
@@ -236,9 +237,9 @@ pub fn is_item_row(row: &ItemRow) -> bool
     ensures { result ≡ ranges.is_item_row row.now }
 {
     is_item_id(row.id)
-        && is_within(1, 10_000, row.image)
+        && is_within(1, GREATEST_IMAGE, row.image)
         && is_text(24, &row.name)
-        && is_amount_within(1, 99_999, row.price)
+        && is_amount_within(1, GREATEST_PRICE, row.price)
         && is_text(50, &row.information)
 }
 

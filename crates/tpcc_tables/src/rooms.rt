@@ -1,14 +1,13 @@
 //! Room for the rows of orders to come.
 ghost use Rattle.std.specs.Prelude.{◌≡◌, ◌≤◌, OnOk, true};
-ghost use Rattle.tpcc_tables.specs.Ready.{is_open, IsKept, IsOpen};
+ghost use Rattle.tpcc_tables.specs.Internal.Ready.{is_open, IsKept, IsOpen};
 
-use tpcc_district_rows::{Listed, NewOrders, Owned, Parts, Store};
-use tpcc_money::NoMemory;
-use tpcc_rows::{DistrictKey, DistrictRow, OrderLineRow, OrderRow};
+use tpcc_rows::{DistrictKey, DistrictRow, NoMemory, OrderLineRow, OrderRow};
+use tpcc_storage::{ByDistrict, DistrictVecs, InDistrict, PendingOrders, Store};
 
 // A part for each of the districts.
-fn open_all<T: Owned, S: Store<T>>(
-    parts: &mut Parts<T, S>,
+fn open_all<T: InDistrict, S: Store<T>>(
+    parts: &mut ByDistrict<T, S>,
     districts: &[DistrictRow],
 ) -> Result<(), NoMemory>
     ensures kept { IsKept parts.old parts.new }
@@ -25,9 +24,9 @@ fn open_all<T: Owned, S: Store<T>>(
 
 /// A part of each of the three tables for each of the districts. A refused growth leaves the rows and their room as they were.
 pub fn open(
-    orders: &mut Listed<OrderRow>,
-    lines: &mut Listed<OrderLineRow>,
-    news: &mut NewOrders,
+    orders: &mut DistrictVecs<OrderRow>,
+    lines: &mut DistrictVecs<OrderLineRow>,
+    news: &mut PendingOrders,
     districts: &[DistrictRow],
 ) -> Result<(), NoMemory>
     ensures orders { IsKept orders.old orders.new }
@@ -42,8 +41,8 @@ pub fn open(
 
 /// Room for so many rows more in each part. Where there is less, room is made for many orders at
 /// once, since each part has to grow.
-pub fn make<T: Owned, S: Store<T>>(
-    parts: &mut Parts<T, S>,
+pub fn make<T: InDistrict, S: Store<T>>(
+    parts: &mut ByDistrict<T, S>,
     wanted: usize,
     spare: usize,
 ) -> Result<(), NoMemory>

@@ -1,6 +1,6 @@
 //! What the consistency conditions (3.3.2) add up, kept beside the rows.
 ghost use Rattle.std.specs.Prelude.{◌≡◌, ◌≤◌, true, []};
-ghost use Rattle.tpcc_tables.specs.Sums.{CanGrow, HasPaid, HasEntered, HasDelivered, is_order_amount};
+ghost use Rattle.tpcc_tables.specs.Internal.Sums.{CanGrow, HasPaid, HasEntered, HasDelivered, is_order_amount};
 
 mod count;
 pub mod entry;

@@ -7,10 +7,10 @@ ghost use Rattle.tpcc_rows.specs.Ranges.{is_within};
 ghost use Rattle.tpcc_rows.specs.Tables.{stock_key};
 ghost use Rattle.tpcc_rows.specs.NewOrder.{quantity_after, stock_after_line, stock_after};
 ghost use Rattle.tpcc_tables.specs.Writes.{line_of};
-ghost use Rattle.tpcc_tables.specs.Supplies.{is_supplied_by, IsSuppliable, HasRoomFor, is_near};
+ghost use Rattle.tpcc_tables.specs.Internal.Supplies.{is_supplied_by, IsSuppliable, HasRoomFor, is_near};
 
-use tpcc_keyed::{KeyedRows, RowChange};
 use tpcc_rows::{OrderLineRow, StockKey, StockRow};
+use tpcc_storage::{KeyedRows, RowChange};
 
 /// S_QUANTITY after a line: 91 more where fewer than 10 would be left.
 fn quantity_after(stock: u32, quantity: u32) -> u32

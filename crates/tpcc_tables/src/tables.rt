@@ -21,13 +21,12 @@ use crate::sums::Sums;
 use crate::{delivery, districts, find, levels};
 use std::alloc::Global;
 use std::marker::Model;
-use tpcc_district_rows::{Listed, NewOrders, Parts};
-use tpcc_keyed::{KeyedRows, Names};
 use tpcc_money::Cents;
 use tpcc_rows::{
     CustomerRow, DistrictRow, Few, HistoryRow, ItemRow, NewOrderRow, OrderLineRow, OrderRow,
-    StockRow, WarehouseRow,
+    StockRow, WarehouseRow, recall,
 };
+use tpcc_storage::{ByDistrict, DistrictVecs, KeyedRows, Names, PendingOrders};
 
 /// The nine tables (1.3), whose rows are always well-keyed: keys ascend, parents exist, and all columns are in their
 /// ranges. It is seen as its rows, and the room that was made for one more payment and one more order.
@@ -43,11 +42,11 @@ pub struct Tables {
     /// HISTORY, the oldest first.
     histories: Vec<HistoryRow>,
     /// ORDER, a part for each district.
-    orders: Listed<OrderRow>,
+    orders: DistrictVecs<OrderRow>,
     /// ORDER-LINE, a part for each district.
-    order_lines: Listed<OrderLineRow>,
+    order_lines: DistrictVecs<OrderLineRow>,
     /// NEW-ORDER, a part for each district.
-    new_orders: NewOrders,
+    new_orders: PendingOrders,
     /// ITEM.
     items: KeyedRows<ItemRow>,
     /// STOCK.
@@ -89,7 +88,7 @@ impl Model for Tables {
 
     ghost Value = { Held };
 
-    ghost use Rattle.tpcc_tables.specs.View.{held, IsHeld};
+    ghost use Rattle.tpcc_tables.specs.Internal.View.{held, IsHeld};
 
     ghost view = { held };
 
@@ -117,9 +116,9 @@ impl Tables {
             customers: KeyedRows::new(alloc),
             names: Names::new(alloc),
             histories: Vec::new(alloc),
-            orders: Parts::new(alloc),
-            order_lines: Parts::new(alloc),
-            new_orders: Parts::new(alloc),
+            orders: ByDistrict::new(alloc),
+            order_lines: ByDistrict::new(alloc),
+            new_orders: ByDistrict::new(alloc),
             items: KeyedRows::new(alloc),
             stocks: KeyedRows::new(alloc),
             sums: Sums::empty(alloc),
@@ -133,7 +132,8 @@ impl Tables {
     pub fn well_keyed(&self)
         ensures { IsWellKeyed self.now.rows }
     {
-        let _warehouses = &self.warehouses;
+        // For the proof: the invariant of the tables.
+        recall!(&self.warehouses);
     }
 
     /// The WAREHOUSE row of a key.

@@ -10,11 +10,11 @@ use Rattle.tpcc_rows.specs.declared.requests.Request.{Request}
 use Rattle.tpcc_rows.specs.declared.replies.Reply.{Reply}
 use Rattle.tpcc_rows.specs.declared.refusals.Refusal.{Refusal}
 use Rattle.tpcc_rows.specs.Replay.{paid_by_request}
-use Rattle.tpcc_turns.specs.Past.{Past}
-use Rattle.tpcc_turns.specs.Purses.{PurseView}
-use Rattle.tpcc_turns.specs.AnswerView.{AnswerView}
-use Rattle.tpcc_turns.specs.Turn.{Accepts, Refuses, entry_of}
-use Rattle.tpcc_turns.specs.Serve.{IsServed, purse_after}
+use Rattle.tpcc_book.specs.Past.{Past}
+use Rattle.tpcc_book.specs.Purses.{PurseView}
+use Rattle.tpcc_book.specs.AnswerView.{AnswerView}
+use Rattle.tpcc_book.specs.Turn.{Accepts, Refuses, entry_of}
+use Rattle.tpcc_book.specs.Serve.{IsServed, purse_after}
 use Rattle.tpcc_turns.specs.Seats.{SeatedView, IsTurned, by_purse}
 use Rattle.tpcc_terminal.specs.declared.receipts.Receipt.{Receipt}
 use Rattle.tpcc_terminal.specs.Receipts.{receipts_at, receipts_of, entry_of_receipt, Stands, AllStand}

@@ -4,8 +4,8 @@ use Rattle.tpcc_rows.specs.declared.entry.Entry.{Entry}
 use Rattle.tpcc_rows.specs.declared.requests.Request.{Request}
 use Rattle.tpcc_rows.specs.declared.replies.Reply.{Reply}
 use Rattle.tpcc_rows.specs.declared.refusals.Refusal.{Refusal}
-use Rattle.tpcc_turns.specs.Purses.{PurseView}
-use Rattle.tpcc_turns.specs.AnswerView.{AnswerView}
+use Rattle.tpcc_book.specs.Purses.{PurseView}
+use Rattle.tpcc_book.specs.AnswerView.{AnswerView}
 use Rattle.tpcc_terminal.specs.declared.receipts.Receipt.{Receipt}
 
 -- one receipt where there is a reply and its place; its number is that of the purse's last entry

@@ -4,7 +4,7 @@ ghost use Rattle.tpcc_draws.specs.Draws.{answers};
 ghost use Rattle.tpcc_terminal.specs.Terminals.{deck_to_deal, next_card};
 
 use tpcc_draws::{Card, Stream};
-use tpcc_money::NoMemory;
+use tpcc_rows::NoMemory;
 
 // Shuffles a new deck where no card is left.
 #[tactic(auto, using(crate::proofs::Decks::some_cards))]

@@ -7,8 +7,10 @@ use crate::home::Home;
 use std::alloc::Global;
 use std::marker::Model;
 use tpcc_draws::last_name;
-use tpcc_money::{Cents, Moment, NoMemory};
-use tpcc_rows::{Few, Line, Lines, Order, Payment, Request, StatusQuery, StockQuery, Ticket, Who};
+use tpcc_money::{Cents, Moment};
+use tpcc_rows::{
+    Few, Line, Lines, NoMemory, Order, Payment, Request, StatusQuery, StockQuery, Ticket, Who,
+};
 
 /// The number of a last name, less than [`LAST_NAMES`](tpcc_draws::LAST_NAMES), seen as that number.
 #[derive(Clone, Copy)]

@@ -3,11 +3,11 @@ ghost use Rattle.std.specs.Prelude.{◌≡◌, ◌++◌, List};
 ghost use mathlib.Core.List.{IsPrefix};
 ghost use Rattle.tpcc_rows.specs.declared.entry.Entry.{Entry};
 ghost use Rattle.tpcc_rows.specs.declared.requests.Request.{Request};
-ghost use Rattle.tpcc_turns.specs.Past.{Past};
-ghost use Rattle.tpcc_turns.specs.Purses.{PurseView};
-ghost use Rattle.tpcc_turns.specs.Serve.{IsServed};
+ghost use Rattle.tpcc_book.specs.Past.{Past};
+ghost use Rattle.tpcc_book.specs.Purses.{PurseView};
+ghost use Rattle.tpcc_book.specs.Serve.{IsServed};
 ghost use Rattle.tpcc_turns.specs.Seats.{SeatedView, IsTurned};
-ghost use Rattle.tpcc_turns.specs.AnswerView.{AnswerView};
+ghost use Rattle.tpcc_book.specs.AnswerView.{AnswerView};
 ghost use Rattle.tpcc_terminal.specs.declared.receipts.Receipt.{Receipt};
 ghost use Rattle.tpcc_terminal.specs.Receipts.{receipts_of, AllStand};
 

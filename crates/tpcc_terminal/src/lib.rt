@@ -23,5 +23,5 @@ mod receipts;
 mod terminal;
 
 pub use laws::{receipts_stand, receipts_stay};
-pub use receipts::{Numbered, Receipt};
+pub use receipts::{NumberedPurse, Receipt};
 pub use terminal::Terminal;

@@ -1,12 +1,12 @@
 //! Receipts of accepted requests.
 ghost use Rattle.std.specs.Prelude.{◌≡◌, ◌++◌, ◌<◌, ◌-◌, OnOk, OnErr, IfOk, vec_capacity, vec_len};
-ghost use Rattle.tpcc_turns.specs.Purses.{PurseView};
+ghost use Rattle.tpcc_book.specs.Purses.{PurseView};
 ghost use Rattle.tpcc_terminal.specs.Receipts.{receipts_of};
 
 use std::alloc::Global;
-use tpcc_money::NoMemory;
-use tpcc_rows::{Reply, Request};
-use tpcc_turns::{Answer, Naming, Purse, SeatedPurse, Seating};
+use tpcc_book::{Answer, Naming, Purse};
+use tpcc_rows::{NoMemory, Reply, Request};
+use tpcc_turns::{SeatedPurse, Seating};
 
 /// What a terminal keeps of an accepted request, to be settled with the journal at the end.
 #[derive(Drop)]
@@ -24,7 +24,7 @@ pub struct Receipt {
 }
 
 /// A purse, with a seat or without, tells its terminal and how many entries it has made.
-pub trait Numbered {
+pub trait NumberedPurse {
     /// What it is seen as without its seat.
     ghost held: { Self → PurseView };
 
@@ -37,7 +37,7 @@ pub trait Numbered {
         ensures entries { result ≡ (held self.now).entries };
 }
 
-impl<N: Naming> Numbered for Purse<N> {
+impl<N: Naming> NumberedPurse for Purse<N> {
     ghost held = { λ purse. purse };
 
     fn terminal(&self) -> u32 {
@@ -49,7 +49,7 @@ impl<N: Naming> Numbered for Purse<N> {
     }
 }
 
-impl<N: Naming, T: Seating> Numbered for SeatedPurse<N, T> {
+impl<N: Naming, T: Seating> NumberedPurse for SeatedPurse<N, T> {
     ghost held = { λ seated. seated.purse };
 
     fn terminal(&self) -> u32 {
@@ -63,7 +63,7 @@ impl<N: Naming, T: Seating> Numbered for SeatedPurse<N, T> {
 
 /// Keeps the receipt of an accepted answer; of a refused one there is none. Refused only for want of
 /// memory, with the receipts as they were.
-pub(crate) fn keep<P: Numbered>(
+pub(crate) fn keep<P: NumberedPurse>(
     receipts: &mut Vec<Receipt>,
     answer: &Answer<P>,
 ) -> Result<(), NoMemory>

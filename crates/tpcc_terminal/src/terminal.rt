@@ -7,14 +7,14 @@ use crate::deal::deal;
 use crate::drafts::Draft;
 use crate::draws::draw;
 use crate::home::Home;
-use crate::receipts::{Numbered, Receipt, keep};
+use crate::receipts::{NumberedPurse, Receipt, keep};
 use std::alloc::Global;
 use std::marker::Model;
+use tpcc_book::Answer;
 use tpcc_draws::{Card, Stream};
-use tpcc_money::{Moment, NoMemory};
+use tpcc_money::Moment;
 use tpcc_population::Scale;
-use tpcc_rows::Request;
-use tpcc_turns::Answer;
+use tpcc_rows::{NoMemory, Request};
 
 /// One terminal: it asks what its cards say, and keeps receipts of what was accepted (5.2.4.2). The
 /// draws of the next card are made ahead, so that a refused [`Terminal::next`] has changed nothing.
@@ -92,7 +92,7 @@ impl Terminal {
 
     /// Keeps the receipt of an accepted answer, by a purse with a seat or without one; of a refused
     /// one there is nothing to keep. Refused only for want of memory, and then nothing has changed.
-    pub fn note<P: Numbered>(&mut self, answer: &Answer<P>) -> Result<(), NoMemory>
+    pub fn note<P: NumberedPurse>(&mut self, answer: &Answer<P>) -> Result<(), NoMemory>
         ensures noted { OnOk result (self.new ≡ record self.old {
           receipts = self.old.receipts ++ receipts_of P.held answer.now;
         }) }

@@ -14,8 +14,8 @@ use Rattle.tpcc_turns.specs.Seats.{SeatedView, purses_of}
 use Rattle.tpcc_book.specs.Serve.{rooms_of}
 use Rattle.tpcc_book.specs.Purses.{PoolView, all_parts}
 use Rattle.tpcc_turns.specs.Closing.{TellsBook, IsLeft, IsAudited, IsGathered}
-use Rattle.tpcc_book.specs.Pooling.{AreAll}
-use Rattle.tpcc_turns.specs.Gathering.{HasSeen, AllBegin, HasJoined}
+use Rattle.tpcc_book.specs.Internal.Pooling.{AreAll}
+use Rattle.tpcc_turns.specs.Internal.Gathering.{HasSeen, AllBegin, HasJoined}
 use Rattle.tpcc_turns.specs.Knows.{Knows, Idle}
 use Rattle.tpcc_turns.specs.TurnRule.{out_of, Stands, AtHome, Away, FollowsTurnRule}
 use Rattle.tpcc_turns.proofs.Seats.{total_le}

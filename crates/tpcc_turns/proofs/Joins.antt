@@ -5,8 +5,8 @@ use mathlib.Core.List.{IsPrefix, map-append}
 use Rattle.tpcc_rows.specs.declared.entry.Entry.{Entry}
 use Rattle.tpcc_book.specs.Purses.{PoolView, pool_of, pool_with}
 use Rattle.tpcc_turns.specs.Seats.{SeatedView, view_of, purses_of}
-use Rattle.tpcc_turns.specs.Gathering.{HasSeen, AllBegin, HasJoined}
-use Rattle.tpcc_turns.specs.Shares.{both_of, heard_of}
+use Rattle.tpcc_turns.specs.Internal.Gathering.{HasSeen, AllBegin, HasJoined}
+use Rattle.tpcc_turns.specs.Internal.Shares.{both_of, heard_of}
 use Rattle.tpcc_turns.specs.Knows.{Knows}
 use Rattle.tpcc_book.proofs.Gathers.{first_pooled, one_more_pooled}
 

@@ -13,9 +13,9 @@ use Rattle.tpcc_book.specs.Purses.{PurseView}
 use Rattle.tpcc_book.specs.AnswerView.{AnswerView, answer_with}
 use Rattle.tpcc_book.specs.Serve.{IsServed}
 use Rattle.tpcc_turns.specs.Seats.{SeatedView, view_of, number_of, turn_holder, IsTurned}
-use Rattle.tpcc_turns.specs.Shares.{heard_of, both_of, back_of}
+use Rattle.tpcc_turns.specs.Internal.Shares.{heard_of, both_of, back_of}
 use Rattle.tpcc_turns.specs.TurnRule.{knows, IsHeard, HasGrown}
-use Rattle.tpcc_turns.specs.TurnSteps.{CanGive, CanShow, CanGrow, HasShown}
+use Rattle.tpcc_turns.specs.Internal.TurnSteps.{CanGive, CanShow, CanGrow, HasShown}
 use Rattle.tpcc_turns.specs.Knows.{Knows, Holds}
 use Rattle.tpcc_turns.proofs.Seats.{prefix_self}
 use Rattle.tpcc_turns.proofs.Serves.{own_of, entries_grow, head_same}

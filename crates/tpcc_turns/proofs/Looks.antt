@@ -11,7 +11,7 @@ use Rattle.tpcc_rows.specs.declared.entry.Entry.{Entry}
 use Rattle.tpcc_book.specs.Past.{Past}
 use Rattle.tpcc_turns.specs.Knows.{Knows, Stage, Out, Holds}
 use Rattle.tpcc_turns.specs.TurnRule.{knows, out_of, HasTicket, Stands, IsSeated, AtHome, Away, FollowsTurnRule, HasBook, LookStep}
-use Rattle.tpcc_turns.specs.TurnSteps.{Awaits}
+use Rattle.tpcc_turns.specs.Internal.TurnSteps.{Awaits}
 use Rattle.tpcc_turns.proofs.Seats.{total_set, total_le, each_set, apart_set, set_same, prefix_self}
 use Rattle.tpcc_population.specs.declared.opening.Opening.{Opening}
 

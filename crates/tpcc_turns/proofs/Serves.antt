@@ -8,7 +8,7 @@ use Rattle.tpcc_rows.specs.declared.entry.Entry.{Entry}
 use Rattle.tpcc_book.specs.Past.{Past}
 use Rattle.tpcc_turns.specs.Knows.{Knows, Idle, Holds}
 use Rattle.tpcc_turns.specs.TurnRule.{knows, HasBook}
-use Rattle.tpcc_turns.specs.TurnSteps.{HasDrawn, HasTaken, CanGive, CanEnd}
+use Rattle.tpcc_turns.specs.Internal.TurnSteps.{HasDrawn, HasTaken, CanGive, CanEnd}
 use Rattle.tpcc_turns.specs.Seats.{SeatedView, view_of, IsTurned}
 use Rattle.std.specs.Prelude.{Result}
 use Rattle.tpcc_rows.specs.declared.requests.Request.{Request}

@@ -11,7 +11,7 @@ use Rattle.tpcc_book.specs.Past.{Past}
 use Rattle.tpcc_book.specs.Purses.{all_parts}
 use Rattle.tpcc_turns.specs.Knows.{Knows, Stage, Heard, Idle, Out, Holds}
 use Rattle.tpcc_turns.specs.TurnRule.{knows, out_of, total, HasTicket, IsHeard, IsSeated, AtHome, Away, FollowsTurnRule, no_opening}
-use Rattle.tpcc_turns.specs.Shares.{kept_of, given_of, heard_of, both_of, nobody, last_parts, freed_of, back_of}
+use Rattle.tpcc_turns.specs.Internal.Shares.{kept_of, given_of, heard_of, both_of, nobody, last_parts, freed_of, back_of}
 use Rattle.tpcc_turns.proofs.Seats.{total_set, total_le, each_set, apart_set, set_same}
 use Rattle.tpcc_population.specs.declared.opening.Opening.{Opening}
 

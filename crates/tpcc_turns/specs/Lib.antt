@@ -1,12 +1,5 @@
 pub mod Closing
-pub mod Gathering
 pub mod Knows
 pub mod Seats
-pub mod Shares
 pub mod TurnRule
-pub mod TurnSteps
-pub use Rattle.tpcc_book.specs.AnswerView
-pub use Rattle.tpcc_book.specs.Past
-pub use Rattle.tpcc_book.specs.Purses
-pub use Rattle.tpcc_book.specs.Serve
-pub use Rattle.tpcc_book.specs.Turn
+pub mod Internal

@@ -18,5 +18,4 @@ mod pause;
 mod turns;
 
 pub use pause::Pause;
-pub use tpcc_book::{Answer, Blanks, Book, Naming, Purse, Register, Turned};
 pub use turns::{HeldTurn, SeatedPurse, Seating, Turns, UnnamedTurns};

@@ -30,7 +30,7 @@ use std::marker::{Model, PhantomData};
 use std::sync::Wait;
 use tpcc_book::{Answer, Naming, Register, Turned};
 use tpcc_population::Opening;
-use tpcc_rows::Request;
+use tpcc_rows::{Request, recall};
 pub use unnamed::UnnamedTurns;
 
 /// How often a thread looks whether the book is free before it draws a ticket all the same.
@@ -117,7 +117,8 @@ impl<N: Naming, T: Seating> Turns<N, T> {
         let board = &self.table.shared;
         let (ticket, mut book) = take(rt, board, &mut seat);
         let answer = book.serve_by(request, purse, turn);
-        let _journal = book.journal();
+        // For the proof: the book is kept.
+        recall!(book.journal());
         give(board, &mut seat, ticket, book);
         answer.carried_with(seat)
     }

@@ -7,8 +7,8 @@ use super::address::plain_address;
 use crate::layout::{TableRows, push};
 use crate::texts::{credit, numbered_text};
 use tpcc_draws::last_name;
-use tpcc_money::{Cents, Moment, NoMemory, Rate};
-use tpcc_rows::{CustomerRow, HistoryRow, Text};
+use tpcc_money::{Cents, Moment, Rate};
+use tpcc_rows::{CustomerRow, HistoryRow, NoMemory, Text};
 
 fn plain_customer(warehouse: u32, district: u32, number: u32) -> CustomerRow
     requires least { 1 ≤ number }

@@ -6,8 +6,8 @@ ghost use Rattle.tpcc_rows.specs.declared.limits.TheConstants.{GREATEST_ITEM};
 
 use crate::layout::{TableRows, push};
 use crate::texts::{district_information, numbered_text};
-use tpcc_money::{Cents, NoMemory};
-use tpcc_rows::{ItemRow, StockRow, Text};
+use tpcc_money::Cents;
+use tpcc_rows::{ItemRow, NoMemory, StockRow, Text};
 
 fn plain_item(number: u32) -> ItemRow
     requires least { 1 ≤ number }

@@ -6,8 +6,8 @@ use super::address::plain_address;
 use crate::layout::{TableRows, push};
 use crate::scale::Scale;
 use crate::texts::numbered_text;
-use tpcc_money::{Cents, NoMemory, Rate};
-use tpcc_rows::{DistrictRow, WarehouseRow};
+use tpcc_money::{Cents, Rate};
+use tpcc_rows::{DistrictRow, NoMemory, WarehouseRow};
 
 fn plain_warehouse(scale: &Scale, number: u32) -> WarehouseRow
     requires { number ≤ 100 }

@@ -7,8 +7,8 @@ ghost use Rattle.tpcc_rows.specs.declared.limits.TheConstants.{GREATEST_CUSTOMER
 use crate::layout::{TableRows, push};
 use crate::scale::Scale;
 use crate::texts::district_information;
-use tpcc_money::{Cents, Moment, NoMemory};
-use tpcc_rows::OrderLineRow;
+use tpcc_money::{Cents, Moment};
+use tpcc_rows::{NoMemory, OrderLineRow};
 
 fn plain_order_line(
     scale: &Scale,

@@ -5,8 +5,8 @@ ghost use Rattle.tpcc_rows.specs.declared.limits.TheConstants.{GREATEST_CUSTOMER
 
 use crate::layout::{TableRows, push};
 use crate::scale::Scale;
-use tpcc_money::{Moment, NoMemory};
-use tpcc_rows::OrderRow;
+use tpcc_money::Moment;
+use tpcc_rows::{NoMemory, OrderRow};
 
 fn plain_order(scale: &Scale, warehouse: u32, district: u32, number: u32) -> OrderRow
     requires { 1 ≤ number }

@@ -10,23 +10,23 @@ use super::homes::{PlainDistricts, PlainWarehouses};
 use super::lines::PlainOrderLines;
 use super::orders::PlainOrders;
 use crate::layout::{fill_by_district, fill_by_number, fill_by_warehouse};
-use crate::new_orders::NewOrders;
+use crate::new_orders::OpeningNewOrders;
 use crate::opening::plain_is_sound;
 use crate::scale::Scale;
 use std::alloc::Global;
-use tpcc_money::NoMemory;
 use tpcc_rows::{
-    CustomerRow, DistrictRow, HistoryRow, ItemRow, NewOrderRow, OrderLineRow, OrderRow, StockRow,
-    WarehouseRow,
+    CustomerRow, DistrictRow, HistoryRow, ItemRow, NewOrderRow, NoMemory, OrderLineRow, OrderRow,
+    StockRow, WarehouseRow, recall,
 };
-use tpcc_tables::KeyedRows;
+use tpcc_storage::KeyedRows;
 
 /// Each table is in the order of its key.
 #[tactic(auto, unfolding(tpcc_rows::specs::Opening::plain_rows))]
 fn is_keyed(scale: Scale)
     ensures { IsKeyed (laid_out scale (plain_rules scale)) }
 {
-    plain_is_sound(scale);
+    // For the proof: the conditions hold of the opening.
+    recall!(plain_is_sound(scale));
 }
 
 /// WAREHOUSE.
@@ -36,7 +36,8 @@ pub(crate) fn plain_warehouses(
 ) -> Result<KeyedRows<WarehouseRow>, NoMemory>
     ensures rows { IfOk result (λ v. v.items ≡ (laid_out scale (plain_rules scale)).warehouses) }
 {
-    is_keyed(scale);
+    // For the proof: the keys ascend.
+    recall!(is_keyed(scale));
     fill_by_number(alloc, &PlainWarehouses { scale }, scale.warehouses())
 }
 
@@ -47,7 +48,8 @@ pub(crate) fn plain_districts(
 ) -> Result<KeyedRows<DistrictRow>, NoMemory>
     ensures rows { IfOk result (λ v. v.items ≡ (laid_out scale (plain_rules scale)).districts) }
 {
-    is_keyed(scale);
+    // For the proof: the keys ascend.
+    recall!(is_keyed(scale));
     fill_by_warehouse(alloc, &PlainDistricts { scale }, scale.warehouses(), 10)
 }
 
@@ -58,7 +60,8 @@ pub(crate) fn plain_customers(
 ) -> Result<KeyedRows<CustomerRow>, NoMemory>
     ensures rows { IfOk result (λ v. v.items ≡ (laid_out scale (plain_rules scale)).customers) }
 {
-    is_keyed(scale);
+    // For the proof: the keys ascend.
+    recall!(is_keyed(scale));
     fill_by_district(
         alloc,
         &PlainCustomers,
@@ -113,7 +116,7 @@ pub(crate) fn plain_new_orders(alloc: Global, scale: Scale) -> Result<Vec<NewOrd
 {
     fill_by_district(
         alloc,
-        &NewOrders,
+        &OpeningNewOrders,
         scale.warehouses(),
         scale.delivered_orders() + 1,
         scale.customers() - scale.delivered_orders(),
@@ -124,7 +127,8 @@ pub(crate) fn plain_new_orders(alloc: Global, scale: Scale) -> Result<Vec<NewOrd
 pub(crate) fn plain_items(alloc: Global, scale: Scale) -> Result<KeyedRows<ItemRow>, NoMemory>
     ensures rows { IfOk result (λ v. v.items ≡ (laid_out scale (plain_rules scale)).items) }
 {
-    is_keyed(scale);
+    // For the proof: the keys ascend.
+    recall!(is_keyed(scale));
     fill_by_number(alloc, &PlainItems, scale.items())
 }
 
@@ -132,6 +136,7 @@ pub(crate) fn plain_items(alloc: Global, scale: Scale) -> Result<KeyedRows<ItemR
 pub(crate) fn plain_stocks(alloc: Global, scale: Scale) -> Result<KeyedRows<StockRow>, NoMemory>
     ensures rows { IfOk result (λ v. v.items ≡ (laid_out scale (plain_rules scale)).stocks) }
 {
-    is_keyed(scale);
+    // For the proof: the keys ascend.
+    recall!(is_keyed(scale));
     fill_by_warehouse(alloc, &PlainStocks, scale.warehouses(), scale.items())
 }

@@ -10,8 +10,8 @@ use super::numbers::number_in_districts;
 use crate::layout::{TableRows, push};
 use crate::texts::credit;
 use tpcc_draws::{Stream, last_name};
-use tpcc_money::{Cents, NoMemory, Rate};
-use tpcc_rows::{CustomerRow, HistoryRow, Text};
+use tpcc_money::{Cents, Rate};
+use tpcc_rows::{CustomerRow, HistoryRow, NoMemory, Text};
 
 #[tactic(auto, unfolding(crate::specs::Seeded::drawn_last))]
 fn drawn_last(stream: &mut Stream, number: u32) -> Text<16>

@@ -8,8 +8,8 @@ use super::Seed;
 use super::numbers::stock_number;
 use crate::layout::{TableRows, push};
 use tpcc_draws::Stream;
-use tpcc_money::{Cents, NoMemory};
-use tpcc_rows::{ItemRow, StockRow, Text};
+use tpcc_money::Cents;
+use tpcc_rows::{ItemRow, NoMemory, StockRow, Text};
 
 // The text with ORIGINAL in place of the eight bytes from a place on.
 fn with_original(text: &Text<50>, place: usize) -> Text<50>

@@ -7,8 +7,8 @@ use super::address::drawn_address;
 use super::numbers::district_number;
 use crate::layout::{TableRows, push};
 use tpcc_draws::Stream;
-use tpcc_money::{Cents, NoMemory, Rate};
-use tpcc_rows::{DistrictRow, WarehouseRow};
+use tpcc_money::{Cents, Rate};
+use tpcc_rows::{DistrictRow, NoMemory, WarehouseRow};
 
 fn seeded_warehouse(seed: &Seed, number: u32) -> WarehouseRow
     ensures { result ≡ seeded_warehouse seed.now number }

@@ -10,8 +10,8 @@ use super::numbers::number_in_districts;
 use super::orders::carrier_and_lines;
 use crate::layout::{TableRows, push};
 use tpcc_draws::Stream;
-use tpcc_money::{Cents, NoMemory};
-use tpcc_rows::OrderLineRow;
+use tpcc_money::Cents;
+use tpcc_rows::{NoMemory, OrderLineRow};
 
 // A delivered line costs nothing, and nothing is drawn for it.
 #[tactic(auto, unfolding(crate::specs::Seeded::drawn_amount))]

@@ -10,8 +10,7 @@ use super::numbers::{district_number, number_in_districts};
 use crate::layout::{TableRows, push};
 use std::alloc::Global;
 use tpcc_draws::Stream;
-use tpcc_money::NoMemory;
-use tpcc_rows::OrderRow;
+use tpcc_rows::{NoMemory, OrderRow};
 
 // A carrier where the order is delivered; else null, and nothing is drawn.
 #[tactic(auto, unfolding(crate::specs::Seeded::drawn_carrier))]

@@ -11,14 +11,13 @@ use super::lines::SeededOrderLines;
 use super::orders::SeededOrders;
 use super::{Seed, is_sound};
 use crate::layout::{fill_by_district, fill_by_number, fill_by_warehouse};
-use crate::new_orders::NewOrders;
+use crate::new_orders::OpeningNewOrders;
 use std::alloc::Global;
-use tpcc_money::NoMemory;
 use tpcc_rows::{
-    CustomerRow, DistrictRow, HistoryRow, ItemRow, NewOrderRow, OrderLineRow, OrderRow, StockRow,
-    WarehouseRow,
+    CustomerRow, DistrictRow, HistoryRow, ItemRow, NewOrderRow, NoMemory, OrderLineRow, OrderRow,
+    StockRow, WarehouseRow, recall,
 };
-use tpcc_tables::KeyedRows;
+use tpcc_storage::KeyedRows;
 
 /// Each table is in the order of its key.
 #[tactic(auto, unfolding(crate::specs::Opening::seeded_rows))]
@@ -36,7 +35,8 @@ pub(crate) fn seeded_warehouses(
     ensures rows { IfOk result
         (λ v. v.items ≡ (laid_out seed.scale (seeded_rules seed)).warehouses) }
 {
-    is_keyed(seed);
+    // For the proof: the keys ascend.
+    recall!(is_keyed(seed));
     fill_by_number(alloc, &SeededWarehouses { seed }, seed.scale.warehouses())
 }
 
@@ -48,7 +48,8 @@ pub(crate) fn seeded_districts(
     ensures rows { IfOk result
         (λ v. v.items ≡ (laid_out seed.scale (seeded_rules seed)).districts) }
 {
-    is_keyed(seed);
+    // For the proof: the keys ascend.
+    recall!(is_keyed(seed));
     fill_by_warehouse(
         alloc,
         &SeededDistricts { seed },
@@ -65,7 +66,8 @@ pub(crate) fn seeded_customers(
     ensures rows { IfOk result
         (λ v. v.items ≡ (laid_out seed.scale (seeded_rules seed)).customers) }
 {
-    is_keyed(seed);
+    // For the proof: the keys ascend.
+    recall!(is_keyed(seed));
     fill_by_district(
         alloc,
         &SeededCustomers { seed },
@@ -123,7 +125,7 @@ pub(crate) fn seeded_new_orders(alloc: Global, seed: Seed) -> Result<Vec<NewOrde
     let scale = seed.scale;
     fill_by_district(
         alloc,
-        &NewOrders,
+        &OpeningNewOrders,
         scale.warehouses(),
         scale.delivered_orders() + 1,
         scale.customers() - scale.delivered_orders(),
@@ -134,7 +136,8 @@ pub(crate) fn seeded_new_orders(alloc: Global, seed: Seed) -> Result<Vec<NewOrde
 pub(crate) fn seeded_items(alloc: Global, seed: Seed) -> Result<KeyedRows<ItemRow>, NoMemory>
     ensures rows { IfOk result (λ v. v.items ≡ (laid_out seed.scale (seeded_rules seed)).items) }
 {
-    is_keyed(seed);
+    // For the proof: the keys ascend.
+    recall!(is_keyed(seed));
     fill_by_number(alloc, &SeededItems { seed }, seed.scale.items())
 }
 
@@ -142,7 +145,8 @@ pub(crate) fn seeded_items(alloc: Global, seed: Seed) -> Result<KeyedRows<ItemRo
 pub(crate) fn seeded_stocks(alloc: Global, seed: Seed) -> Result<KeyedRows<StockRow>, NoMemory>
     ensures rows { IfOk result (λ v. v.items ≡ (laid_out seed.scale (seeded_rules seed)).stocks) }
 {
-    is_keyed(seed);
+    // For the proof: the keys ascend.
+    recall!(is_keyed(seed));
     fill_by_warehouse(
         alloc,
         &SeededStocks { seed },

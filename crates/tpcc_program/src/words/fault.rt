@@ -1,7 +1,7 @@
 //! Why words ask nothing that can be done.
 ghost use Rattle.std.specs.Prelude.{◌≡◌};
 ghost use Rattle.std.specs.Option.{option_copied};
-ghost use Rattle.tpcc_program.specs.Ranges.{range_of};
+ghost use Rattle.tpcc_program.specs.Internal.Ranges.{range_of};
 
 use thiserror::Error;
 use tpcc_population::ScaleFault;

@@ -3,8 +3,8 @@
 use clap::builder::ValueParser;
 use clap::{Arg, ArgAction, Command};
 use std::alloc::{AllocError, Global};
-use tpcc_asked::{GREATEST_TERMINAL, MOST_CARDS, MOST_SERVERS, MOST_TERMINALS};
 use tpcc_money::Moment;
+use tpcc_run::{GREATEST_TERMINAL, MOST_CARDS, MOST_SERVERS, MOST_TERMINALS};
 
 // What `--show` may ask for: the parts of a book that are no table, and behind them its tables.
 const PARTS: &[&str] = &[

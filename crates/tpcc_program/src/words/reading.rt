@@ -1,8 +1,8 @@
 //! What the words of the command line ask, and how they are read.
 ghost use Rattle.std.specs.Prelude.{◌≡◌, ◌≤◌, IfOk};
-ghost use Rattle.tpcc_program.specs.Openings.{named_opening, named_scale};
-ghost use Rattle.tpcc_program.specs.Tasks.{HasPlan};
-ghost use Rattle.tpcc_asked.specs.Plans.{IsPlan, IsService};
+ghost use Rattle.tpcc_program.specs.Internal.Openings.{named_opening, named_scale};
+ghost use Rattle.tpcc_program.specs.Internal.Tasks.{HasPlan};
+ghost use Rattle.tpcc_run.specs.Plans.{IsPlan, IsService};
 
 use crate::words::fault::WordsFault;
 use crate::words::options::program;
@@ -10,20 +10,20 @@ use clap::error::ErrorKind;
 use clap::{ArgMatches, Error};
 use std::alloc::Global;
 use std::convert::AsStr;
-use tpcc_asked::{
-    GREATEST_RETIRE, GREATEST_TERMINAL, MOST_CARDS, MOST_SERVERS, MOST_TERMINALS, Plan, Service,
-    ShownParts, part_named, table_named,
-};
 use tpcc_money::Moment;
 use tpcc_population::{Opening, Scale};
 use tpcc_rows::Table;
+use tpcc_run::{
+    GREATEST_RETIRE, GREATEST_TERMINAL, MOST_CARDS, MOST_SERVERS, MOST_TERMINALS, Plan, Service,
+};
+use tpcc_show::{ShownParts, part_named, table_named};
 
 // How many times `--show` is taken.
 const MOST_SHOWS: usize = 16;
 
 /// Which requests are to be written.
 #[derive(Clone, Copy)]
-pub(crate) struct Asking {
+pub(crate) struct RequestsCommand {
     /// `--terminal`, 1 to [`GREATEST_TERMINAL`], else 1: the terminal whose requests they are.
     pub terminal: u32,
     /// `--cards`, at most [`MOST_CARDS`], else 23: how many.
@@ -40,15 +40,15 @@ pub(crate) enum Task {
     /// Run terminals and servers.
     Run(Plan),
     /// Write the requests of a terminal.
-    Requests(Asking),
+    Requests(RequestsCommand),
 }
 
 /// What the words ask.
 #[derive(Clone, Copy)]
-pub(crate) struct Asked {
+pub(crate) struct Command {
     /// What to do.
     pub task: Task,
-    /// `--warehouses`, else 1. Whether there is such a scale is told by [`Asked::opening`].
+    /// `--warehouses`, else 1. Whether there is such a scale is told by [`Command::opening`].
     pub warehouses: u32,
     /// `--customers`: of each district; else 10.
     pub customers: u32,
@@ -66,7 +66,7 @@ pub(crate) struct Asked {
     pub timed: bool,
 }
 
-impl Asked {
+impl Command {
     /// The scale that the options name. Refused as Scale where there is none.
     pub(crate) fn scale(&self) -> Result<Scale, WordsFault>
         ensures named { IfOk result (λ scale. scale ≡ named_scale self.now) }
@@ -138,10 +138,10 @@ fn read_plan(matches: &ArgMatches<'_>) -> Result<Plan, WordsFault>
     })
 }
 
-fn read_asking(matches: &ArgMatches<'_>) -> Result<Asking, WordsFault>
+fn read_asking(matches: &ArgMatches<'_>) -> Result<RequestsCommand, WordsFault>
     ensures asking { IfOk result (λ asking. 1 ≤ asking.terminal) }
 {
-    Ok(Asking {
+    Ok(RequestsCommand {
         terminal: in_range(matches.get_one::<u32>("terminal"), 1, 1, GREATEST_TERMINAL)?,
         cards: in_range(matches.get_one::<u32>("cards"), 23, 0, MOST_CARDS)?,
     })
@@ -200,12 +200,12 @@ fn read_task(name: &str, matches: &ArgMatches<'_>) -> Result<Task, WordsFault>
     }
 }
 
-fn read_options(task: Task, matches: &ArgMatches<'_>) -> Result<Asked, WordsFault>
+fn read_options(task: Task, matches: &ArgMatches<'_>) -> Result<Command, WordsFault>
     ensures task { IfOk result (λ asked. asked.task ≡ task) }
 {
     let moment = read_moment(matches)?;
     let shows = read_shows(matches)?;
-    Ok(Asked {
+    Ok(Command {
         task,
         warehouses: matches.get_one::<u32>("warehouses").unwrap_or(1),
         customers: matches.get_one::<u32>("customers").unwrap_or(10),
@@ -224,7 +224,7 @@ fn read_options(task: Task, matches: &ArgMatches<'_>) -> Result<Asked, WordsFaul
 /// table or part has that name, where the moment is past the year 2099, where an option of `run` or
 /// `requests` is out of its range or `--show` comes more than 16 times, and where `--servers` or `--retire`
 /// stands beside `--direct`; as NoMemory for want of memory.
-pub(crate) fn read_words<'a, S: AsStr>(alloc: Global, words: &'a [S]) -> Result<Asked, WordsFault>
+pub(crate) fn read_words<'a, S: AsStr>(alloc: Global, words: &'a [S]) -> Result<Command, WordsFault>
     ensures plan { IfOk result (λ asked. HasPlan asked.task) }
 {
     let Ok(command) = program(alloc) else {
@@ -236,7 +236,7 @@ pub(crate) fn read_words<'a, S: AsStr>(alloc: Global, words: &'a [S]) -> Result<
     }
 }
 
-fn read_matches(matches: &ArgMatches<'_>) -> Result<Asked, WordsFault>
+fn read_matches(matches: &ArgMatches<'_>) -> Result<Command, WordsFault>
     ensures plan { IfOk result (λ asked. HasPlan asked.task) }
 {
     match matches.subcommand() {

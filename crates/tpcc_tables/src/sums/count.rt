@@ -2,12 +2,12 @@
 ghost use Rattle.std.specs.Prelude.{◌≡◌, ◌≤◌, true, [], ◌∷◌};
 ghost use Rattle.std.specs.List.{list_all};
 ghost use Rattle.tpcc_rows.specs.Lists.{updated, is_ascending, larger};
-ghost use Rattle.tpcc_tables.specs.Sums as sums;
+ghost use Rattle.tpcc_tables.specs.Internal.Sums as sums;
 
 use super::entry::{CustomerSums, DistrictSums, WarehouseSums};
-use tpcc_keyed::search;
 use tpcc_money::Cents;
 use tpcc_rows::{CustomerKey, DistrictKey, OrderRow, WarehouseKey};
+use tpcc_storage::search;
 
 /// What was paid into a warehouse rises by an amount.
 pub fn pay_warehouse(entries: &mut Vec<WarehouseSums>, warehouse: u32, amount: Cents)

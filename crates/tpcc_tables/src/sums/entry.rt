@@ -1,11 +1,11 @@
 //! The sums of one key.
 ghost use Rattle.std.specs.Prelude.{◌≡◌, pos, None, ◌∷◌, []};
-ghost use Rattle.tpcc_tables.specs.Sums.{no_warehouse_sums, no_district_sums, no_customer_sums};
+ghost use Rattle.tpcc_tables.specs.Internal.Sums.{no_warehouse_sums, no_district_sums, no_customer_sums};
 
 use super::total::Total;
-use tpcc_keyed::{Keyed, Searched, places};
 use tpcc_money::Cents;
 use tpcc_rows::{CustomerKey, DistrictKey, WarehouseKey};
+use tpcc_storage::{KeyedRow, SortedRow, places};
 
 /// The sums of a warehouse.
 #[derive(Clone, Copy)]
@@ -88,10 +88,10 @@ impl CustomerSums {
     }
 }
 
-impl Keyed for WarehouseSums {
+impl KeyedRow for WarehouseSums {
     type Key = WarehouseKey;
 
-    ghost use Rattle.tpcc_tables.specs.Sums.{warehouse_sums_key};
+    ghost use Rattle.tpcc_tables.specs.Internal.Sums.{warehouse_sums_key};
 
     ghost key = { warehouse_sums_key };
 
@@ -110,16 +110,16 @@ impl Keyed for WarehouseSums {
     }
 }
 
-impl Searched for WarehouseSums {
+impl SortedRow for WarehouseSums {
     fn is_before(&self, sought: &WarehouseKey) -> bool {
         self.warehouse < sought.warehouse
     }
 }
 
-impl Keyed for DistrictSums {
+impl KeyedRow for DistrictSums {
     type Key = DistrictKey;
 
-    ghost use Rattle.tpcc_tables.specs.Sums.{district_sums_key};
+    ghost use Rattle.tpcc_tables.specs.Internal.Sums.{district_sums_key};
 
     ghost key = { district_sums_key };
 
@@ -138,16 +138,16 @@ impl Keyed for DistrictSums {
     }
 }
 
-impl Searched for DistrictSums {
+impl SortedRow for DistrictSums {
     fn is_before(&self, sought: &DistrictKey) -> bool {
         (self.warehouse, self.district) < (sought.warehouse, sought.district)
     }
 }
 
-impl Keyed for CustomerSums {
+impl KeyedRow for CustomerSums {
     type Key = CustomerKey;
 
-    ghost use Rattle.tpcc_tables.specs.Sums.{customer_sums_key};
+    ghost use Rattle.tpcc_tables.specs.Internal.Sums.{customer_sums_key};
 
     ghost key = { customer_sums_key };
 
@@ -175,7 +175,7 @@ impl Keyed for CustomerSums {
     }
 }
 
-impl Searched for CustomerSums {
+impl SortedRow for CustomerSums {
     fn is_before(&self, sought: &CustomerKey) -> bool {
         (self.warehouse, self.district, self.customer)
             < (sought.warehouse, sought.district, sought.customer)

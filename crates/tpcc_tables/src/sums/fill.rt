@@ -1,16 +1,15 @@
 //! The sums of rows that stand ready to be tables.
 ghost use Rattle.std.specs.Prelude.{◌≡◌, ◌+◌, IfOk, length, take, drop, map};
 ghost use Rattle.tpcc_rows.specs.WellKeyed.{IsWellKeyed};
-ghost use Rattle.tpcc_tables.specs.Listed.{listed};
-ghost use Rattle.tpcc_tables.specs.Sums.{AreSums, first_rows, no_warehouse_sums, no_district_sums, no_customer_sums};
+ghost use Rattle.tpcc_tables.specs.DistrictVecs.{listed};
+ghost use Rattle.tpcc_tables.specs.Internal.Sums.{AreSums, first_rows, no_warehouse_sums, no_district_sums, no_customer_sums};
 
 use super::Sums;
 use super::entry::{CustomerSums, DistrictSums, WarehouseSums};
 use crate::delivery;
 use crate::lists::Lists;
 use std::alloc::Global;
-use tpcc_money::NoMemory;
-use tpcc_rows::{CustomerRow, DistrictRow, OrderRow, WarehouseRow};
+use tpcc_rows::{CustomerRow, DistrictRow, NoMemory, OrderRow, WarehouseRow};
 
 fn of_warehouses(rows: &[WarehouseRow], alloc: Global) -> Result<Vec<WarehouseSums>, NoMemory>
     ensures { IfOk result (λ sums. sums.items ≡ map (λ w. no_warehouse_sums w.id) rows.now) }

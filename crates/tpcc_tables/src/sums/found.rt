@@ -1,11 +1,11 @@
 //! The sums of a key, which are nothing where no row has the key.
 ghost use Rattle.std.specs.Prelude.{◌≡◌, find, true, unwrap_or, [], ◌∷◌};
 ghost use Rattle.tpcc_rows.specs.Lists.{is_ascending};
-ghost use Rattle.tpcc_tables.specs.Sums.{has_key, warehouse_sums_key, district_sums_key, customer_sums_key, no_warehouse_sums, no_district_sums, no_customer_sums};
+ghost use Rattle.tpcc_tables.specs.Internal.Sums.{has_key, warehouse_sums_key, district_sums_key, customer_sums_key, no_warehouse_sums, no_district_sums, no_customer_sums};
 
 use super::entry::{CustomerSums, DistrictSums, WarehouseSums};
-use tpcc_keyed::search;
 use tpcc_rows::{CustomerKey, DistrictKey, WarehouseKey};
+use tpcc_storage::search;
 
 /// The sums of a warehouse.
 pub fn of_warehouse(entries: &[WarehouseSums], warehouse: u32) -> WarehouseSums

@@ -1,6 +1,6 @@
 //! Sums of payments.
 ghost use Rattle.std.specs.Prelude.{◌≡◌, ◌+ℤ◌, pos, true};
-ghost use Rattle.tpcc_tables.specs.Sums.{is_payments_sum};
+ghost use Rattle.tpcc_tables.specs.Internal.Sums.{is_payments_sum};
 
 use std::marker::Model;
 use tpcc_money::Cents;

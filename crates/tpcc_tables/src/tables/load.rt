@@ -7,12 +7,12 @@ use super::Tables;
 use crate::delivery;
 use crate::faults::{self, LoadFault};
 use crate::sums::entry::{CustomerSums, DistrictSums, WarehouseSums};
-use tpcc_keyed::insertion;
-use tpcc_money::{Cents, NoMemory};
+use tpcc_money::Cents;
 use tpcc_rows::{
-    CustomerRow, DistrictRow, HistoryRow, ItemRow, NewOrderRow, OrderLineRow, OrderRow, Row,
-    StockRow, WarehouseRow,
+    CustomerRow, DistrictRow, HistoryRow, ItemRow, NewOrderRow, NoMemory, OrderLineRow, OrderRow,
+    Row, StockRow, WarehouseRow,
 };
+use tpcc_storage::insertion;
 
 impl Tables {
     /// Loads one row at the place of its key, a HISTORY row at the end. A refused row comes back,

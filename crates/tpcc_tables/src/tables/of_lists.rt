@@ -1,14 +1,14 @@
 //! Tables of rows that are well-keyed already, such as those of an initial population.
 ghost use Rattle.std.specs.Prelude.{◌≡◌, IfOk};
 ghost use Rattle.tpcc_rows.specs.WellKeyed.{IsWellKeyed};
-ghost use Rattle.tpcc_tables.specs.Listed.{listed};
+ghost use Rattle.tpcc_tables.specs.DistrictVecs.{listed};
 
 use super::Tables;
 use crate::lists::Lists;
 use crate::sums::Sums;
 use std::alloc::Global;
-use tpcc_keyed::Names;
-use tpcc_money::NoMemory;
+use tpcc_rows::NoMemory;
+use tpcc_storage::Names;
 
 impl Tables {
     /// The tables of well-keyed rows. Refused only for want of memory.

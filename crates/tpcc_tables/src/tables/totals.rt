@@ -4,7 +4,7 @@ ghost use Rattle.tpcc_money.specs.Amounts.{total};
 ghost use Rattle.tpcc_rows.specs.Lists.{largest};
 ghost use Rattle.tpcc_rows.specs.Tables.{paid_into_warehouse, paid_into_district, paid_by, orders_of, orders_in, order_lines_in, new_orders_in, lines_of};
 ghost use Rattle.tpcc_rows.specs.Conditions.{delivered_amount};
-ghost use Rattle.tpcc_tables.specs.Sums.{warehouse_sums, district_sums, customer_sums};
+ghost use Rattle.tpcc_tables.specs.Internal.Sums.{warehouse_sums, district_sums, customer_sums};
 
 use super::Tables;
 use crate::district_counts::DistrictCounts;

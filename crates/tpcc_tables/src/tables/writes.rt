@@ -7,8 +7,8 @@ ghost use Rattle.tpcc_tables.specs.Writes.{with_payment, IsPayment, with_entered
 use super::Tables;
 use crate::order_number::raise_next_order;
 use crate::{delivery, payment, rooms, supply};
-use tpcc_money::{Cents, Moment, NoMemory};
-use tpcc_rows::{HistoryRow, NewOrderRow, OrderLineRow, OrderRow, Text};
+use tpcc_money::{Cents, Moment};
+use tpcc_rows::{HistoryRow, NewOrderRow, NoMemory, OrderLineRow, OrderRow, Text, recall};
 
 /// For how many orders more room is made at once in each district.
 const SPARE_ORDERS: usize = 16;
@@ -119,7 +119,8 @@ impl Tables {
             ≡ after_delivery self.old.rows warehouse district order carrier moment }
         ensures payments { self.new.payment_room ≡ self.old.payment_room }
     {
-        let _seconds = moment.seconds();
+        // For the proof: the moment is in its range.
+        recall!(moment.seconds());
         let lines = self.order_lines.lines_of(warehouse, district, order);
         let amount = delivery::amount(lines);
         let undelivered = delivery::amount_where(lines, false);

@@ -8,8 +8,7 @@ use std::alloc::Global;
 use std::marker::Model;
 use tpcc_book::{Answer, Book, Naming, Purse, Register, Turned};
 use tpcc_journal::Journal;
-use tpcc_money::NoMemory;
-use tpcc_rows::Request;
+use tpcc_rows::{NoMemory, Request};
 
 /// A book in a block of its own: who takes it out of its slot, or keeps it over many requests, moves a pointer.
 #[derive(Drop)]

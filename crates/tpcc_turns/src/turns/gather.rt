@@ -3,11 +3,11 @@ ghost use Rattle.std.specs.Prelude.{◌≡◌, ◌+◌, ◌<◌, ◌↔◌, [], 
 ghost use Rattle.std.specs.Slots.{slots_items, slots_len, IsFull};
 ghost use Rattle.tpcc_turns.specs.Knows.{Idle};
 ghost use Rattle.tpcc_turns.specs.Closing.{TellsBook, IsLeft, IsGathered, IsAudited};
-ghost use Rattle.tpcc_turns.specs.Gathering.{HasJoined};
+ghost use Rattle.tpcc_turns.specs.Internal.Gathering.{HasJoined};
 ghost use Rattle.tpcc_book.specs.Purses.{all_parts, pool_with};
 ghost use Rattle.tpcc_turns.specs.Seats.{purses_of, view_of};
 ghost use Rattle.tpcc_book.specs.Serve.{rooms_of};
-ghost use Rattle.tpcc_turns.specs.Shares.{both_of};
+ghost use Rattle.tpcc_turns.specs.Internal.Shares.{both_of};
 
 use crate::turns::Turns;
 use crate::turns::boxed_book::BoxedBook;
@@ -23,7 +23,7 @@ use tpcc_money::Cents;
 pub struct Joining;
 
 impl Join<Knows> for Joining {
-    ghost use Rattle.tpcc_turns.specs.Shares.{both_of, nobody};
+    ghost use Rattle.tpcc_turns.specs.Internal.Shares.{both_of, nobody};
 
     ghost both = { both_of };
 

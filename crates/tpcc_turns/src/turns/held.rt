@@ -11,7 +11,7 @@ use crate::turns::steps::{BoardSeat, adopt, free, give, show, take};
 use std::marker::{Model, PhantomData};
 use std::sync::Wait;
 use tpcc_book::{Answer, Naming, Purse, Register, Turned};
-use tpcc_rows::Request;
+use tpcc_rows::{Request, recall};
 
 /// The turn of one purse, its keeper, with the book. Each request that is served in it is a turn of the book for the
 /// purse that asks. It is seen as the keeper's purse will be once the turn ends: with the opening, and the journal as
@@ -96,7 +96,8 @@ impl<N: Naming, T: Seating> Turns<N, T> {
         adopt(board, &mut seat, other);
         let answer = book.serve_by(request, purse, turn);
         let book = show(board, &mut seat, book);
-        let _journal = book.journal();
+        // For the proof: the book is kept.
+        recall!(book.journal());
         let back = free(board, &mut seat);
         let held = HeldTurn {
             purse: keeper,

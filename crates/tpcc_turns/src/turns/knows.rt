@@ -13,7 +13,7 @@ impl Model for Knows {
 
     ghost Value = { Knows };
 
-    ghost use Rattle.tpcc_turns.specs.Shares.{nobody};
+    ghost use Rattle.tpcc_turns.specs.Internal.Shares.{nobody};
 
     ghost view = { λ _. nobody };
 }

@@ -10,10 +10,10 @@ use std::mem::replace;
 use tpcc_book::Naming;
 
 /// One part goes to a new seat, which has seen as much.
-pub struct OnePart;
+pub struct OneShare;
 
-impl Split<Knows> for OnePart {
-    ghost use Rattle.tpcc_turns.specs.Shares.{kept_of, given_of};
+impl Split<Knows> for OneShare {
+    ghost use Rattle.tpcc_turns.specs.Internal.Shares.{kept_of, given_of};
 
     ghost left = { kept_of };
 
@@ -24,7 +24,7 @@ impl Split<Knows> for OnePart {
 pub struct LastJoined;
 
 impl Split<Knows> for LastJoined {
-    ghost use Rattle.tpcc_turns.specs.Shares.{freed_of, back_of};
+    ghost use Rattle.tpcc_turns.specs.Internal.Shares.{freed_of, back_of};
 
     ghost left = { freed_of };
 
@@ -51,7 +51,7 @@ impl<N: Naming, T: Seating> SeatedPurse<N, T> {
         let board = &turns.table.shared;
         let badge = replace(&mut self.badge, Badge::blank());
         let mut seat = badge.into_seat::<Option<BoxedBook<N>>>();
-        let given = board.split_seat::<OnePart>(&mut seat);
+        let given = board.split_seat::<OneShare>(&mut seat);
         self.badge = seat.into_badge();
         SeatedPurse::seated(self.purse.split(terminal), given)
     }

@@ -12,8 +12,8 @@ use atomic_table::{Refused, Table};
 use std::alloc::Global;
 use std::marker::Model;
 use tpcc_book::{Blanks, Book, Naming, Purse};
-use tpcc_money::NoMemory;
 use tpcc_population::Opening;
+use tpcc_rows::NoMemory;
 
 /// Turns at a new book, which have no name yet, with the book's first purse. Whoever starts turns
 /// names them with a type that stands for their table.

@@ -3,7 +3,7 @@ use Rattle.std.proofs.lemmas.Int.{ints, to_z-of_z}
 use Rattle.std.proofs.lemmas.List.{take_all}
 use Rattle.tpcc_money.specs.Amounts.{total}
 use Rattle.tpcc_tables.specs.Positions.{count_of}
-use Rattle.tpcc_conditions.specs.DistrictTotals.{total_in}
+use Rattle.tpcc_conditions.specs.Internal.DistrictTotals.{total_in}
 use Rattle.tpcc_conditions.proofs.District.{next_total, whole_total}
 use Rattle.tpcc_conditions.proofs.district_totals.district_totals.Goals as goal
 

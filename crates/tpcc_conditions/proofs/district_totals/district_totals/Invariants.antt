@@ -1,7 +1,7 @@
 use Rattle.std.proofs.Common.{◌≡◌, ◌*◌, ◌^◌, pos, ◌≤ℤ◌, take}
 use Rattle.std.specs.Prelude.{neg_ℤ}
 use Rattle.tpcc_money.specs.Amounts.{total}
-use Rattle.tpcc_conditions.specs.DistrictTotals.{total_in}
+use Rattle.tpcc_conditions.specs.Internal.DistrictTotals.{total_in}
 use Rattle.tpcc_conditions.proofs.district_totals.district_totals.Given as goal
 
 abbrev pub invariant-loop-position : goal.invariant-loop-position

@@ -1,6 +1,6 @@
 use Rattle.std.proofs.Common.{◌≡◌, ◌∙◌, ap, sym, arith}
 use Rattle.std.specs.Prelude.{position}
-use Rattle.tpcc_journal.specs.Tallies.{is_of, tally_of}
+use Rattle.tpcc_journal.specs.Internal.Tallies.{is_of, tally_of}
 use Rattle.tpcc_journal.proofs.Counts.{raised_count, first_count, listed_count}
 use Rattle.tpcc_journal.proofs.tallies.add_one.Goals as goal
 

@@ -4,8 +4,8 @@ use Rattle.std.specs.List.{list_all}
 use Rattle.std.proofs.lemmas.Int.{ints}
 use Rattle.tpcc_rows.specs.Ranges.{is_within}
 use Rattle.tpcc_rows.specs.declared.requests.Line.{Line}
-use Rattle.tpcc_rows.specs.NewOrder.{amount_of, entered_line, order_line_row}
-use Rattle.tpcc_new_order.specs.Prepares.{entered_line_from, order_line_from}
+use Rattle.tpcc_rows.specs.NewOrder.{amount_of, entered_line, order_line_row, entered_line_from}
+use Rattle.tpcc_new_order.specs.Prepares.{order_line_from}
 use Rattle.tpcc_new_order.proofs.OrderLines.{no_line, numbered_more, quantities, total_more}
 use Rattle.tpcc_new_order.proofs.lines.add_lines.Goals as goal
 

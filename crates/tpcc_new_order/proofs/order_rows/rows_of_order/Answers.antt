@@ -1,6 +1,6 @@
 use Rattle.std.proofs.Common.{◌∙◌, sym, ap}
 use Rattle.tpcc_rows.specs.Lists.{first_finding}
-use Rattle.tpcc_new_order.specs.Tests.{line_tests}
+use Rattle.tpcc_new_order.specs.Internal.Tests.{line_tests}
 use Rattle.tpcc_new_order.proofs.Refusal.{warehouse_missing, district_missing, customer_missing, by_lines, copy_is_some, copied_none}
 use Rattle.tpcc_new_order.proofs.order_rows.rows_of_order.Goals as goal
 

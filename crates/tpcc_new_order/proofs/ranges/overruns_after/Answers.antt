@@ -2,8 +2,8 @@ use Rattle.std.proofs.Common.{◌∙◌, get_or}
 use Rattle.tpcc_rows.specs.declared.requests.Line.{Line}
 use Rattle.tpcc_rows.specs.Tables.{stock_at}
 use Rattle.tpcc_rows.specs.NewOrder.{stock_after}
-use Rattle.tpcc_new_order.specs.Supplied.{numbers_of}
-use Rattle.tpcc_new_order.specs.Tests.{overruns_with}
+use Rattle.tpcc_new_order.specs.Internal.Supplied.{numbers_of}
+use Rattle.tpcc_new_order.specs.Internal.Tests.{overruns_with}
 use Rattle.tpcc_new_order.proofs.OrderLines.{no_line, overruns_more}
 use Rattle.tpcc_new_order.proofs.ranges.overruns_after.Goals as goal
 

@@ -1,7 +1,7 @@
 use Rattle.std.proofs.Common.{◌≡◌, take, map}
 use Rattle.tpcc_rows.specs.Tables.{stock_at}
 use Rattle.tpcc_rows.specs.NewOrder.{stock_after}
-use Rattle.tpcc_new_order.specs.Tests.{overruns_of}
+use Rattle.tpcc_new_order.specs.Internal.Tests.{overruns_of}
 use Rattle.tpcc_new_order.proofs.ranges.overruns_after.Given as goal
 
 abbrev pub invariant-loop-line : goal.invariant-loop-line

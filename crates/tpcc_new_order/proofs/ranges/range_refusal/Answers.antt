@@ -3,7 +3,7 @@ use Rattle.tpcc_rows.specs.declared.requests.Line.{Line}
 use Rattle.tpcc_rows.specs.Lists.{first_finding}
 use Rattle.tpcc_rows.specs.Tables.{stock_at}
 use Rattle.tpcc_rows.specs.NewOrder.{order_number, stock_after}
-use Rattle.tpcc_new_order.specs.Tests.{overruns_of, range_tests}
+use Rattle.tpcc_new_order.specs.Internal.Tests.{overruns_of, range_tests}
 use Rattle.tpcc_new_order.proofs.Refusal.{by_ranges}
 use Rattle.tpcc_new_order.proofs.ranges.range_refusal.Goals as goal
 

@@ -1,8 +1,8 @@
 use Rattle.std.proofs.Common.{◌∙◌, ap, sym}
 use Rattle.tpcc_rows.specs.declared.rows.StockRow.{StockRow}
 use Rattle.tpcc_rows.specs.NewOrder.{stock_after}
-use Rattle.tpcc_new_order.specs.Supplied.{numbers_of}
-use Rattle.tpcc_new_order.specs.Tests.{overruns_with}
+use Rattle.tpcc_new_order.specs.Internal.Supplied.{numbers_of}
+use Rattle.tpcc_new_order.specs.Internal.Tests.{overruns_with}
 use Rattle.tpcc_new_order.proofs.OrderLines.{quantities}
 use Rattle.tpcc_new_order.proofs.Supplies.{far_is_within}
 use Rattle.tpcc_new_order.proofs.ranges.with_line.Goals as goal

@@ -1,8 +1,7 @@
 use Rattle.std.proofs.Common.{◌≡◌, ◌∙◌, sym, subst}
 use Rattle.tpcc_money.specs.Amounts.{order_total, total}
-use Rattle.tpcc_rows.specs.NewOrder.{amount_of}
-use Rattle.tpcc_new_order.specs.Supplied.{IsServable}
-use Rattle.tpcc_new_order.specs.Prepares.{accepted_from}
+use Rattle.tpcc_rows.specs.NewOrder.{amount_of, accepted_from}
+use Rattle.tpcc_new_order.specs.Internal.Supplied.{IsServable}
 use Rattle.tpcc_new_order.proofs.Preparations.{accepted_is, district_within, few_lines, servable_if}
 use Rattle.tpcc_new_order.proofs.replies.show_order.Goals as goal
 

@@ -1,7 +1,7 @@
 use Rattle.std.proofs.Common.{◌∙◌, sym, ap, subst, arith}
 use Rattle.std.specs.Prelude.{fold}
 use Rattle.std.proofs.lemmas.List.{take_all}
-use Rattle.tpcc_new_order.specs.Supplied.{numbers_of, numbers_after_line, IsNear}
+use Rattle.tpcc_new_order.specs.Internal.Supplied.{numbers_of, numbers_after_line, IsNear}
 use Rattle.tpcc_new_order.proofs.Supplies.{near_start, numbers_in_turn}
 use Rattle.tpcc_new_order.proofs.supply.numbers_after.Goals as goal
 

@@ -1,6 +1,6 @@
 use Rattle.std.proofs.Common.{◌≡◌, take}
 use Rattle.std.specs.Prelude.{fold}
-use Rattle.tpcc_new_order.specs.Supplied.{numbers_of, numbers_after_line, IsNear}
+use Rattle.tpcc_new_order.specs.Internal.Supplied.{numbers_of, numbers_after_line, IsNear}
 use Rattle.tpcc_new_order.proofs.supply.numbers_after.Given as goal
 
 abbrev pub invariant-loop-line : goal.invariant-loop-line

@@ -1,4 +1,5 @@
 use Rattle.std.proofs.Common.{refl}
+use Rattle.tpcc_audit.specs.Settlement.{all_receipts}
 use Rattle.tpcc_run.proofs.settled_book.totals_of.Goals as goal
 
 pub returns-in-Ok-clause-settled : goal.returns-in-Ok-clause-settled
@@ -7,5 +8,5 @@ returns-in-Ok-clause-settled g c = record {
   receipts = c.args.receipts.now;
   back = c.requires.back;
   all_there = c.in-Ok.ensures.exactly.0 refl;
-  settled = c.in-Ok.ensures.settled;
+  settled = c.in-Ok.ensures.settled (all_receipts c.args.receipts.now) c.requires.seen;
 }

@@ -1,5 +1,5 @@
 use Rattle.std.proofs.Common.{◌≡◌, ℕ, ◌+◌, ◌-◌, ◌≤◌, ◌<◌, List, Some, length}
-use Rattle.tpcc_parse.specs.declared.limits.TheConstants.{LONGEST_LINE, MOST_LINES}
+use Rattle.tpcc_text.specs.declared.script.limits.TheConstants.{LONGEST_LINE, MOST_LINES}
 use Rattle.tpcc_script.proofs.Lines.{Reading}
 use Rattle.tpcc_script.proofs.reader.read_line.Given as goal
 

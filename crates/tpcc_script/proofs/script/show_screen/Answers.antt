@@ -1,4 +1,4 @@
-use Rattle.tpcc_blocks.proofs.Parts.{flush_passes, flush_broken}
+use Rattle.tpcc_text.proofs.BlockSteps.{flush_passes, flush_broken}
 use Rattle.tpcc_script.proofs.script.show_screen.Goals as goal
 
 pub returns-clause-ok : goal.returns-clause-ok

@@ -1,6 +1,6 @@
 use Rattle.std.proofs.Common.{rules, arith, refl, ap, ◌∙◌}
 use Rattle.tpcc_mailbox.specs.Tokens.{serving_origin, serving_hand, serving_saw_closed, serving_splits, serving_answered}
-use Rattle.tpcc_server.specs.TurnStates.{keeper_in}
+use Rattle.tpcc_server.specs.Internal.TurnStates.{keeper_in}
 use Rattle.tpcc_server.proofs.Rounds.{one_answer, goes_on}
 use Rattle.tpcc_server.proofs.serving.serve_some.Goals.{in-Some, in_default}
 use Rattle.tpcc_server.proofs.serving.serve_some.Goals as goal

@@ -1,6 +1,6 @@
 use Rattle.std.proofs.Common.{◌≡◌, ◌≤◌, None}
 use Rattle.tpcc_mailbox.specs.Tokens.{serving_origin, serving_hand, serving_splits, serving_answered, serving_saw_closed}
-use Rattle.tpcc_server.specs.TurnStates.{keeper_in}
+use Rattle.tpcc_server.specs.Internal.TurnStates.{keeper_in}
 use Rattle.tpcc_server.specs.Rounds.{HasAnsweredInTurn}
 use Rattle.tpcc_server.proofs.serving.serve_some.Given as goal
 

@@ -1,7 +1,7 @@
 use Rattle.std.proofs.Common.{◌≡◌, ◌≤◌, None}
 use Rattle.tpcc_mailbox.specs.Tokens.{identity, serving_origin, serving_hand, serving_splits, serving_answered}
 use Rattle.tpcc_turns.specs.Seats.{keeper_of}
-use Rattle.tpcc_server.specs.TurnStates.{keeper_in}
+use Rattle.tpcc_server.specs.Internal.TurnStates.{keeper_in}
 use Rattle.tpcc_server.specs.Rounds.{HasAnswered}
 use Rattle.tpcc_server.proofs.serving.serve_until_closed.Given as goal
 

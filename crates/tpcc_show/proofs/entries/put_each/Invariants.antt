@@ -1,6 +1,6 @@
 use Rattle.std.proofs.Common.{◌++◌, take}
 use Rattle.std.specs.Prelude.{flat_map}
-use Rattle.tpcc_blocks.specs.Part.{PassesBytes}
+use Rattle.tpcc_text.specs.Prefix.{PassesBytes}
 use Rattle.tpcc_show.proofs.entries.put_each.Given as goal
 
 abbrev pub invariant-loop-place : goal.invariant-loop-place

@@ -1,13 +1,13 @@
 use Rattle.std.proofs.Common.{codes, ◌++◌}
-use Rattle.tpcc_blocks.specs.Part.{AppendsPart}
-use Rattle.tpcc_blocks.proofs.Parts.{at_fault, cut_first}
+use Rattle.tpcc_text.specs.Prefix.{AppendsPrefix}
+use Rattle.tpcc_text.proofs.BlockSteps.{at_fault, cut_first}
 use Rattle.tpcc_show.specs.Shown.{heading, named_line}
-use Rattle.tpcc_blocks.proofs.Parts.{both, both_cut}
+use Rattle.tpcc_text.proofs.BlockSteps.{both, both_cut}
 use Rattle.tpcc_show.proofs.showing.put_heading.Goals as goal
 
 pub returns-in_err-put_bytes-clause-part : goal.returns-in_err-put_bytes-clause-part
 returns-in_err-put_bytes-clause-part g c =
-    at_fault (AppendsPart (g.W.Write.contents c.args.out.now) (g.W.Write.contents c.put_bytes.new.out) (c.args.blocks.now ++ heading c.args.part)) c.from_residual.result
+    at_fault (AppendsPrefix (g.W.Write.contents c.args.out.now) (g.W.Write.contents c.put_bytes.new.out) (c.args.blocks.now ++ heading c.args.part)) c.from_residual.result
     (cut_first (g.W.Write.contents c.args.out.now) (g.W.Write.contents c.put_bytes.new.out) c.args.blocks.now (codes "== ") (named_line c.args.part) c.in_err-put_bytes.ensures.part)
 
 pub returns-clause-written : goal.returns-clause-written

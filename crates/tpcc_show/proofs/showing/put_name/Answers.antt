@@ -1,13 +1,13 @@
 use Rattle.std.proofs.Common.{[], ◌∷◌, ◌++◌, sym}
-use Rattle.tpcc_blocks.specs.Part.{AppendsPart}
-use Rattle.tpcc_blocks.proofs.Parts.{at_fault, cut_first}
-use Rattle.tpcc_blocks.proofs.Parts.{both, both_cut}
+use Rattle.tpcc_text.specs.Prefix.{AppendsPrefix}
+use Rattle.tpcc_text.proofs.BlockSteps.{at_fault, cut_first}
+use Rattle.tpcc_text.proofs.BlockSteps.{both, both_cut}
 use Rattle.tpcc_show.proofs.showing.put_name.Goals as goal
 
 pub returns-in_err-put_bytes-clause-part : goal.returns-in_err-put_bytes-clause-part
 returns-in_err-put_bytes-clause-part g c =
     let name = c.name.result.now in
-    rw (sym c.name.ensures.name) (at_fault (AppendsPart (g.W.Write.contents c.args.out.now) (g.W.Write.contents c.put_bytes.new.out) (c.args.blocks.now ++ (name ++ 10 ∷ []))) c.from_residual.result
+    rw (sym c.name.ensures.name) (at_fault (AppendsPrefix (g.W.Write.contents c.args.out.now) (g.W.Write.contents c.put_bytes.new.out) (c.args.blocks.now ++ (name ++ 10 ∷ []))) c.from_residual.result
     (cut_first (g.W.Write.contents c.args.out.now) (g.W.Write.contents c.put_bytes.new.out) c.args.blocks.now name (10 ∷ []) c.in_err-put_bytes.ensures.part))
 
 pub returns-clause-written : goal.returns-clause-written

@@ -1,6 +1,6 @@
 use Rattle.std.proofs.Common.{◌++◌, take}
 use Rattle.std.specs.Prelude.{flat_map, option_map}
-use Rattle.tpcc_blocks.specs.Part.{PassesBytes}
+use Rattle.tpcc_text.specs.Prefix.{PassesBytes}
 use Rattle.tpcc_show.specs.Shown.{headed_text}
 use Rattle.tpcc_show.proofs.showing.show_all.Given as goal
 

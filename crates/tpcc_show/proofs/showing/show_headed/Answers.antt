@@ -1,8 +1,8 @@
 use Rattle.std.proofs.Common.{◌++◌}
 use Rattle.std.specs.Prelude.{option_map}
-use Rattle.tpcc_blocks.specs.Part.{AppendsPart}
-use Rattle.tpcc_blocks.proofs.Parts.{at_fault}
-use Rattle.tpcc_asked.specs.Names.{part_name}
+use Rattle.tpcc_text.specs.Prefix.{AppendsPrefix}
+use Rattle.tpcc_text.proofs.BlockSteps.{at_fault}
+use Rattle.tpcc_show.specs.Names.{part_name}
 use Rattle.tpcc_show.specs.Shown.{headed_text, part_text}
 use Rattle.tpcc_show.proofs.Putting.{part_with_heading, headed_cut, heading_cut}
 use Rattle.tpcc_show.proofs.showing.show_headed.Goals as goal
@@ -11,7 +11,7 @@ pub returns-in_err-put_heading-clause-part : goal.returns-in_err-put_heading-cla
 unfolding headed_text
 returns-in_err-put_heading-clause-part g c =
     let screens = option_map (λ s. s.now) c.args.screens in
-    at_fault (AppendsPart (g.W.Write.contents c.args.out.now) (g.W.Write.contents c.put_heading.new.out) (c.args.blocks.now ++ headed_text screens c.args.book.now c.args.part)) c.from_residual.result
+    at_fault (AppendsPrefix (g.W.Write.contents c.args.out.now) (g.W.Write.contents c.put_heading.new.out) (c.args.blocks.now ++ headed_text screens c.args.book.now c.args.part)) c.from_residual.result
     (heading_cut (g.W.Write.contents c.args.out.now) (g.W.Write.contents c.put_heading.new.out) c.args.blocks.now (part_name c.args.part) (part_text screens c.args.book.now c.args.part) c.in_err-put_heading.ensures.part)
 
 pub returns-clause-written : goal.returns-clause-written

@@ -1,6 +1,6 @@
 use Rattle.std.proofs.Common.{rules}
-use Rattle.tpcc_blocks.proofs.Parts.{ends_whole}
-use Rattle.tpcc_blocks.proofs.Parts.{ends_part}
+use Rattle.tpcc_text.proofs.BlockSteps.{ends_whole}
+use Rattle.tpcc_text.proofs.BlockSteps.{ends_part}
 use Rattle.tpcc_show.proofs.showing.show_served.Goals as goal
 
 pub returns-in_err-show_parts-clause-part : goal.returns-in_err-show_parts-clause-part

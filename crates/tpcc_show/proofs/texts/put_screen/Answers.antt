@@ -1,5 +1,5 @@
 use Rattle.std.proofs.Common.{◌++◌}
-use Rattle.tpcc_blocks.proofs.Parts.{none_part}
+use Rattle.tpcc_text.proofs.BlockSteps.{none_part}
 use Rattle.tpcc_show.proofs.texts.put_screen.Goals as goal
 
 pub returns-in-Err-clause-part : goal.returns-in-Err-clause-part

@@ -1,9 +1,9 @@
 use Rattle.std.proofs.Common.{◌≡◌, ◌∙◌, sym, [], ◌∷◌, find, Some}
 use Rattle.tpcc_rows.specs.Tables.{is_order, order_key}
 use Rattle.tpcc_laws.proofs.DeliveryKeeps.{with_carrier}
-use Rattle.tpcc_keyed.specs.Searches.{is_same_key}
-use Rattle.tpcc_keyed.proofs.Halves.{same_find}
-use Rattle.tpcc_keyed.proofs.Change.{replaced, same_updated, same_key_is, found_passes, unfound_updated}
+use Rattle.tpcc_storage.specs.Searches.{is_same_key}
+use Rattle.tpcc_storage.proofs.Halves.{same_find}
+use Rattle.tpcc_storage.proofs.Change.{replaced, same_updated, same_key_is, found_passes, unfound_updated}
 use Rattle.tpcc_tables.proofs.KeyTests.{order_test, orders_apart}
 use Rattle.tpcc_tables.proofs.delivery.carry.Goals as goal
 

@@ -1,7 +1,7 @@
 use Rattle.std.proofs.Common.{◌∙◌, [], ◌∷◌}
 use Rattle.tpcc_rows.specs.Tables.{is_new_order, new_order_key}
-use Rattle.tpcc_keyed.specs.Searches.{is_same_key}
-use Rattle.tpcc_keyed.proofs.Change.{same_filter}
+use Rattle.tpcc_storage.specs.Searches.{is_same_key}
+use Rattle.tpcc_storage.proofs.Change.{same_filter}
 use Rattle.tpcc_tables.proofs.KeyTests.{new_order_test}
 use Rattle.std.specs.Prelude.{not}
 use Rattle.tpcc_tables.proofs.delivery.remove_new_order.Goals as goal

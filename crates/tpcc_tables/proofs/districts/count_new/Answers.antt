@@ -1,7 +1,7 @@
 use Rattle.std.proofs.Common.{◌∙◌, ap, length}
 use Rattle.tpcc_rows.specs.Tables.{new_order_key}
-use Rattle.tpcc_district_rows.specs.Parts.{is_of}
-use Rattle.tpcc_keyed.proofs.Change.{same_filter}
+use Rattle.tpcc_storage.specs.ByDistrict.{is_of}
+use Rattle.tpcc_storage.proofs.Change.{same_filter}
 use Rattle.tpcc_tables.proofs.Rising.{waits_in, new_order_is_of}
 use Rattle.tpcc_tables.proofs.districts.count_new.Goals as goal
 

@@ -1,7 +1,7 @@
 use Rattle.std.proofs.Common.{◌∙◌}
 use Rattle.tpcc_rows.specs.Tables.{order_line_key}
-use Rattle.tpcc_district_rows.specs.Parts.{is_of}
-use Rattle.tpcc_keyed.proofs.Change.{same_filter}
+use Rattle.tpcc_storage.specs.ByDistrict.{is_of}
+use Rattle.tpcc_storage.proofs.Change.{same_filter}
 use Rattle.tpcc_tables.proofs.Rising.{lies_in, line_is_of}
 use Rattle.tpcc_tables.proofs.districts.lines.Goals as goal
 

@@ -1,8 +1,8 @@
 use Rattle.std.proofs.Common.{◌∙◌, [], ◌∷◌}
 use Rattle.tpcc_rows.specs.Tables.{order_line_key}
 use Rattle.tpcc_tables.specs.Loads.{is_order_line}
-use Rattle.tpcc_keyed.specs.Searches.{is_same_key}
-use Rattle.tpcc_keyed.proofs.Halves.{same_find}
+use Rattle.tpcc_storage.specs.Searches.{is_same_key}
+use Rattle.tpcc_storage.proofs.Halves.{same_find}
 use Rattle.tpcc_tables.proofs.KeyTests.{order_line_test}
 use Rattle.tpcc_tables.proofs.find.line.Goals as goal
 

@@ -1,7 +1,7 @@
 use Rattle.std.proofs.Common.{◌∙◌, [], ◌∷◌}
 use Rattle.tpcc_rows.specs.Tables.{is_warehouse, warehouse_key}
-use Rattle.tpcc_keyed.specs.Searches.{is_same_key}
-use Rattle.tpcc_keyed.proofs.Halves.{same_find}
+use Rattle.tpcc_storage.specs.Searches.{is_same_key}
+use Rattle.tpcc_storage.proofs.Halves.{same_find}
 use Rattle.tpcc_tables.proofs.KeyTests.{warehouse_test}
 use Rattle.tpcc_tables.proofs.find.warehouse.Goals as goal
 

@@ -1,9 +1,9 @@
 use Rattle.std.proofs.Common.{◌∙◌, sym, [], ◌∷◌}
 use Rattle.tpcc_rows.specs.Tables.{is_district, district_key}
 use Rattle.tpcc_tables.specs.Writes.{richer_district}
-use Rattle.tpcc_keyed.specs.Searches.{is_same_key}
-use Rattle.tpcc_keyed.proofs.Halves.{same_find}
-use Rattle.tpcc_keyed.proofs.Change.{same_updated}
+use Rattle.tpcc_storage.specs.Searches.{is_same_key}
+use Rattle.tpcc_storage.proofs.Halves.{same_find}
+use Rattle.tpcc_storage.proofs.Change.{same_updated}
 use Rattle.tpcc_tables.proofs.KeyTests.{district_test}
 use Rattle.tpcc_tables.proofs.payment.pay_district.Goals as goal
 

@@ -1,9 +1,9 @@
 use Rattle.std.proofs.Common.{◌∙◌, sym, [], ◌∷◌}
 use Rattle.tpcc_rows.specs.Tables.{is_warehouse, warehouse_key}
 use Rattle.tpcc_tables.specs.Writes.{richer_warehouse}
-use Rattle.tpcc_keyed.specs.Searches.{is_same_key}
-use Rattle.tpcc_keyed.proofs.Halves.{same_find}
-use Rattle.tpcc_keyed.proofs.Change.{same_updated}
+use Rattle.tpcc_storage.specs.Searches.{is_same_key}
+use Rattle.tpcc_storage.proofs.Halves.{same_find}
+use Rattle.tpcc_storage.proofs.Change.{same_updated}
 use Rattle.tpcc_tables.proofs.KeyTests.{warehouse_test}
 use Rattle.tpcc_tables.proofs.payment.pay_warehouse.Goals as goal
 

@@ -1,4 +1,4 @@
-use Rattle.tpcc_tables.specs.Ready.{IsOpening}
+use Rattle.tpcc_tables.specs.Internal.Ready.{IsOpening}
 use Rattle.tpcc_tables.proofs.rooms.open_all.Given as goal
 
 abbrev pub invariant-loop-district : goal.invariant-loop-district

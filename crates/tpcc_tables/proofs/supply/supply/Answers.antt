@@ -10,7 +10,7 @@ use Rattle.tpcc_rows.specs.Tables.{stock_key}
 use Rattle.tpcc_laws.proofs.Numbers.{within}
 use Rattle.tpcc_laws.proofs.Remove.{found_passes}
 use Rattle.tpcc_tables.specs.Writes.{line_of}
-use Rattle.tpcc_tables.specs.Supplies.{is_supplied_by, is_near}
+use Rattle.tpcc_tables.specs.Internal.Supplies.{is_supplied_by, is_near}
 use Rattle.tpcc_tables.proofs.Supplies.{after_line, near_has_room, near_after, keyed_after, lines_in_turn, quantity_at}
 use Rattle.tpcc_tables.proofs.supply.supply.Goals as goal
 

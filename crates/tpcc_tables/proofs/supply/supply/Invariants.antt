@@ -4,7 +4,7 @@ use Rattle.std.specs.List.{list_all}
 use Rattle.tpcc_rows.specs.Lists.{is_ascending}
 use Rattle.tpcc_rows.specs.Tables.{stock_key}
 use Rattle.tpcc_tables.specs.Writes.{line_of}
-use Rattle.tpcc_tables.specs.Supplies.{is_near}
+use Rattle.tpcc_tables.specs.Internal.Supplies.{is_near}
 use Rattle.tpcc_tables.proofs.Supplies.{after_line}
 use Rattle.tpcc_tables.proofs.supply.supply.Given as goal
 

@@ -2,11 +2,11 @@ use Rattle.std.proofs.Common.{◌∙◌, sym, [], ◌∷◌}
 use Rattle.tpcc_rows.specs.declared.rows.StockRow.{StockRow}
 use Rattle.tpcc_rows.specs.Tables.{stock_key}
 use Rattle.tpcc_rows.specs.NewOrder.{stock_after_line}
-use Rattle.tpcc_keyed.specs.Searches.{is_same_key}
-use Rattle.tpcc_keyed.proofs.Halves.{same_find}
-use Rattle.tpcc_keyed.proofs.Change.{same_updated}
+use Rattle.tpcc_storage.specs.Searches.{is_same_key}
+use Rattle.tpcc_storage.proofs.Halves.{same_find}
+use Rattle.tpcc_storage.proofs.Change.{same_updated}
 use Rattle.tpcc_tables.specs.Writes.{line_of}
-use Rattle.tpcc_tables.specs.Supplies.{is_supplied_by}
+use Rattle.tpcc_tables.specs.Internal.Supplies.{is_supplied_by}
 use Rattle.tpcc_tables.proofs.Supplies.{supply_test}
 use Rattle.tpcc_tables.proofs.supply.supply_line.Goals as goal
 

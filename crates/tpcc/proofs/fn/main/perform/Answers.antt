@@ -3,9 +3,9 @@ use Rattle.std.proofs.Common.{◌≡◌, ℕ, ◌<◌}
 use denote.Ref.{MutBor}
 use denote.Param.Members.{Called}
 use Rattle.tpcc_rows.specs.declared.requests.Request.{Request}
-use Rattle.tpcc_register.specs.declared.outcome.Turned.{Turned}
-use Rattle.tpcc_register.specs.Past.{Past}
-use Rattle.tpcc_register.specs.Turn.{IsTurn}
+use Rattle.tpcc_book.specs.declared.register.outcome.Turned.{Turned}
+use Rattle.tpcc_book.specs.Past.{Past}
+use Rattle.tpcc_book.specs.Turn.{IsTurn}
 use Rattle.tpcc_server.proofs.Boxes.{carried, Tells, MayCall}
 use Rattle.tpcc.proofs.fn.main.perform.Hides.{has-1-1}
 use Rattle.tpcc.proofs.fn.main.perform.Goals as goal

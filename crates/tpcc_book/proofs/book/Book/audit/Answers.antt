@@ -1,5 +1,5 @@
 use Rattle.std.proofs.Common.{◌∙◌, ap, length}
-use Rattle.tpcc_register.specs.Past.{Past, rise_of}
+use Rattle.tpcc_book.specs.Past.{Past, rise_of}
 use Rattle.tpcc_book.proofs.book.Book.audit.Goals as goal
 
 pub returns : goal.returns
@@ -8,7 +8,7 @@ returns g c =
     let paid = c.audit.ensures.cents in
     record {
       same = c.self.view_is;
-      kept = rw (← c.self.view_is) c.journal-journal.ensures.kept;
+      kept = rw (← c.self.view_is) c.journal.ensures.kept;
       entries = (entries.1, entries.2 ∙ c.self.invariant.0 ∙ ap (λ (b : Past). length b.entries) c.self.view_is);
       paid = (paid.1, paid.2 ∙ c.self.invariant.1 ∙ ap rise_of c.self.view_is);
     }

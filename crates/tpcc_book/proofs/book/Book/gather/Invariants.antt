@@ -1,4 +1,4 @@
-use Rattle.tpcc_book.specs.Pooling.{AreAll}
+use Rattle.tpcc_book.specs.Internal.Pooling.{AreAll}
 use Rattle.tpcc_book.proofs.book.Book.gather.Given as goal
 
 abbrev pub invariant-loop-purse : goal.invariant-loop-purse

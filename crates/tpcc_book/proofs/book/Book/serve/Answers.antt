@@ -1,5 +1,27 @@
-use Rattle.std.proofs.Common.{rules}
+use Rattle.tpcc_book.proofs.Credits.{can_credit, served_by, totals_stay}
+use Rattle.tpcc_book.proofs.Keeps.{PayLaws}
 use Rattle.tpcc_book.proofs.book.Book.serve.Goals as goal
 
-pub serve_by-requires-clause-turns : goal.serve_by-requires-clause-turns
-serve_by-requires-clause-turns g c = search rules
+pub credit-requires : goal.credit-requires
+credit-requires g c =
+    let laws : PayLaws = record { rises = c.turn_pays.ensures.rises; least = c.turn_pays.ensures.least; most = c.turn_pays.ensures.most } in
+    record {
+      room =
+          can_credit laws c.self.inside.register c.turn-turned.new.self _ _ c.args.request c.turn-turned.result c.self.inside.entries.total c.self.inside.cents.total
+          c.journal.ensures.kept c.turn-turned.ensures.turn c.self.invariant.0 c.self.invariant.1;
+    }
+
+pub invariant_of-self : goal.invariant_of-self
+invariant_of-self g c =
+    let laws : PayLaws = record { rises = c.turn_pays.ensures.rises; least = c.turn_pays.ensures.least; most = c.turn_pays.ensures.most } in
+    totals_stay laws c.self.inside.register c.turn-turned.new.self _ _ c.args.request c.turn-turned.result c.self.inside.entries.total c.self.inside.cents.total c.credit.new.entries.total c.credit.new.cents.total
+    c.journal.ensures.kept c.turn-turned.ensures.turn c.self.invariant.0 c.self.invariant.1 c.credit.ensures.totals
+
+pub returns : goal.returns
+returns g c =
+    record {
+      served =
+          rw (← c.self.view_is)
+          (served_by c.self.inside.register c.turn-turned.new.self c.args.request c.args.purse c.terminal-terminal.result c.entries-entries.result c.turn-turned.result c.credit.result
+          c.terminal-terminal.ensures.terminal c.entries-entries.ensures.entries c.turn-turned.ensures.turn c.credit.ensures.answer c.credit.ensures.fits);
+    }

@@ -7,4 +7,4 @@ use Rattle.tpcc_delivery.proofs.waiting.Queue.push.Goals as goal
 pub invariant_of-self : goal.invariant_of-self
 invariant_of-self c =
     subst (λ (queue : List QueuedTicket). IsQueueInRange queue) (sym c.push_reserved.ensures.items)
-    (pushed_in_range c.self.inside.tickets.items c.args.ticket c.self.invariant c.requires.carrier c.seconds-queued.ensures.range)
+    (pushed_in_range c.self.inside.tickets.items c.args.ticket c.self.invariant c.requires.carrier c.seconds.ensures.range)

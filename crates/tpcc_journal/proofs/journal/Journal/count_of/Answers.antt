@@ -1,7 +1,7 @@
 use Rattle.std.proofs.Common.{◌∙◌, ap}
 use Rattle.tpcc_rows.specs.Replay.{count_of}
 use Rattle.tpcc_journal.specs.Log.{Log}
-use Rattle.tpcc_journal.specs.Tallies.{tally_of}
+use Rattle.tpcc_journal.specs.Internal.Tallies.{tally_of}
 use Rattle.tpcc_journal.proofs.journal.Journal.count_of.Goals as goal
 
 pub returns : goal.returns

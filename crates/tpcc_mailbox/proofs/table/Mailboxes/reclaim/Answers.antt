@@ -4,7 +4,7 @@ use Rattle.std.proofs.lemmas.List.{length-map}
 use Rattle.std.specs.Slots.{slots_items, slots_counts}
 use Rattle.tpcc_mailbox.specs.Rule.{words_of}
 use Rattle.tpcc_mailbox.specs.Tokens.{client_origin, client_mailbox}
-use Rattle.tpcc_mailbox.specs.Roles.{client_role, server_role}
+use Rattle.tpcc_mailbox.specs.Internal.Roles.{client_role, server_role}
 use Rattle.tpcc_mailbox.proofs.Sorting.{all_from}
 use Rattle.tpcc_mailbox.proofs.Joins.{enters}
 use Rattle.tpcc_mailbox.proofs.Settles.{apart_of, each_gives, in_hand_held, held_in_hand}

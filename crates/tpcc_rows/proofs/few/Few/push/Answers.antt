@@ -1,6 +1,6 @@
 use Rattle.std.proofs.Common.{arith, ap, ◌∙◌, sym, subst, ◌<◌, ◌+◌, length, length-take-le}
 use Rattle.std.specs.Prelude.{slice_set}
-use Rattle.tpcc_rows.specs.FewView.{IsFew}
+use Rattle.tpcc_rows.specs.Internal.FewView.{IsFew}
 use Rattle.tpcc_rows.proofs.InPlace.{pushed_is_few}
 use Rattle.tpcc_rows.proofs.few.Few.push.Goals as goal
 

@@ -1,5 +1,5 @@
 use Rattle.std.proofs.Common.{arith, ap, ◌≤◌, ◌∙◌, sym, subst, ◌++◌, ◌+◌, length, take, drop, length-take-le}
-use Rattle.tpcc_rows.specs.TextView.{IsText}
+use Rattle.tpcc_rows.specs.Internal.TextView.{IsText}
 use Rattle.tpcc_rows.proofs.InPlace.{extended_is_text, shows_added}
 use Rattle.tpcc_rows.proofs.text.Text.extend.Goals as goal
 

@@ -1,5 +1,5 @@
 use Rattle.std.proofs.Common.{sym, subst, ◌++◌, length, drop, replicate}
-use Rattle.tpcc_rows.specs.TextView.{IsText}
+use Rattle.tpcc_rows.specs.Internal.TextView.{IsText}
 use Rattle.tpcc_rows.proofs.InPlace.{copied_in}
 use Rattle.tpcc_rows.proofs.text.Text.of.Goals as goal
 

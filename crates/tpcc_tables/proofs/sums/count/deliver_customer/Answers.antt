@@ -1,5 +1,5 @@
 use Rattle.std.proofs.Common.{[], ◌∷◌}
-use Rattle.tpcc_tables.specs.Sums.{customer_sums_key, customer_with_delivery}
+use Rattle.tpcc_tables.specs.Internal.Sums.{customer_sums_key, customer_with_delivery}
 use Rattle.tpcc_tables.proofs.Sum.{entry_written, entry_missing}
 use Rattle.tpcc_tables.proofs.sums.count.deliver_customer.Goals as goal
 

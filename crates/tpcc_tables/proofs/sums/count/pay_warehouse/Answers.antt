@@ -1,5 +1,5 @@
 use Rattle.std.proofs.Common.{[], ◌∷◌}
-use Rattle.tpcc_tables.specs.Sums.{warehouse_sums_key, warehouse_with_payment}
+use Rattle.tpcc_tables.specs.Internal.Sums.{warehouse_sums_key, warehouse_with_payment}
 use Rattle.tpcc_tables.proofs.Sum.{entry_written, entry_missing}
 use Rattle.tpcc_tables.proofs.sums.count.pay_warehouse.Goals as goal
 

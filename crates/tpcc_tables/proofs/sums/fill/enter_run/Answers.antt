@@ -1,5 +1,5 @@
 use Rattle.std.proofs.Common.{◌+◌, length}
-use Rattle.tpcc_tables.specs.Listed.{listed}
+use Rattle.tpcc_tables.specs.DistrictVecs.{listed}
 use Rattle.tpcc_tables.proofs.SumFill.{can_grow_first, lines_most, delivered_is, next_entered}
 use Rattle.tpcc_tables.proofs.SumLines.{few_of, range_of}
 use Rattle.tpcc_tables.proofs.sums.fill.enter_run.Goals as goal

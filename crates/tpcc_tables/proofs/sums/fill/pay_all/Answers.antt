@@ -1,5 +1,5 @@
 use Rattle.std.proofs.Common.{◌∙◌, ap, length, get_or, arith}
-use Rattle.tpcc_tables.specs.Listed.{listed}
+use Rattle.tpcc_tables.specs.DistrictVecs.{listed}
 use Rattle.tpcc_tables.proofs.SumFill.{can_grow_first, next_paid}
 use Rattle.tpcc_tables.proofs.sums.fill.pay_all.Goals as goal
 

@@ -1,5 +1,5 @@
-use Rattle.tpcc_tables.specs.Listed.{listed}
-use Rattle.tpcc_tables.specs.Sums.{AreSums, first_rows}
+use Rattle.tpcc_tables.specs.DistrictVecs.{listed}
+use Rattle.tpcc_tables.specs.Internal.Sums.{AreSums, first_rows}
 use Rattle.tpcc_tables.proofs.sums.fill.pay_all.Given as goal
 
 abbrev pub invariant-loop-history : goal.invariant-loop-history

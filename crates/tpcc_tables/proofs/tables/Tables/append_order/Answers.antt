@@ -4,10 +4,10 @@ use Rattle.tpcc_rows.specs.Tables.{Rows, is_district}
 use Rattle.tpcc_rows.specs.NewOrder.{with_next_order}
 use Rattle.tpcc_tables.specs.Held.{Held}
 use Rattle.tpcc_tables.proofs.Ready.{ready-updated, ready-kept, keeps-same, parted}
-use Rattle.tpcc_tables.specs.Sums.{AreSums}
+use Rattle.tpcc_tables.specs.Internal.Sums.{AreSums}
 use Rattle.tpcc_tables.proofs.SumRanges.{held_grow}
 use Rattle.tpcc_tables.proofs.SumWrites.{order_entered, entered_lines}
-use Rattle.tpcc_tables.specs.View.{rows_of}
+use Rattle.tpcc_tables.specs.Internal.View.{rows_of}
 use Rattle.tpcc_tables.specs.Writes.{IsOrder, with_entered_order}
 use Rattle.tpcc_tables.proofs.Supplies.{near_starts}
 use Rattle.tpcc_tables.proofs.Enter.{district_fits, enterable, entered_is_well_keyed, lines_in_order, written_rows, owned}

@@ -2,10 +2,10 @@ use Rattle.std.proofs.Common.{ap, sym, ◌∙◌}
 use Rattle.tpcc_rows.specs.declared.requests.Who.TheVariants.{Name}
 use Rattle.tpcc_rows.specs.ChosenCustomer.{chosen_customer}
 use Rattle.tpcc_rows.specs.Tables.{find_customer}
-use Rattle.tpcc_keyed.specs.Names.{middle_id}
-use Rattle.tpcc_keyed.proofs.NameLaws.{middle_found, middle_none}
+use Rattle.tpcc_storage.specs.Names.{middle_id}
+use Rattle.tpcc_storage.proofs.NameLaws.{middle_found, middle_none}
 use Rattle.tpcc_tables.specs.Held.{Held}
-use Rattle.tpcc_tables.specs.View.{rows_of}
+use Rattle.tpcc_tables.specs.Internal.View.{rows_of}
 use Rattle.tpcc_tables.proofs.tables.Tables.customer_by_name.Goals as goal
 
 pub returns-in-Some : goal.returns-in-Some

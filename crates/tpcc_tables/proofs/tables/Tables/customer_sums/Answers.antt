@@ -2,8 +2,8 @@ use Rattle.std.proofs.Common.{ap, ◌∙◌, [], ◌∷◌}
 use Rattle.std.specs.Prelude.{unwrap_or, find}
 use Rattle.tpcc_rows.specs.declared.rows.CustomerRow.{CustomerRow}
 use Rattle.tpcc_tables.specs.Held.{Held}
-use Rattle.tpcc_tables.specs.Sums.{customer_sums, customer_sums_key, no_customer_sums, has_key}
-use Rattle.tpcc_tables.specs.View.{rows_of}
+use Rattle.tpcc_tables.specs.Internal.Sums.{customer_sums, customer_sums_key, no_customer_sums, has_key}
+use Rattle.tpcc_tables.specs.Internal.View.{rows_of}
 use Rattle.tpcc_tables.proofs.SumEntries.{customer_found}
 use Rattle.tpcc_tables.proofs.Sum.{in_order}
 use Rattle.tpcc_tables.proofs.tables.Tables.customer_sums.Goals as goal

@@ -1,12 +1,12 @@
 use Rattle.std.proofs.Common.{rules, sym, subst, ap, ◌∙◌, ◌≡◌, None}
 use Rattle.tpcc_rows.specs.Lists.{by_key, inserted}
 use Rattle.tpcc_rows.specs.Tables.{customer_key}
-use Rattle.tpcc_keyed.specs.Names.{name_of, name_before}
-use Rattle.tpcc_keyed.proofs.NameLaws.{names_loaded}
+use Rattle.tpcc_storage.specs.Names.{name_of, name_before}
+use Rattle.tpcc_storage.proofs.NameLaws.{names_loaded}
 use Rattle.tpcc_tables.specs.Held.{Held}
-use Rattle.tpcc_tables.specs.View.{rows_of}
+use Rattle.tpcc_tables.specs.Internal.View.{rows_of}
 use Rattle.tpcc_tables.specs.Loads.{customer_fault}
-use Rattle.tpcc_tables.specs.Sums.{customer_sums_key}
+use Rattle.tpcc_tables.specs.Internal.Sums.{customer_sums_key}
 use Rattle.tpcc_tables.proofs.Fresh.{fresh_customer}
 use Rattle.tpcc_tables.proofs.Load.{loaded_customer}
 use Rattle.tpcc_tables.proofs.SumRanges.{held_grow}

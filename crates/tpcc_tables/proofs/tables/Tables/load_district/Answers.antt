@@ -1,10 +1,10 @@
 use Rattle.std.proofs.Common.{sym, subst, ◌∙◌, ◌≡◌, None}
 use Rattle.tpcc_tables.specs.Held.{Held}
 use Rattle.tpcc_tables.proofs.Ready.{ready-none}
-use Rattle.tpcc_tables.specs.View.{rows_of}
+use Rattle.tpcc_tables.specs.Internal.View.{rows_of}
 use Rattle.tpcc_tables.specs.Loads.{district_fault}
 use Rattle.tpcc_rows.specs.Lists.{by_key, inserted}
-use Rattle.tpcc_tables.specs.Sums.{district_sums_key}
+use Rattle.tpcc_tables.specs.Internal.Sums.{district_sums_key}
 use Rattle.tpcc_tables.proofs.Fresh.{fresh_district}
 use Rattle.tpcc_tables.proofs.Load.{loaded_district}
 use Rattle.tpcc_tables.proofs.SumRanges.{held_grow}

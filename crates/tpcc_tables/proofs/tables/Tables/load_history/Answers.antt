@@ -1,6 +1,6 @@
 use Rattle.std.proofs.Common.{rules, sym, subst, ◌∙◌, ◌≡◌, None}
 use Rattle.tpcc_tables.specs.Held.{Held}
-use Rattle.tpcc_tables.specs.View.{rows_of}
+use Rattle.tpcc_tables.specs.Internal.View.{rows_of}
 use Rattle.tpcc_tables.specs.Loads.{history_fault}
 use Rattle.tpcc_tables.proofs.Load.{loaded_history}
 use Rattle.tpcc_tables.proofs.SumChanges.{paid}

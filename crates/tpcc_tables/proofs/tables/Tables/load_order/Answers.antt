@@ -1,7 +1,7 @@
 use Rattle.std.proofs.Common.{sym, subst, ◌∙◌, ◌≡◌, None, arith}
 use Rattle.tpcc_tables.specs.Held.{Held}
 use Rattle.tpcc_tables.proofs.Ready.{ready-kept, ready-grown}
-use Rattle.tpcc_tables.specs.View.{rows_of}
+use Rattle.tpcc_tables.specs.Internal.View.{rows_of}
 use Rattle.tpcc_tables.specs.Loads.{order_fault}
 use Rattle.tpcc_rows.specs.Lists.{by_key}
 use Rattle.tpcc_rows.specs.Tables.{order_key}

@@ -1,7 +1,7 @@
 use Rattle.std.proofs.Common.{true, sym, subst, ◌∙◌, ◌≡◌, None, arith}
 use Rattle.tpcc_tables.specs.Held.{Held}
 use Rattle.tpcc_tables.proofs.Ready.{ready-kept, ready-grown}
-use Rattle.tpcc_tables.specs.View.{rows_of}
+use Rattle.tpcc_tables.specs.Internal.View.{rows_of}
 use Rattle.tpcc_tables.specs.Loads.{order_line_fault}
 use Rattle.tpcc_tables.proofs.Load.{loaded_order_line}
 use Rattle.tpcc_tables.proofs.SumEntries.{order_line_row_is}

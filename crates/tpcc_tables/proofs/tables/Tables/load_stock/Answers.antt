@@ -1,6 +1,6 @@
 use Rattle.std.proofs.Common.{sym, subst, ◌∙◌, ◌≡◌, None}
 use Rattle.tpcc_tables.specs.Held.{Held}
-use Rattle.tpcc_tables.specs.View.{rows_of}
+use Rattle.tpcc_tables.specs.Internal.View.{rows_of}
 use Rattle.tpcc_tables.specs.Loads.{stock_fault}
 use Rattle.tpcc_tables.proofs.Fresh.{fresh_stock}
 use Rattle.tpcc_tables.proofs.Load.{loaded_stock}

@@ -1,9 +1,9 @@
 use Rattle.std.proofs.Common.{sym, subst, ◌∙◌, ◌≡◌, None}
 use Rattle.tpcc_tables.specs.Held.{Held}
-use Rattle.tpcc_tables.specs.View.{rows_of}
+use Rattle.tpcc_tables.specs.Internal.View.{rows_of}
 use Rattle.tpcc_tables.specs.Loads.{warehouse_fault}
 use Rattle.tpcc_rows.specs.Lists.{by_key, inserted}
-use Rattle.tpcc_tables.specs.Sums.{warehouse_sums_key}
+use Rattle.tpcc_tables.specs.Internal.Sums.{warehouse_sums_key}
 use Rattle.tpcc_tables.proofs.Fresh.{fresh_warehouse}
 use Rattle.tpcc_tables.proofs.Load.{loaded_warehouse}
 use Rattle.tpcc_tables.proofs.SumRanges.{held_grow}

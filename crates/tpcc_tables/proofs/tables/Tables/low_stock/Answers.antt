@@ -4,9 +4,9 @@ use Rattle.std.specs.List.{list_any}
 use Rattle.tpcc_rows.specs.Lists.{distinct}
 use Rattle.tpcc_rows.specs.Lookups.{is_low}
 use Rattle.tpcc_rows.specs.Tables.{is_stock}
-use Rattle.tpcc_district_rows.specs.Runs.{is_line_between}
+use Rattle.tpcc_storage.specs.Runs.{is_line_between}
 use Rattle.tpcc_tables.specs.Held.{Held}
-use Rattle.tpcc_tables.specs.View.{rows_of}
+use Rattle.tpcc_tables.specs.Internal.View.{rows_of}
 use Rattle.tpcc_tables.proofs.Line.{between_chosen, few_recent, lines_between}
 use Rattle.tpcc_tables.proofs.tables.Tables.low_stock.Goals as goal
 

@@ -4,7 +4,7 @@ use Rattle.std.specs.Int.{w64}
 use Rattle.tpcc_money.specs.Amounts.{total}
 use Rattle.tpcc_rows.specs.declared.rows.OrderLineRow.{OrderLineRow}
 use Rattle.tpcc_tables.proofs.DeliveryFacts.{amount_fits}
-use Rattle.tpcc_tables.specs.View.{rows_of}
+use Rattle.tpcc_tables.specs.Internal.View.{rows_of}
 use Rattle.tpcc_tables.proofs.tables.Tables.order_amount.Goals as goal
 
 pub amount-requires : goal.amount-requires

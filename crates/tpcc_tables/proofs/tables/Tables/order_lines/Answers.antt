@@ -1,6 +1,6 @@
 use Rattle.std.proofs.Common.{ap, arith, length}
 use Rattle.tpcc_tables.proofs.Line.{few_lines}
-use Rattle.tpcc_tables.specs.View.{rows_of}
+use Rattle.tpcc_tables.specs.Internal.View.{rows_of}
 use Rattle.tpcc_tables.proofs.tables.Tables.order_lines.Goals as goal
 
 pub copy_lines-requires : goal.copy_lines-requires

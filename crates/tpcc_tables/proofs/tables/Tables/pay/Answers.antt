@@ -1,9 +1,9 @@
 use Rattle.std.proofs.Common.{rules, refl, sym, subst, ◌∙◌}
 use Rattle.tpcc_tables.specs.Held.{Held}
-use Rattle.tpcc_tables.specs.View.{rows_of}
+use Rattle.tpcc_tables.specs.Internal.View.{rows_of}
 use Rattle.tpcc_rows.specs.Tables.{is_district, is_customer}
-use Rattle.tpcc_tables.specs.Writes.{with_payment, IsPayment, richer_district, charged_customer}
-use Rattle.tpcc_keyed.proofs.NameLaws.{names_kept}
+use Rattle.tpcc_tables.specs.Writes.{with_payment, IsPayment, richer_district, customer_after_payment}
+use Rattle.tpcc_storage.proofs.NameLaws.{names_kept}
 use Rattle.tpcc_tables.proofs.Ready.{ready-updated}
 use Rattle.tpcc_tables.proofs.SumChanges.{paid}
 use Rattle.tpcc_tables.proofs.SumRanges.{held_grow}
@@ -37,7 +37,7 @@ invariant_of-self c =
     let k = subst (λ (t : Held). IsPayment t.rows c.args.history c.args.information) (sym c.self.view_is) c.requires.payment in
     record {
       well_keyed = rw (c.pay_warehouse.ensures, c.pay_district.ensures, c.pay_customer.ensures, c.append_history.ensures) (paid_is_well_keyed (rows_of c.self.inside) c.args.history c.args.information k c.self.invariant.well_keyed);
-      names = rw c.pay_customer.ensures (c.self.invariant.names ∙ sym (names_kept (is_customer c.args.history.customer_warehouse c.args.history.customer_district c.args.history.customer) (charged_customer c.args.history.amount c.args.information) (λ x. refl) c.self.inside.customers.items));
+      names = rw c.pay_customer.ensures (c.self.invariant.names ∙ sym (names_kept (is_customer c.args.history.customer_warehouse c.args.history.customer_district c.args.history.customer) (customer_after_payment c.args.history.amount c.args.information) (λ x. refl) c.self.inside.customers.items));
       sums = rw (c.pay_warehouse.ensures, c.pay_district.ensures, c.pay_customer.ensures, c.append_history.ensures) (paid_rows (rows_of c.self.inside) c.args.history c.args.information c.pay.new.self (paid (rows_of c.self.inside) c.args.history c.self.inside.sums c.pay.new.self c.self.invariant.sums c.pay.ensures));
       ready = rw c.pay_district.ensures (ready-updated c.self.inside.are_open c.self.inside.order_room (is_district c.args.history.warehouse c.args.history.district) (richer_district c.args.history.amount) c.self.inside.districts.items c.self.inside.orders c.self.inside.order_lines c.self.inside.new_orders (λ d. refl) c.self.invariant.ready);
       payments = search rules;

@@ -2,8 +2,8 @@ use Rattle.std.proofs.Common.{ap, ◌∙◌, [], ◌∷◌}
 use Rattle.std.specs.Prelude.{unwrap_or, find}
 use Rattle.tpcc_rows.specs.declared.rows.WarehouseRow.{WarehouseRow}
 use Rattle.tpcc_tables.specs.Held.{Held}
-use Rattle.tpcc_tables.specs.Sums.{warehouse_sums, warehouse_sums_key, no_warehouse_sums, has_key}
-use Rattle.tpcc_tables.specs.View.{rows_of}
+use Rattle.tpcc_tables.specs.Internal.Sums.{warehouse_sums, warehouse_sums_key, no_warehouse_sums, has_key}
+use Rattle.tpcc_tables.specs.Internal.View.{rows_of}
 use Rattle.tpcc_tables.proofs.SumEntries.{warehouse_found}
 use Rattle.tpcc_tables.proofs.Sum.{in_order}
 use Rattle.tpcc_tables.proofs.tables.Tables.warehouse_sums.Goals as goal

@@ -9,7 +9,7 @@ use Rattle.tpcc_book.specs.Past.{Past}
 use Rattle.tpcc_book.specs.Purses.{PurseView}
 use Rattle.tpcc_turns.specs.Knows.{Knows, Holds}
 use Rattle.tpcc_turns.specs.TurnRule.{knows}
-use Rattle.tpcc_turns.specs.TurnSteps.{HasTaken}
+use Rattle.tpcc_turns.specs.Internal.TurnSteps.{HasTaken}
 use Rattle.tpcc_turns.specs.Seats.{SeatedView, keeper_of, view_of, number_of, IsHeldTurn}
 use Rattle.tpcc_turns.proofs.turns.Turns.begin.Goals as goal
 

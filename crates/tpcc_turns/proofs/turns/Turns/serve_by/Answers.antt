@@ -12,5 +12,5 @@ give-requires-clause-giving g c =
 pub returns : goal.returns
 returns g c =
     let served = c.serve_by-answer in
-    let told = turned_of c.into_seat-purse.result.0 c.args.purse c.into_seat-purse.result.1.me c.take-ticket.new.seat.me c.give.new.seat.me c.take-ticket.result.0 c.take-ticket.result.1 served.new.self served.result c.args.request c.into_seat-purse.ensures.purse c.into_seat-purse.ensures.seat c.take-ticket.ensures.taken served.ensures.served c.give.ensures.ended c.journal-journal.ensures.kept in
+    let told = turned_of c.into_seat-purse.result.0 c.args.purse c.into_seat-purse.result.1.me c.take-ticket.new.seat.me c.give.new.seat.me c.take-ticket.result.0 c.take-ticket.result.1 served.new.self served.result c.args.request c.into_seat-purse.ensures.purse c.into_seat-purse.ensures.seat c.take-ticket.ensures.taken served.ensures.served c.give.ensures.ended c.journal.ensures.kept in
     record { turned = subst (λ (t : AnswerView SeatedView). IsTurned c.args.request c.args.purse t) (sym c.carried_with.ensures.carried) told }

@@ -4,7 +4,7 @@ use Rattle.tpcc_rows.specs.declared.entry.Entry.{Entry}
 use Rattle.tpcc_book.specs.Past.{Past, IsKept}
 use Rattle.tpcc_turns.specs.Seats.{SeatedView, IsTurned}
 use Rattle.tpcc_book.specs.Serve.{IsServed}
-use Rattle.tpcc_turns.specs.TurnSteps.{HasShown}
+use Rattle.tpcc_turns.specs.Internal.TurnSteps.{HasShown}
 use Rattle.tpcc_book.specs.AnswerView.{AnswerView}
 use Rattle.tpcc_turns.proofs.Keepers.{growing_of, longer_of, turned_within}
 use Rattle.tpcc_turns.proofs.turns.Turns.serve_held.Goals as goal
@@ -20,7 +20,7 @@ pub returns-clause-turned : goal.returns-clause-turned
 returns-clause-turned g c =
     let h = c.held.inside in
     let served = c.serve_by-answer in
-    let kept = subst IsKept c.show-book.ensures.book c.journal-journal.ensures.kept in
+    let kept = subst IsKept c.show-book.ensures.book c.journal.ensures.kept in
     let told = turned_within c.into_seat-purse.result.0 c.args.purse h.seat.me c.adopt.new.seat.me c.show-book.new.seat.me c.free-back.result.me c.into_seat-purse.result.1.me.0 (h.purse.room + 1) h.book served.new.self served.result c.args.request c.into_seat-purse.ensures.purse (ap (λ m. m.0) c.into_seat-purse.ensures.seat) c.held.invariant.holds c.held.invariant.opened c.adopt.ensures.adopted served.ensures.served c.show-book.ensures.shown c.free-back.ensures.back.1 kept in
     subst (λ (t : AnswerView SeatedView). IsTurned c.args.request c.args.purse t) (sym c.carried_with.ensures.carried) told
 

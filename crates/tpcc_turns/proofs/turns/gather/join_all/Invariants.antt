@@ -1,5 +1,5 @@
 use Rattle.std.proofs.Common.{◌≡◌}
-use Rattle.tpcc_turns.specs.Gathering.{HasJoined}
+use Rattle.tpcc_turns.specs.Internal.Gathering.{HasJoined}
 use Rattle.tpcc_turns.proofs.turns.gather.join_all.Given as goal
 
 abbrev pub invariant-loop-next : goal.invariant-loop-next

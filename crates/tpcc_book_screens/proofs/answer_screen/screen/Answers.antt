@@ -1,5 +1,0 @@
-use Rattle.std.proofs.Common.{rules}
-use Rattle.tpcc_book_screens.proofs.answer_screen.screen.Goals as goal
-
-pub returns-in-Err : goal.returns-in-Err
-returns-in-Err g c = search rules

@@ -1,1 +1,0 @@
-pub use Rattle.tpcc_book.specs.Past

@@ -1,7 +1,0 @@
-use Rattle.std.proofs.Common.{◌≡◌, take}
-use Rattle.tpcc_district_rows.proofs.parts.range.OrderRange.of_rows.Given as goal
-
-abbrev pub invariant-loop-row : goal.invariant-loop-row
-invariant-loop-row l = record {
-  so_far : l.range ≡ take l.row-index l.rows;
-}

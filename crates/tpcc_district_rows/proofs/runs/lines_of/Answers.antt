@@ -1,8 +1,0 @@
-use Rattle.std.proofs.Common.{◌∙◌, ◌-◌, take, drop}
-use Rattle.tpcc_district_rows.proofs.Run.{lines_are}
-use Rattle.tpcc_district_rows.proofs.runs.lines_of.Goals as goal
-
-pub returns : goal.returns
-returns c =
-    (λ i. take (c.place_of-start.ensures.end i - c.place_of-start.ensures.start i) (drop (c.place_of-start.ensures.start i) c.args.rows.now))
-    ∙ lines_are c.args.warehouse c.args.district c.args.order c.args.rows.now c.requires.keyed

@@ -1,6 +1,0 @@
-use Rattle.std.proofs.Common.{◌≡◌, ◌++◌, map, take, drop}
-use Rattle.tpcc_laws.proofs.DeliveryKeeps.{with_delivery_date}
-use Rattle.tpcc_district_rows.proofs.runs.stamp_all.Given as goal
-
-abbrev pub invariant-loop-line : goal.invariant-loop-line
-invariant-loop-line l = l.line-items ≡ map (with_delivery_date l.moment) (take l.line-index l.fn.lines) ++ drop l.line-index l.fn.lines

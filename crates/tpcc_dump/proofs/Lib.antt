@@ -1,3 +1,0 @@
-pub mod Record
-mod Row
-mod ReadBack

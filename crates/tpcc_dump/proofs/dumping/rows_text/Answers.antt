@@ -1,8 +1,0 @@
-use Rattle.std.proofs.Common.{[]}
-use Rattle.tpcc_dump.specs.Dump.{records_text, records_from}
-use Rattle.tpcc_dump.proofs.dumping.rows_text.Goals as goal
-
-pub returns : goal.returns
-returns c =
-    c.finish.ensures (records_text (records_from c.args.tables.now.rows c.args.table c.args.from c.args.count))
-    (c.in_ok-take_rows.ensures [] c.start-writer.ensures)

@@ -1,5 +1,0 @@
-use Rattle.std.proofs.Common.{◌≡◌, ◌++◌, map, take}
-use Rattle.tpcc_dump.proofs.fields.Fields.put_names.Given as goal
-
-abbrev pub invariant-loop-name : goal.invariant-loop-name
-invariant-loop-name l = l.self ≡ l.fn.self ++ map (λ name. name.now) (take l.name-index l.names)

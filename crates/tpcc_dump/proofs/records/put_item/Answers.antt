@@ -1,6 +1,0 @@
-use Rattle.tpcc_dump.specs.Records.{item_record}
-use Rattle.tpcc_dump.proofs.records.put_item.Goals as goal
-
-pub returns : goal.returns
-unfolding item_record
-returns c = rw (c.bytes.ensures.bytes, c.bytes-2.ensures.bytes) at c.set.ensures

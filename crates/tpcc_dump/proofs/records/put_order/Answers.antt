@@ -1,6 +1,0 @@
-use Rattle.tpcc_dump.specs.Records.{order_record}
-use Rattle.tpcc_dump.proofs.records.put_order.Goals as goal
-
-pub returns : goal.returns
-unfolding order_record
-returns c = rw (c.nullable_number.ensures, c.flag.ensures) at c.set.ensures

@@ -1,8 +1,0 @@
-use Rattle.std.proofs.Common.{rules}
-use Rattle.tpcc_keyed.proofs.keyed.StockRowKeyed.has_key.Goals as goal
-
-pub returns-then-self-sought : goal.returns-then-self-sought
-returns-then-self-sought c = search rules
-
-pub returns-else-self-sought : goal.returns-else-self-sought
-returns-else-self-sought c = search rules

@@ -1,5 +1,0 @@
-use Rattle.std.proofs.Common.{rules}
-use Rattle.tpcc_keyed.proofs.keyed_rows.KeyedRows.insert_in_room.Goals as goal
-
-pub returns : goal.returns
-returns g c = search rules

@@ -1,3 +1,0 @@
-pub mod Script
-pub mod Sayable
-pub mod Reading

@@ -1,5 +1,0 @@
-use Rattle.std.proofs.Common.{rules}
-use Rattle.tpcc_progress.proofs.progress.is_second_later.Goals as goal
-
-pub returns : goal.returns
-returns c = search rules

@@ -1,3 +1,0 @@
-pub mod Decides
-pub mod Keeps
-pub mod YearToDate

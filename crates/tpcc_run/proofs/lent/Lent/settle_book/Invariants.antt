@@ -1,4 +1,0 @@
-use Rattle.tpcc_run.proofs.lent.Lent.settle_book.Given as goal
-
-abbrev pub ghosts-run_seated : goal.ghosts-run_seated
-ghosts-run_seated g a = record { table = a.turns.table }

@@ -1,3 +1,0 @@
-pub mod Chains
-mod Request
-pub mod Districts

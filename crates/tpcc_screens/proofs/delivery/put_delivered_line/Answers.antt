@@ -1,6 +1,0 @@
-use Rattle.tpcc_screens.specs.Screens.{delivered_line}
-use Rattle.tpcc_screens.proofs.delivery.put_delivered_line.Goals as goal
-
-pub returns : goal.returns
-unfolding delivered_line
-returns c = c.put_all.ensures

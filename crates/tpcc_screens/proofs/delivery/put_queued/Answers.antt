@@ -1,6 +1,0 @@
-use Rattle.tpcc_screens.specs.Screens.{queued_screen}
-use Rattle.tpcc_screens.proofs.delivery.put_queued.Goals as goal
-
-pub returns : goal.returns
-unfolding queued_screen
-returns c = c.put_all.ensures

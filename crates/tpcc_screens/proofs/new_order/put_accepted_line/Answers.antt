@@ -1,6 +1,0 @@
-use Rattle.tpcc_screens.specs.Screens.{accepted_line}
-use Rattle.tpcc_screens.proofs.new_order.put_accepted_line.Goals as goal
-
-pub returns : goal.returns
-unfolding accepted_line
-returns c = rw (c.bytes.ensures.bytes, c.bytes-2.ensures.bytes) at c.put_all.ensures

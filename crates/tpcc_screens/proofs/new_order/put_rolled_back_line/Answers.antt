@@ -1,6 +1,0 @@
-use Rattle.tpcc_screens.specs.Screens.{rolled_back_line}
-use Rattle.tpcc_screens.proofs.new_order.put_rolled_back_line.Goals as goal
-
-pub returns : goal.returns
-unfolding rolled_back_line
-returns c = rw (c.bytes.ensures.bytes, c.bytes-2.ensures.bytes) at c.put_all.ensures

@@ -1,8 +1,0 @@
-use Rattle.std.proofs.Common.{take}
-use Rattle.std.specs.Prelude.{flat_map}
-use Rattle.tpcc_screens.specs.Adding.{Adds}
-use Rattle.tpcc_screens.specs.Screens.{ordered_line}
-use Rattle.tpcc_screens.proofs.order_status.put_ordered_lines.Given as goal
-
-abbrev pub invariant-loop-line : goal.invariant-loop-line
-invariant-loop-line l = Adds l.fn.screen l.screen (flat_map ordered_line (take l.line-index l.lines))

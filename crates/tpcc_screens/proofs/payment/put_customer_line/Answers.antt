@@ -1,9 +1,0 @@
-use Rattle.tpcc_screens.specs.Screens.{customer_line}
-use Rattle.tpcc_screens.proofs.Chains.{told}
-use Rattle.tpcc_screens.proofs.payment.put_customer_line.Goals as goal
-
-pub returns : goal.returns
-unfolding customer_line
-returns c =
-    told c.args.screen.now c.put_all.new.self _ (customer_line c.args.paid.now) c.put_all.result
-    (rw (c.bytes.ensures.bytes, c.bytes-2.ensures.bytes, c.bytes-3.ensures.bytes, c.bytes-4.ensures.bytes, c.bytes-5.ensures.bytes)) c.put_all.ensures

@@ -1,7 +1,0 @@
-use Rattle.std.proofs.Common.{append_assoc}
-use Rattle.tpcc_screens.specs.Screens.{address_text, place_lines}
-use Rattle.tpcc_screens.proofs.payment.put_place_lines.Goals as goal
-
-pub returns : goal.returns
-unfolding place_lines
-returns c = rw (append_assoc (address_text c.args.paid.now.warehouse_address)) c.put_all.ensures

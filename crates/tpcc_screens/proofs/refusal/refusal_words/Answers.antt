@@ -1,7 +1,0 @@
-use Rattle.std.proofs.Common.{rules}
-use Rattle.tpcc_screens.specs.Screens.{refused_screen}
-use Rattle.tpcc_screens.proofs.refusal.refusal_words.Goals as goal
-
-pub returns-in-Count : goal.returns-in-Count
-unfolding refused_screen
-returns-in-Count c = search rules

@@ -1,6 +1,0 @@
-use Rattle.tpcc_screens.specs.RequestLines.{status_line}
-use Rattle.tpcc_screens.proofs.request_lines.put_status_query.Goals as goal
-
-pub returns : goal.returns
-unfolding status_line
-returns c = rw c.customer_word.ensures at c.put_all.ensures

@@ -1,6 +1,0 @@
-use Rattle.tpcc_screens.specs.RequestLines.{delivery_line}
-use Rattle.tpcc_screens.proofs.request_lines.put_ticket.Goals as goal
-
-pub returns : goal.returns
-unfolding delivery_line
-returns c = rw c.seconds.ensures.value at c.put_all.ensures

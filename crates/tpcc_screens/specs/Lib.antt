@@ -1,5 +1,0 @@
-pub mod Adding
-pub mod Pieces
-pub mod Report
-pub mod RequestLines
-pub mod Screens

@@ -1,0 +1,5 @@
+use Rattle.std.proofs.Common.{rules}
+use Rattle.tpcc_show.proofs.book_screens.answer_screen.screen.Goals as goal
+
+pub returns-in-Err : goal.returns-in-Err
+returns-in-Err g c = search rules

@@ -1,0 +1,10 @@
+-- What no public contract reaches: words of private contracts, of how values are seen, and of proofs.
+pub mod ByDistrictView
+pub mod DistrictRows
+pub mod DistrictRowsView
+pub mod DistrictWords
+pub mod KeyedRowsView
+pub mod MapKeys
+pub mod OrderRange
+pub mod OrderRangeView
+pub mod PendingView

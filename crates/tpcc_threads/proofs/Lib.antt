@@ -1,8 +1,0 @@
-mod Asked
-mod ComeBack
-mod Joined
-mod Kept
-mod StandAfter
-mod Started
-mod Turned
-mod Worked

@@ -1,5 +1,0 @@
-use Rattle.std.proofs.Common.{rules}
-use Rattle.tpcc_threads.proofs.operator.Operator.into_parts.Goals as goal
-
-pub returns-clause-receipts : goal.returns-clause-receipts
-returns-clause-receipts g c = search rules

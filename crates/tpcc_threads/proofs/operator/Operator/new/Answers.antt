@@ -1,8 +1,0 @@
-use Rattle.std.proofs.Common.{rules}
-use Rattle.tpcc_threads.proofs.operator.Operator.new.Goals as goal
-
-pub invariant_of-result : goal.invariant_of-result
-invariant_of-result g c = search rules
-
-pub returns-clause-terminal : goal.returns-clause-terminal
-returns-clause-terminal g c = search rules

@@ -1,5 +1,0 @@
-use Rattle.std.proofs.Common.{rules}
-use Rattle.tpcc_threads.proofs.results.ThreadResults.without_memory.Goals as goal
-
-pub returns-clause-told : goal.returns-clause-told
-returns-clause-told g = search rules

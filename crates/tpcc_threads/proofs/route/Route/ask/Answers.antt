@@ -1,5 +1,0 @@
-use Rattle.tpcc_threads.proofs.Turned.{turned_as}
-use Rattle.tpcc_threads.proofs.route.Route.ask.Goals as goal
-
-pub returns-in-ByTurn : goal.returns-in-ByTurn
-returns-in-ByTurn g c = record { turned = search turned_as }

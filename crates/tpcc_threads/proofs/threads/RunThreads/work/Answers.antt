@@ -1,7 +1,0 @@
-use Rattle.tpcc_threads.proofs.Worked.{has_worked}
-use Rattle.tpcc_threads.proofs.threads.RunThreads.work.Goals as goal
-
-pub returns : goal.returns
-returns g c = record {
-  worked = has_worked c.args.duty c.args.self.now.scale c.args.self.now.plan c.args.operator c.ask_all.result c.requires.empty c.requires.started c.ask_all.ensures.asked;
-}

@@ -1,0 +1,4 @@
+-- What no public contract reaches: words of private contracts, of how values are seen, and of proofs.
+pub mod Gathering
+pub mod Shares
+pub mod TurnSteps
