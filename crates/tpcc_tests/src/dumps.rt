@@ -1,10 +1,10 @@
-//! A dump of a text that no opening has, and one that is made again where memory was refused.
+//! A dump of a text that no opening has.
 use crate::asked::let_go;
 use std::alloc::{AllocGlobal, Global};
 use std::process::Abort;
-use tpcc_dump::dump;
 use tpcc_money::{Cents, Rate};
 use tpcc_rows::{Address, Row, Table, Text, WarehouseRow};
+use tpcc_show::dump;
 use tpcc_tables::Tables;
 
 const RECORDS: &str =
@@ -27,26 +27,9 @@ fn warehouse() -> WarehouseRow {
     }
 }
 
-fn dump_text(alloc: Global, tables: &Tables, table: Table) -> Option<Vec<u8>> {
+/// A table's dump, where there is memory for it.
+pub fn dump_text(alloc: Global, tables: &Tables, table: Table) -> Option<Vec<u8>> {
     dump(alloc, tables, table, Vec::new(alloc)).ok()
-}
-
-/// Whether the ITEM table has a dump that isn't empty.
-fn has_dump(alloc: Global, tables: &Tables) -> bool {
-    match dump_text(alloc, tables, Table::Item) {
-        Some(text) => !text.is_empty(),
-        None => false,
-    }
-}
-
-pub fn is_dumped(rt: &(impl Abort + AllocGlobal), tables: &Tables) {
-    assert!(rt; has_dump(rt.alloc(), tables) || has_dump(rt.alloc(), tables));
-}
-
-fn is_quoted(rt: &(impl Abort + AllocGlobal), tables: &mut Tables) {
-    assert!(rt; tables.load(Row::Warehouse(warehouse())).is_ok());
-    let text = dump_text(rt.alloc(), tables, Table::Warehouse).expect(rt, "a dump");
-    assert!(rt; text.as_slice() == RECORDS.as_bytes());
 }
 
 #[test]
@@ -54,4 +37,10 @@ fn commas_and_quotes_within_a_text_are_quoted(rt: HostRuntime) {
     let mut tables = Tables::empty(rt.alloc());
     is_quoted(&rt, &mut tables);
     let_go(tables)
+}
+
+fn is_quoted(rt: &(impl Abort + AllocGlobal), tables: &mut Tables) {
+    assert!(rt; tables.load(Row::Warehouse(warehouse())).is_ok());
+    let text = dump_text(rt.alloc(), tables, Table::Warehouse).expect(rt, "a dump");
+    assert!(rt; text.as_slice() == RECORDS.as_bytes());
 }

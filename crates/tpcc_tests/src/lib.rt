@@ -6,6 +6,8 @@ mod asked;
 #[cfg(test)]
 mod books;
 #[cfg(test)]
+mod counted_turn;
+#[cfg(test)]
 mod desk;
 #[cfg(test)]
 mod dumps;
@@ -14,11 +16,15 @@ mod faults;
 #[cfg(test)]
 mod mailboxes;
 #[cfg(test)]
+mod pay_once;
+#[cfg(test)]
 mod plain_turn;
 #[cfg(test)]
 mod printed;
 #[cfg(test)]
 mod progress;
+#[cfg(test)]
+mod purses;
 #[cfg(test)]
 mod refused;
 #[cfg(test)]
@@ -31,7 +37,5 @@ mod server;
 mod sizes;
 #[cfg(test)]
 mod tables;
-#[cfg(test)]
-mod terminals;
 #[cfg(test)]
 mod turns;

@@ -2,8 +2,10 @@
 use std::alloc::AllocGlobal;
 use std::fmt::Display;
 use std::process::Abort;
-use tpcc_money::{AmountFault, Cents, Rate};
+use tpcc_audit::report;
+use tpcc_money::{AmountFault, Cents, Moment, Rate};
 use tpcc_rows::{Field, Refusal, TextFault};
+use tpcc_text::Report;
 
 /// The value's text is this one.
 fn is_printed(rt: &(impl Abort + AllocGlobal), value: impl Display + Drop, expected: &str) {
@@ -39,6 +41,25 @@ fn faults_print_their_names(rt: HostRuntime) {
         &[(AmountFault::Shape, "Shape"), (AmountFault::Range, "Range")],
     );
     are_printed(&rt, &[(TextFault::TooLong, "TooLong")]);
+}
+
+#[test]
+fn a_moment_is_a_date_and_a_time(rt: HostRuntime) {
+    let leap_day = Moment::new(951_782_400).text(rt.alloc());
+    assert!(rt; leap_day.is_ok_and(|text| text.as_slice() == b"2000-02-29T00:00:00".as_slice()));
+}
+
+#[test]
+fn a_report_is_three_lines(rt: HostRuntime) {
+    let totals = Report {
+        entries: 3,
+        paid: Cents::new(350),
+        rise: Cents::new(350),
+    };
+    let written = report(&totals, Vec::new(rt.alloc()));
+    assert!(rt;
+        written.is_ok_and(|text| text.as_slice() == b"entries 3\npaid 3.50\nrise 3.50\n".as_slice())
+    );
 }
 
 // Those of docs/formats.md and of docs/model.md.

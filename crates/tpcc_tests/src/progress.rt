@@ -8,7 +8,7 @@ use std::sync::atomic::{AtomicU64, Ordering};
 use std::time::{Clock, Duration};
 use tpcc_book::Register;
 use tpcc_money::Moment;
-use tpcc_progress::{Progress, ProgressLine};
+use tpcc_program::{Progress, ProgressLine};
 use tpcc_rows::{Request, StockQuery};
 use tpcc_run::{Plan, Service};
 use tpcc_server::OneTurn;

@@ -1,8 +1,8 @@
 //! Screens that no script brings about, with ample memory.
 use std::process::Abort;
-use tpcc_money::{Cents, NoMemory};
-use tpcc_rows::{Field, Refusal, Reply, Status, Text};
-use tpcc_screens::{Screen, broken_screen, refusal_screen, reply_screen};
+use tpcc_money::Cents;
+use tpcc_rows::{Field, NoMemory, Refusal, Reply, Status, Text};
+use tpcc_text::{Screen, broken_screen, refusal_screen, reply_screen};
 
 /// Asserts a screen.
 fn shows<R: Abort>(rt: &R, screen: Result<Screen, NoMemory>, shown: &str) {

@@ -1,8 +1,7 @@
 //! The tables, the conditions and the transactions in one call, on rows of the plain opening.
-mod changes;
-mod conditions;
+pub mod changes;
+pub mod conditions;
 mod loads;
 pub mod opening;
-pub mod stories;
-mod totals;
-mod transactions;
+pub mod totals;
+pub mod transactions;

@@ -3,38 +3,48 @@ ghost use Rattle.std.specs.Prelude.{◌≡◌, None};
 ghost use Rattle.std.specs.Thread.{IsSync};
 ghost use Rattle.tpcc_mailbox.specs.Tokens.{identity, idle_origin, serving_origin, serving_hand};
 
-use super::opened::{CountedTurn, One, make_one};
-use super::{Purses, Story, tell};
-use crate::asked::{balance, let_go, payment, purse_of, status};
+use super::posted::{OneMailbox, make_one, serve_open};
+use crate::asked::{BEFORE, balance, let_go, payment, purse_of, status};
+use crate::counted_turn::CountedTurn;
 use crate::plain_turn::PlainTurn;
+use crate::purses::Settlement::Totals;
+use crate::purses::{Back, Purses, settles};
+use crate::turns::{AtTurns, at_turns, name_turns, start_turns};
 use std::alloc::Global;
+use std::marker::Brand;
 use std::process::Abort;
 use std::sync::Wait;
 use std::sync::atomic::{AtomicU64, Ordering};
 use std::thread::{Threads, join};
-use tpcc_book::Naming;
+use tpcc_book::{Blanks, Naming};
 use tpcc_money::Cents;
 use tpcc_rows::Request;
-use tpcc_server::{
-    Errand, Job, JobAnswer, JobIdle, JobMailboxes, JobServing, OpenGate, ask, serve_until_closed,
-};
-use tpcc_turns::{SeatedPurse, Seating, Turns};
+use tpcc_server::{Errand, Job, JobAnswer, JobIdle, JobMailboxes, JobServing, ask};
+use tpcc_turns::{SeatedPurse, Seating, Turns, UnnamedTurns};
 
 #[test]
 fn a_job_that_is_run_makes_its_own_call_once(rt: HostRuntime) {
-    tell(&rt, rt.alloc(), Story::RunAlone)
+    at_turns(&rt, rt.alloc(), LoneJob, Totals(1, 100)).expect(&rt, BEFORE)
 }
 
-pub(super) fn run_alone<N: Naming, T: Seating, R: Wait + Abort>(
-    rt: &R,
-    turns: &Turns<N, T>,
-    purses: Purses<N, T>,
-) -> Purses<N, T> {
-    let made = AtomicU64::new(0);
-    let job = Job::of(payment(100), purses.one, CountedTurn { made: &made });
-    let one = paid_at(rt, job.run(turns, rt), 0);
-    assert!(rt; made.load(Ordering::SeqCst) == 1 && one.entries() == 1);
-    Purses { one, ..purses }
+#[derive(Drop)]
+struct LoneJob;
+
+impl AtTurns for LoneJob {
+    fn happens<N: Naming, T: Seating, R: Wait + Abort>(
+        self,
+        rt: &R,
+        alloc: Global,
+        turns: &Turns<N, T>,
+        purses: Purses<N, T>,
+    ) -> Back<N, T> {
+        let made = AtomicU64::new(0);
+        let job = Job::of(payment(100), purses.one, CountedTurn { made: &made });
+        let one = paid_at(rt, job.run(turns, rt), 0);
+        assert!(rt; made.load(Ordering::SeqCst) == 1 && one.entries() == 1);
+        let purses = Purses { one, ..purses };
+        purses.all(rt, alloc)
+    }
 }
 
 /// The purse of an answer whose entry is at this place, and which tells the balance behind a payment of 1.00.
@@ -53,17 +63,44 @@ fn paid_at<N: Naming, T: Seating, R: Abort>(
 
 #[test]
 fn a_server_in_a_thread_answers_who_asks(rt: HostRuntime) {
-    tell(&rt, rt.alloc(), Story::AskedTwice)
+    ask_at_a_book::<Brand, _>(&rt, rt.alloc(), Blanks::new())
 }
 
-/// A payment and a query are asked one after the other, while a server serves in another thread.
-pub(super) fn ask_twice<
+/// Asks at a book of the plain opening.
+fn ask_at_a_book<N: Naming + Send + Sync, R: Threads + Wait + Abort + Sync>(
+    rt: &R,
+    alloc: Global,
+    blanks: Blanks,
+)
+    requires entries { blanks.entries.name ≡ N.entries }
+    requires cents { blanks.cents.name ≡ N.cents }
+{
+    let turns = start_turns::<N, R>(rt, alloc, blanks);
+    ask_at_its_turns::<N, Brand, R>(rt, alloc, turns)
+}
+
+/// Two entries are settled, of which the payment is one.
+fn ask_at_its_turns<
     N: Naming + Send + Sync,
     T: Seating + Send + Sync,
     R: Threads + Wait + Abort + Sync,
->(rt: &R, alloc: Global, turns: &Turns<N, T>, purses: Purses<N, T>) -> Purses<N, T> {
+>(rt: &R, alloc: Global, turns: UnnamedTurns<N>)
+    requires name { turns.table ≡ T.table }
+{
+    let (turns, purses) = name_turns::<N, T, R>(rt, turns);
+    let purses = ask_twice(rt, alloc, &turns, purses);
+    settles(rt, turns, purses.all(rt, alloc), Totals(2, 100))
+}
+
+/// A payment and a query are asked one after the other, while a server serves in another thread.
+fn ask_twice<N: Naming + Send + Sync, T: Seating + Send + Sync, R: Threads + Wait + Abort + Sync>(
+    rt: &R,
+    alloc: Global,
+    turns: &Turns<N, T>,
+    purses: Purses<N, T>,
+) -> Purses<N, T> {
     let Purses { keeper, one, .. } = purses;
-    let One {
+    let OneMailbox {
         mailboxes,
         idle,
         mut serving,
@@ -76,7 +113,7 @@ pub(super) fn ask_twice<
             requires { IsSync R.row
                 × (serving_origin serving ≡ identity boxes.now)
                 × (serving_hand serving ≡ None) }
-        { serve_two(rt, boxes, turns, serving, keeper) },
+        { serve_open(rt, boxes, turns, serving, keeper, 2) },
         || -> SeatedPurse<N, T>
             requires { IsSync R.row
                 × (idle_origin idle ≡ identity boxes.now)
@@ -89,30 +126,6 @@ pub(super) fn ask_twice<
         one,
         ..purses
     }
-}
-
-/// A server's purse, once it has answered two jobs.
-fn serve_two<N: Naming, T: Seating, R: Wait + Abort>(
-    rt: &R,
-    mailboxes: &JobMailboxes<N, T, PlainTurn>,
-    turns: &Turns<N, T>,
-    serving: JobServing<N, T, PlainTurn>,
-    keeper: SeatedPurse<N, T>,
-) -> SeatedPurse<N, T>
-    requires { (serving_origin serving ≡ identity mailboxes.now) × (serving_hand serving ≡ None) }
-{
-    let (serving, _, served, keeper) = serve_until_closed(
-        rt,
-        mailboxes,
-        serving,
-        turns,
-        OpenGate,
-        u64::MAX,
-        keeper,
-    );
-    let_go(serving);
-    assert!(rt; served == 2);
-    keeper
 }
 
 /// The purse that paid 1.00 and asked for the status, with the mailboxes closed behind it.

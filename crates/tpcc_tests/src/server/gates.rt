@@ -3,99 +3,71 @@ ghost use Rattle.std.specs.Prelude.{◌≡◌, None};
 ghost use Rattle.std.specs.Thread.{IsSync};
 ghost use Rattle.tpcc_mailbox.specs.Tokens.{identity, serving_origin, serving_hand};
 
-use super::opened::{Opened, open, paid_purse, paid_purses, post};
-use super::{Purses, Story, tell};
+use super::held::{FIRST, Jobs, SECOND, Server, both_serve, comes_to};
+use super::posted::{JobPair, paid_purse, paid_purses, post, post_both};
+use super::two_jobs::{ServesTwoJobs, TwoJobs};
 use crate::asked::{BEFORE, let_go};
 use crate::plain_turn::PlainTurn;
+use crate::purses::Settlement::{BookLeft, Totals};
+use crate::purses::{HandIn, Purses, Settlement, settles};
+use crate::turns::{at_turns, name_turns, start_turns};
 use std::alloc::Global;
+use std::marker::Brand;
 use std::process::Abort;
 use std::sync::Wait;
-use std::sync::atomic::{AtomicU64, Ordering};
-use std::thread::{self, Threads, join};
-use std::time::{Clock, Duration};
-use tpcc_book::Naming;
-use tpcc_server::{Gate, JobMailboxes, JobServing, serve_until_closed};
-use tpcc_turns::{SeatedPurse, Seating, Turns};
-
-/// How many jobs were taken, and how many were answered, by two servers.
-#[derive(Drop)]
-struct Jobs {
-    taken: AtomicU64,
-    answered: AtomicU64,
-}
-
-impl Jobs {
-    fn new() -> Jobs {
-        Jobs {
-            taken: AtomicU64::new(0),
-            answered: AtomicU64::new(0),
-        }
-    }
-}
-
-/// Which job is held: the one that is taken behind so many others. The second server begins once so many are taken.
-#[derive(Clone, Copy)]
-struct Hold {
-    others: u64,
-    second_begins: u64,
-}
-
-/// The first job of all, by whichever server takes it.
-const FIRST: Hold = Hold {
-    others: 0,
-    second_begins: 0,
-};
-
-/// The second job of the first server, which alone serves before it.
-const SECOND: Hold = Hold {
-    others: 1,
-    second_begins: 2,
-};
-
-/// Whether a count comes to this many within some ten seconds.
-fn comes_to<R: Clock>(rt: &R, count: &AtomicU64, wanted: u64) -> bool {
-    for _ in 0..10_000u32 {
-        if count.load(Ordering::SeqCst) >= wanted {
-            return true;
-        }
-        thread::sleep(rt, Duration::from_millis(1));
-    }
-    false
-}
-
-/// Holds the job that is taken behind so many others until one more than these has been answered, or the limit is met.
-#[derive(Drop)]
-struct HeldGate<'a, R: Clock> {
-    rt: &'a R,
-    jobs: &'a Jobs,
-    others: u64,
-    limit_met: bool,
-}
-
-impl<'a, R: Clock> Gate for HeldGate<'a, R> {
-    fn is_open(&self) -> bool {
-        false
-    }
-
-    fn before(&mut self, _mailbox: usize) {
-        if self.jobs.taken.fetch_add(1, Ordering::SeqCst) == self.others {
-            let wanted = self.others.saturating_add(1);
-            self.limit_met = !comes_to(self.rt, &self.jobs.answered, wanted);
-        }
-    }
-
-    fn after(&mut self, _mailbox: usize) {
-        self.jobs.answered.fetch_add(1, Ordering::SeqCst);
-    }
-}
+use std::sync::atomic::AtomicU64;
+use std::thread::{Threads, join};
+use std::time::Clock;
+use tpcc_book::{Blanks, Naming};
+use tpcc_server::{Gate, JobMailboxes, JobServing, OneTurn, serve_until_closed};
+use tpcc_turns::{SeatedPurse, Seating, Turns, UnnamedTurns};
 
 #[test]
 fn a_held_server_is_stood_in_for(rt: HostRuntime) {
-    tell(&rt, rt.alloc(), Story::HeldUp)
+    hold_first::<Brand, _>(&rt, rt.alloc(), Blanks::new(), HandIn::All, Totals(2, 200))
+}
+
+#[test]
+fn a_book_is_left_where_the_purse_of_a_thread_is_missing(rt: HostRuntime) {
+    hold_first::<Brand, _>(
+        &rt,
+        rt.alloc(),
+        Blanks::new(),
+        HandIn::AllButTwo,
+        BookLeft(2),
+    )
+}
+
+/// Holds the server of the first job at a book of the plain opening.
+fn hold_first<N: Naming + Send + Sync, R: Threads + Wait + Clock + Abort + Sync>(
+    rt: &R,
+    alloc: Global,
+    blanks: Blanks,
+    hand_in: HandIn,
+    wanted: Settlement,
+)
+    requires entries { blanks.entries.name ≡ N.entries }
+    requires cents { blanks.cents.name ≡ N.cents }
+{
+    let turns = start_turns::<N, R>(rt, alloc, blanks);
+    hold_first_at::<N, Brand, R>(rt, alloc, turns, hand_in, wanted)
+}
+
+/// At turns whose table is named.
+fn hold_first_at<
+    N: Naming + Send + Sync,
+    T: Seating + Send + Sync,
+    R: Threads + Wait + Clock + Abort + Sync,
+>(rt: &R, alloc: Global, turns: UnnamedTurns<N>, hand_in: HandIn, wanted: Settlement)
+    requires name { turns.table ≡ T.table }
+{
+    let (turns, purses) = name_turns::<N, T, R>(rt, turns);
+    let purses = hold_up_first(rt, alloc, &turns, purses);
+    settles(rt, turns, purses.back(rt, alloc, hand_in), wanted)
 }
 
 /// Two jobs lie in closed mailboxes, and the server that takes the first one is held until the other has answered.
-pub(super) fn hold_up_first<
+fn hold_up_first<
     N: Naming + Send + Sync,
     T: Seating + Send + Sync,
     R: Threads + Wait + Clock + Abort + Sync,
@@ -107,13 +79,13 @@ pub(super) fn hold_up_first<
         other,
         ..
     } = purses;
-    let Opened {
+    let JobPair {
         mailboxes,
         first,
         middle,
         last,
         mut serving,
-    } = open(rt, alloc, one, two, (PlainTurn, PlainTurn));
+    } = post_both(rt, alloc, one, two, (PlainTurn, PlainTurn));
     let_go(middle);
     mailboxes.close(&mut serving);
     let second = serving.split(&mailboxes);
@@ -152,40 +124,40 @@ fn serve_one_each<
 }
 
 #[test]
-fn a_book_is_left_where_the_purse_of_a_thread_is_missing(rt: HostRuntime) {
-    tell(&rt, rt.alloc(), Story::OneWithheld)
+fn a_server_that_is_held_at_its_second_job_has_given_the_book_back(rt: HostRuntime) {
+    hold_second::<Brand, _>(&rt, rt.alloc(), Blanks::new(), Totals(3, 300))
 }
 
-/// The same, but one of the two purses that paid does not come back.
-pub(super) fn withhold_one<
+/// Holds the first server at its second job, at a book of the plain opening.
+fn hold_second<N: Naming + Send + Sync, R: Threads + Wait + Clock + Abort + Sync>(
+    rt: &R,
+    alloc: Global,
+    blanks: Blanks,
+    wanted: Settlement,
+)
+    requires entries { blanks.entries.name ≡ N.entries }
+    requires cents { blanks.cents.name ≡ N.cents }
+{
+    let turns = start_turns::<N, R>(rt, alloc, blanks);
+    hold_second_at::<N, Brand, R>(rt, alloc, turns, wanted)
+}
+
+/// At turns whose table is named.
+fn hold_second_at<
     N: Naming + Send + Sync,
     T: Seating + Send + Sync,
     R: Threads + Wait + Clock + Abort + Sync,
->(rt: &R, alloc: Global, turns: &Turns<N, T>, purses: Purses<N, T>) -> Vec<SeatedPurse<N, T>> {
-    let Purses {
-        keeper,
-        one,
-        two,
-        three,
-        other,
-    } = hold_up_first(rt, alloc, turns, purses);
-    let_go(two);
-    let mut back = Vec::with_capacity(alloc, 4).expect(rt, BEFORE);
-    back.push_reserved(keeper);
-    back.push_reserved(one);
-    back.push_reserved(three);
-    back.push_reserved(other);
-    back
-}
-
-#[test]
-fn a_server_that_is_held_at_its_second_job_has_given_the_book_back(rt: HostRuntime) {
-    tell(&rt, rt.alloc(), Story::HeldAtSecond)
+>(rt: &R, alloc: Global, turns: UnnamedTurns<N>, wanted: Settlement)
+    requires name { turns.table ≡ T.table }
+{
+    let (turns, purses) = name_turns::<N, T, R>(rt, turns);
+    let purses = hold_up_second(rt, alloc, &turns, purses);
+    settles(rt, turns, purses.all(rt, alloc), wanted)
 }
 
 /// Three jobs wait. The first server is held at its second one until the other server, which begins then, has answered
 /// the third. The mailboxes are closed once all are answered.
-pub(super) fn hold_up_second<
+fn hold_up_second<
     N: Naming + Send + Sync,
     T: Seating + Send + Sync,
     R: Threads + Wait + Clock + Abort + Sync,
@@ -197,13 +169,13 @@ pub(super) fn hold_up_second<
         three,
         other,
     } = purses;
-    let Opened {
+    let JobPair {
         mailboxes,
         first,
         middle,
         last,
         serving,
-    } = open(rt, alloc, one, three, (PlainTurn, PlainTurn));
+    } = post_both(rt, alloc, one, three, (PlainTurn, PlainTurn));
     let middle = post(&mailboxes, middle, two, PlainTurn);
     let mut serving = serving;
     let second = (serving.split(&mailboxes), other);
@@ -273,100 +245,36 @@ fn close_behind<N: Naming, T: Seating, R: Clock + Abort>(
     assert!(rt; are_answered);
 }
 
-/// The right to take jobs, and a server's own purse.
-type Server<N, T> = (JobServing<N, T, PlainTurn>, SeatedPurse<N, T>);
-
-/// How many jobs each server has answered, and their purses; no gate's limit is met.
-fn both_serve<
-    N: Naming + Send + Sync,
-    T: Seating + Send + Sync,
-    R: Threads + Wait + Clock + Abort + Sync,
->(
-    rt: &R,
-    mailboxes: &JobMailboxes<N, T, PlainTurn>,
-    turns: &Turns<N, T>,
-    first: Server<N, T>,
-    second: Server<N, T>,
-    jobs: &Jobs,
-    hold: Hold,
-) -> ((u64, u64), SeatedPurse<N, T>, SeatedPurse<N, T>)
-    requires { (serving_origin first.0 ≡ identity mailboxes.now)
-        × (serving_hand first.0 ≡ None)
-        × (serving_origin second.0 ≡ identity mailboxes.now)
-        × (serving_hand second.0 ≡ None) }
-{
-    let (one, two) = join(
-        rt,
-        || -> Served<N, T>
-            requires { IsSync R.row
-                × (serving_origin first.0 ≡ identity mailboxes.now)
-                × (serving_hand first.0 ≡ None) }
-        { serve_all(rt, mailboxes, turns, first, jobs, hold.others) },
-        || -> Served<N, T>
-            requires { IsSync R.row
-                × (serving_origin second.0 ≡ identity mailboxes.now)
-                × (serving_hand second.0 ≡ None) }
-        { serve_from(rt, mailboxes, turns, second, jobs, hold) },
-    );
-    assert!(rt; !one.limit_met && !two.limit_met);
-    ((one.jobs, two.jobs), one.purse, two.purse)
+#[test]
+fn a_gate_that_may_hold_is_passed_without_the_book(rt: HostRuntime) {
+    at_turns(&rt, rt.alloc(), TwoJobs(LookingServer), Totals(2, 200)).expect(&rt, BEFORE)
 }
 
-/// What a server has done.
+/// A lone server passes its gate before and behind each of two jobs.
 #[derive(Drop)]
-struct Served<N: Naming, T: Seating> {
-    limit_met: bool,
-    jobs: u64,
-    purse: SeatedPurse<N, T>,
-}
+struct LookingServer;
 
-/// Serves once so many jobs are taken.
-fn serve_from<N: Naming, T: Seating, R: Wait + Clock>(
-    rt: &R,
-    mailboxes: &JobMailboxes<N, T, PlainTurn>,
-    turns: &Turns<N, T>,
-    server: Server<N, T>,
-    jobs: &Jobs,
-    hold: Hold,
-) -> Served<N, T>
-    requires { (serving_origin server.0 ≡ identity mailboxes.now) × (serving_hand server.0 ≡ None) }
-{
-    comes_to(rt, &jobs.taken, hold.second_begins);
-    serve_all(rt, mailboxes, turns, server, jobs, hold.others)
-}
-
-/// Serves behind a held gate.
-fn serve_all<N: Naming, T: Seating, R: Wait + Clock>(
-    rt: &R,
-    mailboxes: &JobMailboxes<N, T, PlainTurn>,
-    turns: &Turns<N, T>,
-    server: Server<N, T>,
-    jobs: &Jobs,
-    others: u64,
-) -> Served<N, T>
-    requires { (serving_origin server.0 ≡ identity mailboxes.now) × (serving_hand server.0 ≡ None) }
-{
-    let (serving, keeper) = server;
-    let gate = HeldGate {
-        rt,
-        jobs,
-        others,
-        limit_met: false,
-    };
-    let (serving, gate, served, purse) = serve_until_closed(
-        rt,
-        mailboxes,
-        serving,
-        turns,
-        gate,
-        u64::MAX,
-        keeper,
-    );
-    let_go(serving);
-    Served {
-        limit_met: gate.limit_met,
-        jobs: served,
-        purse,
+impl ServesTwoJobs for LookingServer {
+    fn serve<N: Naming, T: Seating, C: OneTurn, R: Wait + Abort>(
+        self,
+        rt: &R,
+        mailboxes: &JobMailboxes<N, T, C>,
+        turns: &Turns<N, T>,
+        serving: JobServing<N, T, C>,
+        keeper: SeatedPurse<N, T>,
+        _made: &AtomicU64,
+    ) -> SeatedPurse<N, T> {
+        let gate = LookingGate {
+            turns,
+            looks: 0,
+            is_free: true,
+        };
+        let (serving, gate, served, keeper) = serve_until_closed(
+            rt, mailboxes, serving, turns, gate, 2, keeper,
+        );
+        let_go(serving);
+        assert!(rt; (served, gate.looks, gate.is_free) == (2, 4, true));
+        keeper
     }
 }
 
@@ -396,50 +304,5 @@ impl<'a, N: Naming, T: Seating> Gate for LookingGate<'a, N, T> {
 
     fn after(&mut self, _mailbox: usize) {
         self.look()
-    }
-}
-
-#[test]
-fn a_gate_that_may_hold_is_passed_without_the_book(rt: HostRuntime) {
-    tell(&rt, rt.alloc(), Story::LookedAt)
-}
-
-/// A lone server passes its gate before and behind each of two jobs.
-pub(super) fn look_for_the_book<N: Naming, T: Seating, R: Wait + Abort>(
-    rt: &R,
-    alloc: Global,
-    turns: &Turns<N, T>,
-    purses: Purses<N, T>,
-) -> Purses<N, T> {
-    let Purses {
-        keeper,
-        one,
-        two,
-        ..
-    } = purses;
-    let Opened {
-        mailboxes,
-        first,
-        middle,
-        last,
-        serving,
-    } = open(rt, alloc, one, two, (PlainTurn, PlainTurn));
-    let_go(middle);
-    let gate = LookingGate {
-        turns,
-        looks: 0,
-        is_free: true,
-    };
-    let (serving, gate, served, keeper) = serve_until_closed(
-        rt, &mailboxes, serving, turns, gate, 2, keeper,
-    );
-    let_go(serving);
-    assert!(rt; (served, gate.looks, gate.is_free) == (2, 4, true));
-    let (one, two) = paid_purses(rt, mailboxes, first, last);
-    Purses {
-        keeper,
-        one,
-        two,
-        ..purses
     }
 }

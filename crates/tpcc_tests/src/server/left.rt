@@ -2,9 +2,12 @@
 ghost use Rattle.std.specs.Prelude.{◌≡◌, [], ◌∷◌};
 ghost use Rattle.tpcc_mailbox.specs.Tokens.{identity, client_origin, idle_origin, waiting_origin, serving_origin};
 
-use super::opened::{CountedTurn, One, make_one, post};
-use super::{Purses, Story, tell};
-use crate::asked::{let_go, payment, purse_of};
+use super::posted::{OneMailbox, make_one, post};
+use crate::asked::{BEFORE, let_go, payment, purse_of};
+use crate::counted_turn::CountedTurn;
+use crate::purses::Settlement::Totals;
+use crate::purses::{Back, Purses};
+use crate::turns::{AtTurns, at_turns};
 use std::alloc::Global;
 use std::process::Abort;
 use std::sync::Wait;
@@ -19,19 +22,27 @@ use tpcc_turns::{SeatedPurse, Seating, Turns};
 
 #[test]
 fn a_job_at_closed_mailboxes_is_given_back_uncalled(rt: HostRuntime) {
-    tell(&rt, rt.alloc(), Story::AskedInVain)
+    at_turns(&rt, rt.alloc(), JobInVain, Totals(0, 0)).expect(&rt, BEFORE)
 }
 
-pub(super) fn ask_closed_mailboxes<N: Naming, T: Seating, R: Wait + Abort>(
-    rt: &R,
-    alloc: Global,
-    purses: Purses<N, T>,
-) -> Purses<N, T> {
-    let made = AtomicU64::new(0);
-    let job = Job::of(payment(100), purses.one, CountedTurn { made: &made });
-    let (request, one) = no_answer(rt, alloc, job).give_back();
-    assert!(rt; request == payment(100) && made.load(Ordering::SeqCst) == 0);
-    Purses { one, ..purses }
+#[derive(Drop)]
+struct JobInVain;
+
+impl AtTurns for JobInVain {
+    fn happens<N: Naming, T: Seating, R: Wait + Abort>(
+        self,
+        rt: &R,
+        alloc: Global,
+        _turns: &Turns<N, T>,
+        purses: Purses<N, T>,
+    ) -> Back<N, T> {
+        let made = AtomicU64::new(0);
+        let job = Job::of(payment(100), purses.one, CountedTurn { made: &made });
+        let (request, one) = no_answer(rt, alloc, job).give_back();
+        assert!(rt; request == payment(100) && made.load(Ordering::SeqCst) == 0);
+        let purses = Purses { one, ..purses };
+        purses.all(rt, alloc)
+    }
 }
 
 /// Closes new mailboxes, asks the job there, and reclaims it.
@@ -40,7 +51,7 @@ fn no_answer<N: Naming, T: Seating, C: OneTurn, R: Wait + Abort>(
     alloc: Global,
     job: Job<N, T, C>,
 ) -> Job<N, T, C> {
-    let One {
+    let OneMailbox {
         mailboxes,
         idle,
         mut serving,
@@ -64,26 +75,57 @@ fn ask_in_vain<N: Naming, T: Seating, C: Drop, R: Wait + Abort>(
         .expect(rt, "no server is there")
 }
 
-/// The letter that was never taken.
-pub(super) fn letter_of<J: Drop, A: Drop, R: Abort>(rt: &R, left: Left<J, A>) -> J {
-    match left {
-        Left::Letter(letter) => letter,
-        other => {
-            let_go(other);
-            panic!(rt; "the letter was not there")
-        }
+#[test]
+fn an_answer_is_reclaimed_whose_call_was_made_once(rt: HostRuntime) {
+    at_turns(&rt, rt.alloc(), AnswerLeft, Totals(1, 100)).expect(&rt, BEFORE)
+}
+
+/// A round answers a job, whose client collects no answer.
+#[derive(Drop)]
+struct AnswerLeft;
+
+impl AtTurns for AnswerLeft {
+    fn happens<N: Naming, T: Seating, R: Wait + Abort>(
+        self,
+        rt: &R,
+        alloc: Global,
+        turns: &Turns<N, T>,
+        purses: Purses<N, T>,
+    ) -> Back<N, T> {
+        let Purses { keeper, one, .. } = purses;
+        let made = AtomicU64::new(0);
+        let call = CountedTurn { made: &made };
+        let (keeper, answer) = answer_left(rt, alloc, turns, one, keeper, call);
+        assert!(rt; (answer.place(), made.load(Ordering::SeqCst)) == (Some(0), 1));
+        let one = purse_of(answer);
+        let purses = Purses {
+            keeper,
+            one,
+            ..purses
+        };
+        purses.all(rt, alloc)
     }
 }
 
-/// The answer that was never collected.
-pub(super) fn reply_of<J: Drop, A: Drop, R: Abort>(rt: &R, left: Left<J, A>) -> A {
-    match left {
-        Left::Reply(reply) => reply,
-        other => {
-            let_go(other);
-            panic!(rt; "the answer was not there")
-        }
-    }
+/// Serves a round, and takes the only job's answer out of the mailboxes that are taken apart.
+fn answer_left<N: Naming, T: Seating, C: OneTurn, R: Wait + Abort>(
+    rt: &R,
+    alloc: Global,
+    turns: &Turns<N, T>,
+    purse: SeatedPurse<N, T>,
+    keeper: SeatedPurse<N, T>,
+    call: C,
+) -> (SeatedPurse<N, T>, JobAnswer<N, T>) {
+    let OneMailbox {
+        mailboxes,
+        idle,
+        mut serving,
+    } = make_one(rt, alloc);
+    let waiting = post(&mailboxes, idle, purse, call);
+    let (served, keeper) = serve_round(rt, &mailboxes, &mut serving, turns, &mut OpenGate, keeper);
+    let left = reclaim(rt, alloc, mailboxes, waiting, serving);
+    assert!(rt; served == 1);
+    (keeper, reply_of(rt, left))
 }
 
 type JobLeft<N, T, C> = Left<Job<N, T, C>, JobAnswer<N, T>>;
@@ -120,46 +162,24 @@ fn last_left<X: Drop, R: Abort>(rt: &R, lefts: Vec<X>) -> X {
     lefts.pop().expect(rt, "there is one")
 }
 
-#[test]
-fn an_answer_is_reclaimed_whose_call_was_made_once(rt: HostRuntime) {
-    tell(&rt, rt.alloc(), Story::NotCollected)
-}
-
-pub(super) fn collect_no_answer<N: Naming, T: Seating, R: Wait + Abort>(
-    rt: &R,
-    alloc: Global,
-    turns: &Turns<N, T>,
-    purses: Purses<N, T>,
-) -> Purses<N, T> {
-    let Purses { keeper, one, .. } = purses;
-    let made = AtomicU64::new(0);
-    let call = CountedTurn { made: &made };
-    let (keeper, answer) = answer_left(rt, alloc, turns, one, keeper, call);
-    assert!(rt; (answer.place(), made.load(Ordering::SeqCst)) == (Some(0), 1));
-    Purses {
-        keeper,
-        one: purse_of(answer),
-        ..purses
+/// The letter that was never taken.
+pub(super) fn letter_of<J: Drop, A: Drop, R: Abort>(rt: &R, left: Left<J, A>) -> J {
+    match left {
+        Left::Letter(letter) => letter,
+        other => {
+            let_go(other);
+            panic!(rt; "the letter was not there")
+        }
     }
 }
 
-/// Serves a round, and takes the only job's answer out of the mailboxes that are taken apart.
-fn answer_left<N: Naming, T: Seating, C: OneTurn, R: Wait + Abort>(
-    rt: &R,
-    alloc: Global,
-    turns: &Turns<N, T>,
-    purse: SeatedPurse<N, T>,
-    keeper: SeatedPurse<N, T>,
-    call: C,
-) -> (SeatedPurse<N, T>, JobAnswer<N, T>) {
-    let One {
-        mailboxes,
-        idle,
-        mut serving,
-    } = make_one(rt, alloc);
-    let waiting = post(&mailboxes, idle, purse, call);
-    let (served, keeper) = serve_round(rt, &mailboxes, &mut serving, turns, &mut OpenGate, keeper);
-    let left = reclaim(rt, alloc, mailboxes, waiting, serving);
-    assert!(rt; served == 1);
-    (keeper, reply_of(rt, left))
+/// The answer that was never collected.
+pub(super) fn reply_of<J: Drop, A: Drop, R: Abort>(rt: &R, left: Left<J, A>) -> A {
+    match left {
+        Left::Reply(reply) => reply,
+        other => {
+            let_go(other);
+            panic!(rt; "the answer was not there")
+        }
+    }
 }

@@ -3,10 +3,12 @@ ghost use Rattle.std.specs.Prelude.{◌≡◌, None};
 ghost use Rattle.tpcc_mailbox.specs.Tokens.{identity, waiting_origin, serving_origin, serving_hand};
 
 use super::left::{letter_of, reply_of};
-use super::opened::{Opened, open};
-use super::{Purses, Story, tell};
+use super::posted::{JobPair, post_both};
 use crate::asked::{BEFORE, let_go, payment, purse_of};
 use crate::plain_turn::PlainTurn;
+use crate::purses::Settlement::Totals;
+use crate::purses::{Back, Purses};
+use crate::turns::{AtTurns, at_turns};
 use std::alloc::Global;
 use std::process::Abort;
 use std::sync::Wait;
@@ -18,29 +20,36 @@ use tpcc_turns::{SeatedPurse, Seating, Turns};
 
 #[test]
 fn an_answer_and_a_letter_are_reclaimed_with_their_purses(rt: HostRuntime) {
-    tell(&rt, rt.alloc(), Story::OneAnswered)
+    at_turns(&rt, rt.alloc(), OneAnswer, Totals(1, 100)).expect(&rt, BEFORE)
 }
 
 /// Two jobs are posted, one of them is taken and answered, and the mailboxes are closed.
-pub(super) fn answer_one<N: Naming, T: Seating, R: Wait + Abort>(
-    rt: &R,
-    alloc: Global,
-    turns: &Turns<N, T>,
-    purses: Purses<N, T>,
-) -> Purses<N, T> {
-    let Purses { one, two, .. } = purses;
-    let Opened {
-        mailboxes,
-        first,
-        middle,
-        last,
-        mut serving,
-    } = open(rt, alloc, one, two, (PlainTurn, PlainTurn));
-    let_go(middle);
-    answer_first(rt, &mailboxes, &mut serving, turns);
-    mailboxes.close(&mut serving);
-    let (one, two) = reclaim_both(rt, alloc, mailboxes, first, last, serving);
-    Purses { one, two, ..purses }
+#[derive(Drop)]
+struct OneAnswer;
+
+impl AtTurns for OneAnswer {
+    fn happens<N: Naming, T: Seating, R: Wait + Abort>(
+        self,
+        rt: &R,
+        alloc: Global,
+        turns: &Turns<N, T>,
+        purses: Purses<N, T>,
+    ) -> Back<N, T> {
+        let Purses { one, two, .. } = purses;
+        let JobPair {
+            mailboxes,
+            first,
+            middle,
+            last,
+            mut serving,
+        } = post_both(rt, alloc, one, two, (PlainTurn, PlainTurn));
+        let_go(middle);
+        answer_first(rt, &mailboxes, &mut serving, turns);
+        mailboxes.close(&mut serving);
+        let (one, two) = reclaim_both(rt, alloc, mailboxes, first, last, serving);
+        let purses = Purses { one, two, ..purses };
+        purses.all(rt, alloc)
+    }
 }
 
 /// A server takes the job of the first mailbox, runs it and answers.

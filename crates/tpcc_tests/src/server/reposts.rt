@@ -2,24 +2,71 @@
 ghost use Rattle.std.specs.Prelude.{◌≡◌};
 ghost use Rattle.tpcc_mailbox.specs.Tokens.{identity, serving_origin, waiting_origin};
 
-use super::opened::{One, make_one, post};
-use super::{Purses, Story, tell};
-use crate::asked::{let_go, purse_of};
+use super::posted::{OneMailbox, make_one, post};
+use crate::asked::{BEFORE, let_go, purse_of};
 use crate::plain_turn::PlainTurn;
+use crate::purses::Settlement::BookLeft;
+use crate::purses::{Back, Purses};
+use crate::turns::{AtTurns, at_turns};
 use std::alloc::Global;
 use std::process::Abort;
 use std::sync::Wait;
 use tpcc_book::Naming;
-use tpcc_server::{Gate, JobAnswer, JobMailboxes, JobServing, JobWaiting, serve_until_closed};
-use tpcc_turns::{SeatedPurse, Seating, Turns};
+use tpcc_server::{Gate, JobMailboxes, JobServing, JobWaiting, serve_until_closed};
+use tpcc_turns::{Seating, Turns};
+
+#[test]
+fn a_round_is_made_behind_a_flag_that_was_seen(rt: HostRuntime) {
+    at_turns(&rt, rt.alloc(), CloseInARound, BookLeft(2)).expect(&rt, BEFORE)
+}
+
+/// Behind the first job its client collects, posts again and closes: the next round finds that job, since a
+/// server reads the flag before its round. The client's purse stays in its mailbox, and goes with it.
+#[derive(Drop)]
+struct CloseInARound;
+
+impl AtTurns for CloseInARound {
+    fn happens<N: Naming, T: Seating, R: Wait + Abort>(
+        self,
+        rt: &R,
+        alloc: Global,
+        turns: &Turns<N, T>,
+        purses: Purses<N, T>,
+    ) -> Back<N, T> {
+        let Purses { keeper, one, .. } = purses;
+        let OneMailbox {
+            mailboxes,
+            idle,
+            mut serving,
+        } = make_one(rt, alloc);
+        let closer = serving.split(&mailboxes);
+        let waiting = post(&mailboxes, idle, one, PlainTurn);
+        let gate = RepostGate {
+            client: Some(Reposter {
+                mailboxes: &mailboxes,
+                closer,
+                waiting,
+            }),
+        };
+        let (serving, gate, served, keeper) = serve_until_closed(
+            rt, &mailboxes, serving, turns, gate, 9, keeper,
+        );
+        let_go(keeper);
+        let_go(serving);
+        let_go(gate);
+        let_go(mailboxes);
+        assert!(rt; served == 2);
+        Vec::new(alloc)
+    }
+}
 
 /// A gate behind which the client of the first job posts again.
 #[derive(Drop)]
-struct Reposting<'a, N: Naming, T: Seating> {
+struct RepostGate<'a, N: Naming, T: Seating> {
     client: Option<Reposter<'a, N, T>>,
 }
 
-impl<'a, N: Naming, T: Seating> Gate for Reposting<'a, N, T> {
+impl<'a, N: Naming, T: Seating> Gate for RepostGate<'a, N, T> {
     fn is_open(&self) -> bool {
         false
     }
@@ -58,43 +105,4 @@ impl<'a, N: Naming, T: Seating> Reposter<'a, N, T> {
         mailboxes.close(&mut closer);
         let_go(closer)
     }
-}
-
-#[test]
-fn a_round_is_made_behind_a_flag_that_was_seen(rt: HostRuntime) {
-    tell(&rt, rt.alloc(), Story::ClosedMeanwhile)
-}
-
-/// Behind the first job its client collects, posts again and closes: the next round finds that job, since a
-/// server reads the flag before its round. The client's purse stays in its mailbox, and goes with it.
-pub(super) fn close_meanwhile<N: Naming, T: Seating, R: Wait + Abort>(
-    rt: &R,
-    alloc: Global,
-    turns: &Turns<N, T>,
-    purses: Purses<N, T>,
-) -> Vec<SeatedPurse<N, T>> {
-    let Purses { keeper, one, .. } = purses;
-    let One {
-        mailboxes,
-        idle,
-        mut serving,
-    } = make_one(rt, alloc);
-    let closer = serving.split(&mailboxes);
-    let waiting = post(&mailboxes, idle, one, PlainTurn);
-    let gate = Reposting {
-        client: Some(Reposter {
-            mailboxes: &mailboxes,
-            closer,
-            waiting,
-        }),
-    };
-    let (serving, gate, served, keeper) = serve_until_closed(
-        rt, &mailboxes, serving, turns, gate, 9, keeper,
-    );
-    let_go(keeper);
-    let_go(serving);
-    let_go(gate);
-    let_go(mailboxes);
-    assert!(rt; served == 2);
-    Vec::new(alloc)
 }

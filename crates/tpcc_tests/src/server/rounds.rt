@@ -2,18 +2,16 @@
 ghost use Rattle.std.specs.Prelude.{◌≡◌, None};
 ghost use Rattle.tpcc_mailbox.specs.Tokens.{identity, serving_origin, serving_hand};
 
-use super::opened::{CountedTurn, Opened, open, paid_purses};
-use super::{Purses, Story, tell};
-use crate::asked::let_go;
-use crate::plain_turn::PlainTurn;
-use std::alloc::Global;
+use super::posted::serve_open;
+use super::two_jobs::{ServesTwoJobs, TwoJobs};
+use crate::asked::{BEFORE, let_go};
+use crate::purses::Settlement::Totals;
+use crate::turns::at_turns;
 use std::process::Abort;
 use std::sync::Wait;
 use std::sync::atomic::{AtomicU64, Ordering};
 use tpcc_book::Naming;
-use tpcc_server::{
-    Gate, JobMailboxes, JobServing, OneTurn, OpenGate, serve_round, serve_until_closed,
-};
+use tpcc_server::{Gate, JobMailboxes, JobServing, OneTurn, serve_round, serve_until_closed};
 use tpcc_turns::{SeatedPurse, Seating, Turns};
 
 /// A gate that sees whether each job is turned between its two calls, in the order of the mailboxes.
@@ -67,68 +65,39 @@ impl<'a> Watch<'a> {
 
 #[test]
 fn limits_are_kept_and_no_job_is_passed_over(rt: HostRuntime) {
-    tell(&rt, rt.alloc(), Story::Limited)
-}
-
-/// Jobs lie in the first and the last of three mailboxes.
-pub(super) fn serve_to_limits<N: Naming, T: Seating, R: Wait + Abort>(
-    rt: &R,
-    alloc: Global,
-    turns: &Turns<N, T>,
-    purses: Purses<N, T>,
-) -> Purses<N, T> {
-    let Purses {
-        keeper,
-        one,
-        two,
-        ..
-    } = purses;
-    let made = AtomicU64::new(0);
-    let calls = (CountedTurn { made: &made }, CountedTurn { made: &made });
-    let Opened {
-        mailboxes,
-        first,
-        middle,
-        last,
-        serving,
-    } = open(rt, alloc, one, two, calls);
-    let_go(middle);
-    let keeper = one_by_one(rt, &mailboxes, turns, serving, keeper, &made);
-    let (one, two) = paid_purses(rt, mailboxes, first, last);
-    Purses {
-        keeper,
-        one,
-        two,
-        ..purses
-    }
+    at_turns(&rt, rt.alloc(), TwoJobs(LimitedRounds), Totals(2, 200)).expect(&rt, BEFORE)
 }
 
 /// The limit 0 answers none, the limit 1 the first job, a round of another server the last one, and another round none.
 /// None of them closes the mailboxes.
-fn one_by_one<'a, N: Naming, T: Seating, R: Wait + Abort>(
-    rt: &R,
-    mailboxes: &JobMailboxes<N, T, CountedTurn<'a>>,
-    turns: &Turns<N, T>,
-    serving: JobServing<N, T, CountedTurn<'a>>,
-    keeper: SeatedPurse<N, T>,
-    made: &AtomicU64,
-) -> SeatedPurse<N, T>
-    requires { (serving_origin serving ≡ identity mailboxes.now) × (serving_hand serving ≡ None) }
-{
-    let watch = Watch::new(made);
-    let (serving, watch, none, keeper) = serve_until_closed(
-        rt, mailboxes, serving, turns, watch, 0, keeper,
-    );
-    let (serving, watch, one, keeper) = serve_until_closed(
-        rt, mailboxes, serving, turns, watch, 1, keeper,
-    );
-    assert!(rt; (none, one) == (0, 1) && watch.has_seen(1, 0));
-    let mut serving = serving;
-    let other = serving.split(mailboxes);
-    let keeper = rounds(rt, mailboxes, turns, other, keeper, watch);
-    assert!(rt; !mailboxes.is_closed(&mut serving));
-    let_go(serving);
-    keeper
+#[derive(Drop)]
+struct LimitedRounds;
+
+impl ServesTwoJobs for LimitedRounds {
+    fn serve<N: Naming, T: Seating, C: OneTurn, R: Wait + Abort>(
+        self,
+        rt: &R,
+        mailboxes: &JobMailboxes<N, T, C>,
+        turns: &Turns<N, T>,
+        serving: JobServing<N, T, C>,
+        keeper: SeatedPurse<N, T>,
+        made: &AtomicU64,
+    ) -> SeatedPurse<N, T> {
+        let watch = Watch::new(made);
+        let (serving, watch, none, keeper) = serve_until_closed(
+            rt, mailboxes, serving, turns, watch, 0, keeper,
+        );
+        let (serving, watch, one, keeper) = serve_until_closed(
+            rt, mailboxes, serving, turns, watch, 1, keeper,
+        );
+        assert!(rt; (none, one) == (0, 1) && watch.has_seen(1, 0));
+        let mut serving = serving;
+        let other = serving.split(mailboxes);
+        let keeper = rounds(rt, mailboxes, turns, other, keeper, watch);
+        assert!(rt; !mailboxes.is_closed(&mut serving));
+        let_go(serving);
+        keeper
+    }
 }
 
 fn rounds<N: Naming, T: Seating, C: OneTurn, R: Wait + Abort>(
@@ -152,102 +121,53 @@ fn rounds<N: Naming, T: Seating, C: OneTurn, R: Wait + Abort>(
 
 #[test]
 fn a_round_answers_each_job_that_waits(rt: HostRuntime) {
-    tell(&rt, rt.alloc(), Story::InARound)
+    at_turns(&rt, rt.alloc(), TwoJobs(OneRound), Totals(2, 200)).expect(&rt, BEFORE)
 }
 
 /// One round finds the jobs in the first and the last of three mailboxes.
-pub(super) fn serve_in_a_round<N: Naming, T: Seating, R: Wait + Abort>(
-    rt: &R,
-    alloc: Global,
-    turns: &Turns<N, T>,
-    purses: Purses<N, T>,
-) -> Purses<N, T> {
-    let Purses {
-        keeper,
-        one,
-        two,
-        ..
-    } = purses;
-    let made = AtomicU64::new(0);
-    let calls = (CountedTurn { made: &made }, CountedTurn { made: &made });
-    let Opened {
-        mailboxes,
-        first,
-        middle,
-        last,
-        serving,
-    } = open(rt, alloc, one, two, calls);
-    let_go(middle);
-    let keeper = one_round(rt, &mailboxes, turns, serving, keeper, &made);
-    let (one, two) = paid_purses(rt, mailboxes, first, last);
-    Purses {
-        keeper,
-        one,
-        two,
-        ..purses
-    }
-}
+#[derive(Drop)]
+struct OneRound;
 
-fn one_round<N: Naming, T: Seating, C: OneTurn, R: Wait + Abort>(
-    rt: &R,
-    mailboxes: &JobMailboxes<N, T, C>,
-    turns: &Turns<N, T>,
-    serving: JobServing<N, T, C>,
-    keeper: SeatedPurse<N, T>,
-    made: &AtomicU64,
-) -> SeatedPurse<N, T>
-    requires { (serving_origin serving ≡ identity mailboxes.now) × (serving_hand serving ≡ None) }
-{
-    let mut serving = serving;
-    let mut watch = Watch::new(made);
-    let (served, keeper) = serve_round(rt, mailboxes, &mut serving, turns, &mut watch, keeper);
-    let_go(serving);
-    assert!(rt; served == 2 && watch.has_seen(2, 2));
-    keeper
+impl ServesTwoJobs for OneRound {
+    fn serve<N: Naming, T: Seating, C: OneTurn, R: Wait + Abort>(
+        self,
+        rt: &R,
+        mailboxes: &JobMailboxes<N, T, C>,
+        turns: &Turns<N, T>,
+        serving: JobServing<N, T, C>,
+        keeper: SeatedPurse<N, T>,
+        made: &AtomicU64,
+    ) -> SeatedPurse<N, T> {
+        let mut serving = serving;
+        let mut watch = Watch::new(made);
+        let (served, keeper) = serve_round(rt, mailboxes, &mut serving, turns, &mut watch, keeper);
+        let_go(serving);
+        assert!(rt; served == 2 && watch.has_seen(2, 2));
+        keeper
+    }
 }
 
 #[test]
 fn the_round_behind_a_close_answers_each_job_that_waits(rt: HostRuntime) {
-    tell(&rt, rt.alloc(), Story::BehindAClose)
+    at_turns(&rt, rt.alloc(), TwoJobs(RoundBehindAClose), Totals(2, 200)).expect(&rt, BEFORE)
 }
 
 /// A server that sees the mailboxes closed before its first round ends with it, and leaves no job.
-pub(super) fn serve_behind_a_close<N: Naming, T: Seating, R: Wait + Abort>(
-    rt: &R,
-    alloc: Global,
-    turns: &Turns<N, T>,
-    purses: Purses<N, T>,
-) -> Purses<N, T> {
-    let Purses {
-        keeper,
-        one,
-        two,
-        ..
-    } = purses;
-    let Opened {
-        mailboxes,
-        first,
-        middle,
-        last,
-        mut serving,
-    } = open(rt, alloc, one, two, (PlainTurn, PlainTurn));
-    mailboxes.close(&mut serving);
-    let (serving, _, served, keeper) = serve_until_closed(
-        rt,
-        &mailboxes,
-        serving,
-        turns,
-        OpenGate,
-        u64::MAX,
-        keeper,
-    );
-    let_go((middle, serving));
-    assert!(rt; served == 2);
-    let (one, two) = paid_purses(rt, mailboxes, first, last);
-    Purses {
-        keeper,
-        one,
-        two,
-        ..purses
+#[derive(Drop)]
+struct RoundBehindAClose;
+
+impl ServesTwoJobs for RoundBehindAClose {
+    fn serve<N: Naming, T: Seating, C: OneTurn, R: Wait + Abort>(
+        self,
+        rt: &R,
+        mailboxes: &JobMailboxes<N, T, C>,
+        turns: &Turns<N, T>,
+        serving: JobServing<N, T, C>,
+        keeper: SeatedPurse<N, T>,
+        _made: &AtomicU64,
+    ) -> SeatedPurse<N, T> {
+        let mut serving = serving;
+        mailboxes.close(&mut serving);
+        serve_open(rt, mailboxes, turns, serving, keeper, 2)
     }
 }

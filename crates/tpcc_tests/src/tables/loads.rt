@@ -1,7 +1,6 @@
 //! Rows that are loaded one by one, and why a row is refused.
 use crate::tables::changes::Change;
-use crate::tables::opening::row_at;
-use crate::tables::stories::{Sequel, Story, go_on, tell};
+use crate::tables::opening::{AtOpening, at_changed, at_opening, row_at};
 use std::alloc::AllocGlobal;
 use std::process::Abort;
 use tpcc_rows::{
@@ -9,26 +8,6 @@ use tpcc_rows::{
     StockRow, Table, WarehouseRow,
 };
 use tpcc_tables::{LoadFault, Tables};
-
-/// The same rows at the same places.
-fn is_same_table(rt: &impl Abort, left: &Tables, right: &Tables, table: Table) {
-    assert!(rt; left.count(table) == right.count(table));
-    for place in 0..left.count(table) {
-        assert!(rt; row_at(rt, left, table, place) == row_at(rt, right, table, place));
-    }
-}
-
-/// All rows of all tables are equal, place by place.
-pub fn are_same(rt: &impl Abort, left: &Tables, right: &Tables) {
-    for table in Table::ALL {
-        is_same_table(rt, left, right, table);
-    }
-}
-
-/// Tables that were loaded row by row are those of the opening.
-pub fn are_loaded(rt: &(impl Abort + AllocGlobal), opening: &Tables) {
-    go_on(rt, opening, Change::Nothing, Sequel::Same)
-}
 
 /// Why a row is refused that comes back as it was.
 fn fault(tables: &mut Tables, row: Row) -> Option<LoadFault> {
@@ -53,23 +32,47 @@ fn out_of_range(row: Row) -> Row {
     }
 }
 
+#[test]
+fn rows_out_of_range_without_owners_or_whose_keys_are_taken_are_refused(rt: HostRuntime) {
+    at_opening(&rt, RefuseEach);
+    at_opening(&rt, RefuseWithoutOwners)
+}
+
 /// Each table's first row, with a number out of range and as it stands there. HISTORY has no key that is taken.
-pub fn refuse_each(rt: &impl Abort, tables: &mut Tables) {
-    for table in Table::ALL {
-        let taken = if table == Table::History {
-            None
-        } else {
-            Some(LoadFault::Duplicate)
-        };
-        let outside = out_of_range(row_at(rt, tables, table, 0));
-        assert!(rt; fault(tables, outside) == Some(LoadFault::Field));
-        let row = row_at(rt, tables, table, 0);
-        assert!(rt; fault(tables, row) == taken);
+#[derive(Drop)]
+struct RefuseEach;
+
+impl AtOpening for RefuseEach {
+    fn happens<R: Abort + AllocGlobal>(self, rt: &R, opening: &mut Tables) {
+        let tables = opening;
+        for table in Table::ALL {
+            let taken = if table == Table::History {
+                None
+            } else {
+                Some(LoadFault::Duplicate)
+            };
+            let outside = out_of_range(row_at(rt, tables, table, 0));
+            assert!(rt; fault(tables, outside) == Some(LoadFault::Field));
+            let row = row_at(rt, tables, table, 0);
+            assert!(rt; fault(tables, row) == taken);
+        }
+    }
+}
+
+/// Where no row was loaded.
+#[derive(Drop)]
+struct RefuseWithoutOwners;
+
+impl AtOpening for RefuseWithoutOwners {
+    fn happens<R: Abort + AllocGlobal>(self, rt: &R, opening: &mut Tables) {
+        at_changed(rt, opening, Change::AllLeftOut, |rt, tables| {
+            refuse_first(rt, opening, tables)
+        })
     }
 }
 
 /// The first row of each table whose rows name others, where there are none.
-pub fn refuse_without_owners(rt: &impl Abort, opening: &Tables, tables: &mut Tables) {
+fn refuse_first(rt: &impl Abort, opening: &Tables, tables: &mut Tables) {
     for table in [
         Table::District,
         Table::Customer,
@@ -82,9 +85,4 @@ pub fn refuse_without_owners(rt: &impl Abort, opening: &Tables, tables: &mut Tab
         let row = row_at(rt, opening, table, 0);
         assert!(rt; fault(tables, row) == Some(LoadFault::NoParent));
     }
-}
-
-#[test]
-fn rows_out_of_range_without_owners_or_whose_keys_are_taken_are_refused(rt: HostRuntime) {
-    tell(&rt, &[Story::Refused, Story::WithoutOwners])
 }

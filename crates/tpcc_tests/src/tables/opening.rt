@@ -1,7 +1,8 @@
-//! The plain opening: filled at once, and loaded row by row.
+//! The plain opening: filled at once, and loaded row by row. One function owns the tables of each, and lends them to what
+//! happens there.
 ghost use Rattle.tpcc_rows.specs.WellKeyed.{IsStocked};
 
-use crate::asked::{BEFORE, opening};
+use crate::asked::{BEFORE, let_go, opening};
 use crate::tables::changes::{Change, change_row, has_sixth_line};
 use std::alloc::AllocGlobal;
 use std::process::Abort;
@@ -23,7 +24,36 @@ const OWNERS_FIRST: [Table; 9] = [
     Table::NewOrder,
 ];
 
-pub fn plain_tables(rt: &(impl Abort + AllocGlobal)) -> Tables
+/// What happens to the tables of the opening.
+pub trait AtOpening: Drop {
+    /// It happens.
+    fn happens<R: Abort + AllocGlobal>(self, rt: &R, opening: &mut Tables)
+        requires stocked { IsStocked opening.old.rows };
+}
+
+/// Lends the tables of the opening to what happens to them.
+pub fn at_opening<R: Abort + AllocGlobal, W: AtOpening>(rt: &R, what: W) {
+    let mut tables = plain_tables(rt);
+    what.happens(rt, &mut tables);
+    let_go(tables)
+}
+
+/// Loads the opening's rows with one change, and lends the tables that they make to what happens to them.
+pub fn at_changed<R: Abort + AllocGlobal, F: FnOnce(&R, &mut Tables)>(
+    rt: &R,
+    opening: &Tables,
+    change: Change,
+    happens: F,
+)
+    requires { F.IsAlwaysCallable happens }
+{
+    let mut tables = Tables::empty(rt.alloc());
+    load_changed(rt, opening, change, &mut tables);
+    happens(rt, &mut tables);
+    let_go(tables)
+}
+
+fn plain_tables(rt: &(impl Abort + AllocGlobal)) -> Tables
     ensures stocked { IsStocked result.rows }
 {
     let opening = opening(rt);
@@ -81,7 +111,7 @@ fn load_table(rt: &impl Abort, from: &Tables, table: Table, change: Change, into
 }
 
 /// Loads the rows of these tables with one change into empty ones.
-pub fn load_changed(rt: &impl Abort, from: &Tables, change: Change, into: &mut Tables) {
+fn load_changed(rt: &impl Abort, from: &Tables, change: Change, into: &mut Tables) {
     for table in OWNERS_FIRST {
         load_table(rt, from, table, change, into);
     }

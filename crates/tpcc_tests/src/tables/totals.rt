@@ -1,7 +1,7 @@
 //! What the tables add up and count, on rows that were worked out by hand.
 use crate::asked::payment_by;
 use crate::tables::changes::Change;
-use crate::tables::stories::{Sequel, Story, go_on, tell};
+use crate::tables::opening::{AtOpening, at_changed, at_opening};
 use crate::tables::transactions::delivered_in;
 use std::alloc::AllocGlobal;
 use std::process::Abort;
@@ -45,8 +45,23 @@ fn are_summed(rt: &impl Abort, tables: &Tables, place: Place, expected: [i128; 1
     assert!(rt; sums(tables, place) == expected);
 }
 
+#[test]
+fn an_opening_is_counted_at_once_and_row_by_row(rt: HostRuntime) {
+    at_opening(&rt, AreCounted)
+}
+
+#[derive(Drop)]
+struct AreCounted;
+
+impl AtOpening for AreCounted {
+    fn happens<R: Abort + AllocGlobal>(self, rt: &R, opening: &mut Tables) {
+        are_of_opening(rt, opening);
+        at_changed(rt, opening, Change::Nothing, are_of_opening)
+    }
+}
+
 /// Of customer 8 of district 1, and of a warehouse, a district, a customer and an order that are not there.
-pub fn are_of_opening(rt: &impl Abort, tables: &Tables) {
+fn are_of_opening<R: Abort>(rt: &R, tables: &mut Tables) {
     let places = [
         (
             [1, 1, 8, 8],
@@ -67,33 +82,28 @@ pub fn are_of_opening(rt: &impl Abort, tables: &Tables) {
     }
 }
 
-/// Of the opening, and of its rows loaded one by one.
-pub fn are_counted(rt: &(impl Abort + AllocGlobal), opening: &Tables) {
-    are_of_opening(rt, opening);
-    go_on(rt, opening, Change::Nothing, Sequel::Counted)
-}
-
 #[test]
-fn an_opening_is_counted_at_once_and_row_by_row(rt: HostRuntime) {
-    tell(&rt, &[Story::Counted])
+fn a_payment_counts_where_it_went_and_for_who_paid(rt: HostRuntime) {
+    at_opening(&rt, PayElsewhere)
 }
 
 /// Customer 8 of district 2 pays 1.00 into district 1.
-pub fn pay_elsewhere(rt: &impl Abort, tables: &mut Tables) {
-    let payment = Payment {
-        customer_district: 2,
-        ..payment_by(8, 100)
-    };
-    assert!(rt; pay(tables, &payment).is_ok());
-    let there = [100_100, 10_100, 1_000, 0, 50, 50, 5, 10, 3, 10, 10, 8, 8];
-    are_summed(rt, tables, [1, 1, 8, 8], there);
-    let payer = [100_100, 10_000, 1_100, 0, 50, 50, 5, 10, 3, 10, 10, 8, 8];
-    are_summed(rt, tables, [1, 2, 8, 8], payer);
-}
+#[derive(Drop)]
+struct PayElsewhere;
 
-#[test]
-fn a_payment_counts_where_it_went_and_for_who_paid(rt: HostRuntime) {
-    tell(&rt, &[Story::PaidElsewhere])
+impl AtOpening for PayElsewhere {
+    fn happens<R: Abort + AllocGlobal>(self, rt: &R, opening: &mut Tables) {
+        let tables = opening;
+        let payment = Payment {
+            customer_district: 2,
+            ..payment_by(8, 100)
+        };
+        assert!(rt; pay(tables, &payment).is_ok());
+        let there = [100_100, 10_100, 1_000, 0, 50, 50, 5, 10, 3, 10, 10, 8, 8];
+        are_summed(rt, tables, [1, 1, 8, 8], there);
+        let payer = [100_100, 10_000, 1_100, 0, 50, 50, 5, 10, 3, 10, 10, 8, 8];
+        are_summed(rt, tables, [1, 2, 8, 8], payer);
+    }
 }
 
 /// Behind an order of customer 1 with five lines.
@@ -110,24 +120,29 @@ pub fn delivery_is_counted(rt: &impl Abort, tables: &Tables) {
     are_summed(rt, tables, [1, 1, 8, 8], expected)
 }
 
+#[test]
+fn loaded_rows_are_counted_whatever_came_before(rt: HostRuntime) {
+    at_opening(&rt, CountLoaded)
+}
+
+#[derive(Drop)]
+struct CountLoaded;
+
+impl AtOpening for CountLoaded {
+    fn happens<R: Abort + AllocGlobal>(self, rt: &R, opening: &mut Tables) {
+        at_changed(rt, opening, Change::OneCustomer, last_stays);
+        at_changed(rt, opening, Change::LineDelivered, count_once)
+    }
+}
+
 /// All orders of district 1 are those of customer 1, and the last one was loaded first.
-pub fn last_stays(rt: &impl Abort, tables: &Tables) {
+fn last_stays<R: Abort>(rt: &R, tables: &mut Tables) {
     assert!(rt; [tables.last_order(1, 1, 1), tables.last_order(1, 1, 2)] == [Some(10), None]);
 }
 
 /// Line 4 of order 8, of 4.00, is delivered before the order is.
-pub fn count_once(rt: &(impl Abort + AllocGlobal), tables: &mut Tables) {
+fn count_once<R: Abort + AllocGlobal>(rt: &R, tables: &mut Tables) {
     assert!(rt; tables.customer_delivered(1, 1, 8) == 400);
     let delivered = delivered_in(rt, tables, 1);
     assert!(rt; (delivered, tables.customer_delivered(1, 1, 8)) == (Some(8), 1_500));
-}
-
-pub fn count_loaded(rt: &(impl Abort + AllocGlobal), opening: &Tables) {
-    go_on(rt, opening, Change::OneCustomer, Sequel::LastOrders);
-    go_on(rt, opening, Change::LineDelivered, Sequel::CountedOnce)
-}
-
-#[test]
-fn loaded_rows_are_counted_whatever_came_before(rt: HostRuntime) {
-    tell(&rt, &[Story::LoadedSums])
 }

@@ -5,31 +5,13 @@ ghost use Rattle.tpcc_mailbox.specs.Tokens.{identity, idle_origin, waiting_origi
 use crate::asked::{let_go, payment, purse_of};
 use std::alloc::Global;
 use std::process::Abort;
-use std::sync::atomic::{AtomicU64, Ordering};
-use tpcc_book::{Naming, Register, Turned};
+use std::sync::Wait;
+use tpcc_book::Naming;
 use tpcc_money::Cents;
-use tpcc_rows::Request;
-use tpcc_server::{Job, JobIdle, JobMailboxes, JobServing, JobWaiting, OneTurn};
-use tpcc_turns::{SeatedPurse, Seating};
-
-/// A turn that counts its calls.
-#[derive(Drop)]
-pub(super) struct CountedTurn<'a> {
-    pub made: &'a AtomicU64,
-}
-
-impl<'a> OneTurn for CountedTurn<'a> {
-    fn turn_once(
-        self,
-        register: &mut Register,
-        request: Request,
-        terminal: u32,
-        number: u64,
-    ) -> Turned {
-        self.made.fetch_add(1, Ordering::SeqCst);
-        register.turn(request, terminal, number)
-    }
-}
+use tpcc_server::{
+    Job, JobIdle, JobMailboxes, JobServing, JobWaiting, OneTurn, OpenGate, serve_until_closed,
+};
+use tpcc_turns::{SeatedPurse, Seating, Turns};
 
 /// The token of the last client of these. The mailboxes are lent for the clauses alone, which name their identity.
 fn last_of<N: Naming, T: Seating, C, R: Abort>(
@@ -47,7 +29,7 @@ fn last_of<N: Naming, T: Seating, C, R: Abort>(
 
 /// One mailbox, with its client and a server.
 #[derive(Drop)]
-pub(super) struct One<N: Naming, T: Seating, C> {
+pub(super) struct OneMailbox<N: Naming, T: Seating, C> {
     pub mailboxes: JobMailboxes<N, T, C>,
     pub idle: JobIdle<N, T, C>,
     pub serving: JobServing<N, T, C>,
@@ -58,12 +40,12 @@ pub(super) struct One<N: Naming, T: Seating, C> {
 pub(super) fn make_one<N: Naming, T: Seating, C: Drop, R: Abort>(
     rt: &R,
     alloc: Global,
-) -> One<N, T, C> {
+) -> OneMailbox<N, T, C> {
     let made = JobMailboxes::<N, T, C>::new(alloc, 1);
     let (mailboxes, mut idles, serving) = made.expect(rt, "memory for a mailbox");
     let idle = last_of(rt, &mut idles, &mailboxes);
     let_go(idles);
-    One {
+    OneMailbox {
         mailboxes,
         idle,
         serving,
@@ -85,7 +67,7 @@ pub(super) fn post<N: Naming, T: Seating, C: OneTurn>(
 
 /// Three mailboxes, with payments in the first and in the last one, and a server.
 #[derive(Drop)]
-pub(super) struct Opened<N: Naming, T: Seating, C> {
+pub(super) struct JobPair<N: Naming, T: Seating, C> {
     pub mailboxes: JobMailboxes<N, T, C>,
     pub first: JobWaiting<N, T, C>,
     pub middle: JobIdle<N, T, C>,
@@ -98,15 +80,16 @@ pub(super) struct Opened<N: Naming, T: Seating, C> {
     pub ghost hand: { serving_hand serving ≡ None },
 }
 
-pub(super) fn open<N: Naming, T: Seating, C: OneTurn, R: Abort>(
+/// Posts a payment for each of these purses.
+pub(super) fn post_both<N: Naming, T: Seating, C: OneTurn, R: Abort>(
     rt: &R,
     alloc: Global,
     one: SeatedPurse<N, T>,
     two: SeatedPurse<N, T>,
     calls: (C, C),
-) -> Opened<N, T, C> {
-    let opened = JobMailboxes::<N, T, C>::new(alloc, 3);
-    let (mailboxes, mut idles, serving) = opened.expect(rt, "memory for three mailboxes");
+) -> JobPair<N, T, C> {
+    let made = JobMailboxes::<N, T, C>::new(alloc, 3);
+    let (mailboxes, mut idles, serving) = made.expect(rt, "memory for three mailboxes");
     let last = last_of(rt, &mut idles, &mailboxes);
     let middle = last_of(rt, &mut idles, &mailboxes);
     let first = last_of(rt, &mut idles, &mailboxes);
@@ -114,13 +97,38 @@ pub(super) fn open<N: Naming, T: Seating, C: OneTurn, R: Abort>(
     let (call, other) = calls;
     let first = post(&mailboxes, first, one, call);
     let last = post(&mailboxes, last, two, other);
-    Opened {
+    JobPair {
         mailboxes,
         first,
         middle,
         last,
         serving,
     }
+}
+
+/// Serves until the mailboxes are closed, behind this many jobs, and gives the server's purse back.
+pub(super) fn serve_open<N: Naming, T: Seating, C: OneTurn, R: Wait + Abort>(
+    rt: &R,
+    mailboxes: &JobMailboxes<N, T, C>,
+    turns: &Turns<N, T>,
+    serving: JobServing<N, T, C>,
+    keeper: SeatedPurse<N, T>,
+    jobs: u64,
+) -> SeatedPurse<N, T>
+    requires { (serving_origin serving ≡ identity mailboxes.now) × (serving_hand serving ≡ None) }
+{
+    let (serving, _, served, keeper) = serve_until_closed(
+        rt,
+        mailboxes,
+        serving,
+        turns,
+        OpenGate,
+        u64::MAX,
+        keeper,
+    );
+    let_go(serving);
+    assert!(rt; served == jobs);
+    keeper
 }
 
 /// The purses of both answers, which are there.
