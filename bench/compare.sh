@@ -1,11 +1,12 @@
 #!/usr/bin/env bash
+# The words of a command are kept in one string, and split on purpose.
+# shellcheck disable=SC2059,SC2086,SC2206
 # Runs the product and the plain program of bench/plain over the same command lines, scripts, dumps and runs, and compares
 # bytes, exit statuses and faults. It stops at the first difference and keeps that case in a folder that it names.
 #
 # SCRIPTS (200) and DUMPS (100) are how many are drawn, LINES (150) how long a script is, SEED (1) what they are drawn
 # from, KEEP where a difference is kept. BUILT names a crates/ folder where the product is built already. SECONDS_EACH (60)
-# is what one call may take. CHECKS=all leaves the lines `check` also in scripts at more than 1,000 customers, where one took
-# the product at 05fbdca ten seconds.
+# is what one call may take. CHECKS=all leaves the lines `check` also in scripts at more than 1,000 customers.
 set -eu -o pipefail
 . "$(dirname "$0")/plain/built.sh"
 scripts=${SCRIPTS:-200}

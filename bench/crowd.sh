@@ -1,4 +1,6 @@
 #!/usr/bin/env bash
+# The words of a command are kept in one string, and split on purpose.
+# shellcheck disable=SC2046,SC2086
 # How runs wait: many terminals beside few, and one processor that others want too, as two tables for docs/BENCH.md.
 #
 # The first has 64 terminals with one server, and then 256 and 999 terminals with 1, 4 and 16 servers and by their own turns, all

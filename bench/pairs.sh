@@ -1,4 +1,6 @@
 #!/usr/bin/env bash
+# The words of a command are kept in one string, and split on purpose.
+# shellcheck disable=SC2086
 # How many times as dear the serial program (bench/serial) is as the plain one, where seconds are noisy: each pair of runs stands side by side,
 # and the median of the pairs' ratios counts.
 #

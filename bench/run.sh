@@ -1,4 +1,6 @@
 #!/usr/bin/env bash
+# The words of a command are kept in one string, and split on purpose.
+# shellcheck disable=SC2086
 # Requests a second of runs for 1 to 64 terminals: by their own turns (`--direct`) and by 1, 2 and 4 servers, beside the
 # same requests served one after another on one thread with their receipts (bench/serial), and beside the plain program of bench/plain on one
 # thread and with a thread a terminal behind `std::sync::Mutex`. All in one run, as a table for docs/BENCH.md; each ratio

@@ -1,4 +1,6 @@
 #!/usr/bin/env bash
+# The words of a command are kept in one string, and split on purpose.
+# shellcheck disable=SC2086
 # The product beside the plain program of bench/plain, as the rows of the first table of docs/BENCH.md.
 #
 #   bench/table.sh [ROW]...      rows: serial script lines opening check dumps instructions; without any, all of them
@@ -42,7 +44,7 @@ beside() {
     local first=() k
     while [ "$1" != -- ]; do first+=("$1"); shift; done
     shift
-    product_seconds= plain_seconds=
+    product_seconds='' plain_seconds=''
     for ((k = 0; k < runs; k++)); do
         run_once "$@"
         plain_seconds=$(least "$plain_seconds" "$seconds") plain_memory=$memory
@@ -218,7 +220,6 @@ own_run() {
 
 # What the plain program does by itself.
 own() {
-    local of
     echo "| What | Plain |"
     echo "|---|---|"
     own_run '(4, 300, 10,000)' $middle

@@ -133,7 +133,7 @@ def give(name, copy, others):
 def main():
     program, *words = sys.argv[1:] or [""]
     if not os.path.isfile(f"{TOP}/crates/{program}/src/main.rt"):
-        sys.exit("usage: programs/build.py PROGRAM [WORD ..], where PROGRAM is tpcc or tpcc_serial")
+        sys.exit("usage: programs/build.py PROGRAM [WORD ..], where PROGRAM is tpcc")
     room = tempfile.mkdtemp(prefix="tpcc-build-", dir=os.path.dirname(TOP))
     try:
         number = processors()

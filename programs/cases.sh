@@ -1,3 +1,6 @@
+# shellcheck shell=bash
+# Words are split on purpose, and run.sh sets what is not set here.
+# shellcheck disable=SC2016,SC2059,SC2086,SC2094,SC2154
 # The table of cases, read by run.sh. `it` has a name, the program's words, the input, the exit status, the line on
 # standard error and the output. An empty column is nothing; after @ stands a command, after = a script's stored screens.
 
@@ -472,9 +475,11 @@ by 'screens before the next read' conversation 0 '' '@times 1368 "consistent\n"'
 
 # ---- what a person sees, where standard error is a terminal
 
-# Runs the program with standard error at a terminal; what that showed is left in the file seen.
+# Runs the program with standard error at a terminal, and standard output there too with a second word; what the terminal
+# showed is left in the file seen.
 at_terminal() {
-    local words="'$tpcc' $1 > stdout < stdin"
+    local words="'$tpcc' $1 ${2:-> stdout} < stdin"
+    : > stdout
     if script -qec true /dev/null < /dev/null > /dev/null 2>&1; then
         script -qec "$words; echo \$? > status" /dev/null < /dev/null | tr -d '\r' > seen
     else
@@ -508,16 +513,18 @@ told_at_terminal() {
     compare "$1" 1
 }
 
-# What a terminal shows at the end, where a line above may be cleared and written again.
+# What a terminal that has standard error and output shows at the end, where a line above may be cleared and written again:
+# the report alone, whose numbers depend on the threads.
 left_at_terminal() {
     left_out "$1" && return
     : > stdin
-    at_terminal "$2"
-    cp stdout stdout.wanted
+    printf 'entries N\npaid N\nrise N\n' > stdout.wanted
+    at_terminal "$2" '> /dev/stdout'
     : > stderr.wanted
     awk '{ while (sub(/^\033\[1A\033\[2K/, "")) count--; if ($0 != "") line[++count] = $0 }
-        END { for (i = 1; i <= count; i++) print line[i] }' seen > stderr
-    grep -q ' of 600000 requests$' seen || echo 'no progress was told' >> stderr
+        END { for (i = 1; i <= count; i++) print line[i] }' seen | sed 's/ [0-9.]*$/ N/' > stdout
+    : > stderr
+    grep -q ' of 600000 requests$' seen || echo 'no progress was told' > stderr
     compare "$1" 0
 }
 
@@ -545,6 +552,7 @@ fi
 
 # ---- readers and writers that fail
 
+by 'a word that is not UTF-8'    '"$tpcc" script "$(printf "\377")" < /dev/null > stdout 2> stderr; echo $? > status' 1 'fault 1 Arguments' ''
 by 'a reader that fails'         '"$tpcc" script < / 2> stderr; echo $? > status'                     3 'fault 5 Read' ''
 by 'an endless reader'           'tr "\0" x < /dev/zero | "$tpcc" script 2> stderr; echo ${PIPESTATUS[1]} > status' 2 'fault 3 LongLine 1' ''
 by 'a script to a full disk'     'printf "$first" | "$tpcc" script > /dev/full 2> stderr; echo ${PIPESTATUS[1]} > status' 3 'fault 6 Write' ''

@@ -1,3 +1,6 @@
+# shellcheck shell=bash
+# run.sh sets what is not set here.
+# shellcheck disable=SC2154
 # Calls of the C library that fail under the program, one in turn, read by run.sh. failing.c makes them fail.
 
 compiler=

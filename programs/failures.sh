@@ -1,3 +1,6 @@
+# shellcheck shell=bash
+# Words are split on purpose, and run.sh sets what is not set here.
+# shellcheck disable=SC2016,SC2086,SC2154
 # Reads and writes that fail, or move one byte alone, read by run.sh.
 
 # ---- standard input that fails

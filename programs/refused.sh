@@ -1,3 +1,6 @@
+# shellcheck shell=bash
+# Words are split on purpose, and run.sh sets what is not set here.
+# shellcheck disable=SC2016,SC2086,SC2154
 # Allocations and threads that are refused, one in turn, read by run.sh. What may come of a refused allocation is worked out from runs in which
 # nothing fails: the right output; want of memory behind the screens of some first lines; or one request refused for want of memory and the
 # other lines served as if it were not there.

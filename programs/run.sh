@@ -1,10 +1,11 @@
 #!/usr/bin/env bash
+# Words and formats of cases are split and printed on purpose, and the tables of cases call functions by name.
+# shellcheck disable=SC2059,SC2086,SC2317
 # Tests of the built program, three parts side by side: the scripts of examples/ and programs/scripts/ with their stored screens, the table of cases.sh
 # and shows.sh; refused.sh; failures.sh. Each case compares standard output and standard error byte for byte, and the exit status. A part stops at the
 # first case that differs, and says where its files are; else the last line counts the cases.
 #
-# TPCC is the program (crates/tpcc/out/tpcc). Words after the command's name pick the cases whose names have one of them. Where tpcc_serial is
-# built too, it serves each script that is for the opening that it has.
+# TPCC is the program (crates/tpcc/out/tpcc). Words after the command's name pick the cases whose names have one of them.
 set -u -o pipefail
 top=$(cd "$(dirname "$0")/.." && pwd)
 tpcc=$(realpath "${TPCC:-$top/crates/tpcc/out/tpcc}")
@@ -81,7 +82,7 @@ by() {
 
 # A script of one line, with its screen.
 first='payment 1 1 1 1 1 1.00 0\n'
-screen==examples/first_payment
+screen='=examples/first_payment'
 
 # One of these faults, with status 4.
 is_refused() {
@@ -125,9 +126,6 @@ part_cases() {
         [ -f "$name.status" ] && status=$(cat "$name.status")
         [ -f "$name.stderr" ] && fault=$(cat "$name.stderr")
         it "${name#"$top/"}" "$words" "@cat $script" "$status" "$fault" "=${name#"$top/"}"
-        if [ -x "$serial" ] && [ "$words" = script ]; then
-            tpcc=$serial it "${name#"$top/"} on one thread" '' "@cat $script" $((status > 0)) "$fault" "=${name#"$top/"}"
-        fi
     done
     . "$top/programs/cases.sh"
     . "$top/programs/shows.sh"
@@ -155,8 +153,6 @@ in_own_folder() {
 }
 
 begun=$SECONDS
-serial=$top/crates/tpcc_serial/out/tpcc_serial
-[ "${tpcc%.by-rattle}" != "$tpcc" ] && serial=$serial.by-rattle
 parts='cases refused failures'
 for part in $parts; do (in_own_folder $part) > "$scratch/$part.said" 2>&1 & done
 wait

@@ -1,3 +1,6 @@
+# shellcheck shell=bash
+# Words are split on purpose, and run.sh sets what is not set here.
+# shellcheck disable=SC2016,SC2086,SC2094,SC2154
 # What is shown of scripts and of runs, read by run.sh after cases.sh. `it` and `by` are those of run.sh, `part` and
 # `report_of_journal` those of cases.sh.
 

@@ -1,4 +1,6 @@
 #!/usr/bin/env bash
+# Backquotes in single quotes are the compiler's.
+# shellcheck disable=SC2016
 # An answer can't be made outside tpcc_book, nor be given another purse than the one that it was served for. The
 # compiler has to refuse a crate that builds an answer, or takes a served one apart and builds it anew with another
 # purse, for its private fields and nothing else; and a crate that says anew how a purse is carried, so as to carry

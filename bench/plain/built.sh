@@ -1,3 +1,4 @@
+# shellcheck shell=bash
 # To be sourced by scripts beside this folder: sets `plain` and `product` to the two programs.
 #
 # The plain program is built by rustc; where there is none, this says so and ends with status 2. The product is taken
