@@ -1,6 +1,6 @@
 //! The settlement of a book with all purses.
 ghost use Rattle.std.specs.Prelude.{◌≡◌, ◌↔◌, List, IsOk, IfOk, IfErr, IfSome};
-ghost use Rattle.tpcc_book.specs.Purses.{all_parts};
+ghost use Rattle.tpcc_book.specs.Purses.{all_shares};
 ghost use Rattle.tpcc_turns.specs.Seats.{purses_of};
 ghost use Rattle.tpcc_book.specs.Serve.{rooms_of};
 ghost use Rattle.tpcc_audit.specs.Settlement.{AllSeen, IsSettled, IsUnsettled};
@@ -34,7 +34,7 @@ pub fn settle<N: Naming, T: Seating>(
     turns: Turns<N, T>,
     purses: Vec<SeatedPurse<N, T>>,
 ) -> Result<(Book<N>, Report), (Option<Book<N>>, Unsettled)>
-    ensures exactly { IsOk result ↔ (rooms_of (purses_of purses.items) ≡ all_parts) }
+    ensures exactly { IsOk result ↔ (rooms_of (purses_of purses.items) ≡ all_shares) }
     ensures settled { (receipts : List Receipt) → AllSeen purses.items receipts
         → IfOk result (λ r. IsSettled turns purses.items receipts r.0 r.1) }
     ensures missing { (receipts : List Receipt) → AllSeen purses.items receipts

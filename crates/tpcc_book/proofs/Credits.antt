@@ -4,13 +4,15 @@ use Rattle.std.specs.Prelude.{Option, Some, None, Result, Ok, Err, OnOk, MatchRe
 use Rattle.std.specs.Result.{ForOk, ForErr}
 use Rattle.std.proofs.lemmas.Int.{ints}
 use Rattle.std.proofs.lemmas.List.{length_push}
-use Rattle.tpcc_rows.specs.declared.requests.Request.{Request}
-use Rattle.tpcc_rows.specs.declared.replies.Reply.{Reply}
-use Rattle.tpcc_rows.specs.declared.refusals.Refusal.{Refusal}
+use Rattle.tpcc_rows.specs.declared.transactions.requests.Request.{Request}
+use Rattle.tpcc_rows.specs.declared.transactions.replies.Reply.{Reply}
+use Rattle.tpcc_rows.specs.declared.transactions.refusals.Refusal.{Refusal}
 use Rattle.tpcc_rows.specs.Replay.{paid_by_request}
-use Rattle.tpcc_book.specs.Past.{Past, IsKept, Rises, rise_of}
+use Rattle.tpcc_book.specs.Past.{Past, IsKept, rise_of}
+use Rattle.tpcc_book.specs.Internal.Past.{Rises}
 use Rattle.tpcc_book.specs.Turn.{Accepts, Refuses, IsTurn, entry_of}
-use Rattle.tpcc_book.specs.AnswerView.{AnswerView, answer_of}
+use Rattle.tpcc_book.specs.AnswerView.{AnswerView}
+use Rattle.tpcc_book.specs.Internal.AnswerView.{answer_of}
 use Rattle.tpcc_book.specs.Purses.{PurseView}
 use Rattle.tpcc_book.specs.Serve.{Fits, IsServed}
 use Rattle.tpcc_book.specs.Internal.Crediting.{CanCredit, IsCredited}

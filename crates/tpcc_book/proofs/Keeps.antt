@@ -6,12 +6,12 @@ use Rattle.std.specs.Option.{option_or}
 use Rattle.std.proofs.lemmas.Int.{ints}
 use Rattle.std.proofs.lemmas.Bool.Decides.{nat_tests}
 use Rattle.tpcc_money.specs.Amounts.{total}
-use Rattle.tpcc_rows.specs.declared.entry.Entry.{Entry}
-use Rattle.tpcc_rows.specs.declared.requests.QueuedTicket.{QueuedTicket}
+use Rattle.tpcc_rows.specs.declared.transactions.entry.Entry.{Entry}
+use Rattle.tpcc_rows.specs.declared.transactions.requests.QueuedTicket.{QueuedTicket}
 use Rattle.tpcc_population.specs.declared.opening.Opening.{Opening}
-use Rattle.tpcc_rows.specs.declared.requests.Request.{Request}
-use Rattle.tpcc_rows.specs.declared.replies.Reply.{Reply}
-use Rattle.tpcc_rows.specs.declared.refusals.Refusal.{Refusal}
+use Rattle.tpcc_rows.specs.declared.transactions.requests.Request.{Request}
+use Rattle.tpcc_rows.specs.declared.transactions.replies.Reply.{Reply}
+use Rattle.tpcc_rows.specs.declared.transactions.refusals.Refusal.{Refusal}
 use Rattle.tpcc_rows.specs.Moments.{has_moment_in_range}
 use Rattle.tpcc_rows.specs.SoundState.{IsSoundState}
 use Rattle.tpcc_rows.specs.WellKeyed.{IsWellKeyed}
@@ -19,7 +19,8 @@ use Rattle.tpcc_rows.specs.Tables.{Rows, State}
 use Rattle.tpcc_rows.specs.Turn.{refusal, state_after, reply_to}
 use Rattle.tpcc_rows.specs.Replay.{replay, IsFaithful, IsServedAt, count_of, paid_by_request, paid_by_entries}
 use Rattle.tpcc_population.specs.Opening.{opening_state}
-use Rattle.tpcc_book.specs.Past.{Past, IsKept, Rises, most_entries}
+use Rattle.tpcc_book.specs.Past.{Past, IsKept, most_entries}
+use Rattle.tpcc_book.specs.Internal.Past.{Rises}
 use Rattle.tpcc_book.specs.Turn.{early, stranger, full, journal_refusal, turn_refusal, entry_of, after, Accepts, IsTurn}
 use Rattle.tpcc_book.specs.declared.register.outcome.Turned.{Turned}
 

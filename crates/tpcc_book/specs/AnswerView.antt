@@ -1,9 +1,8 @@
 -- What an answer is seen as.
 use Rattle.std.specs.Prelude.{ℕ, Option, Result}
-use Rattle.tpcc_rows.specs.declared.requests.Request.{Request}
-use Rattle.tpcc_rows.specs.declared.replies.Reply.{Reply}
-use Rattle.tpcc_rows.specs.declared.refusals.Refusal.{Refusal}
-use Rattle.tpcc_book.specs.declared.register.outcome.Turned.{Turned}
+use Rattle.tpcc_rows.specs.declared.transactions.requests.Request.{Request}
+use Rattle.tpcc_rows.specs.declared.transactions.replies.Reply.{Reply}
+use Rattle.tpcc_rows.specs.declared.transactions.refusals.Refusal.{Refusal}
 
 -- the request, its reply or refusal, the place of its entry, and the purse that was handed in
 pub record AnswerView (P : Type 0) : Type 0 where
@@ -11,11 +10,6 @@ pub record AnswerView (P : Type 0) : Type 0 where
   pub outcome : Result Reply Refusal
   pub place : Option ℕ
   pub purse : P
-
--- what a turn gave back, with the purse
-abbrev pub answer_of : {P : Type 0} → Turned → P → AnswerView P
-answer_of turned purse =
-    record { request = turned.request; outcome = turned.outcome; place = turned.place; purse = purse }
 
 -- the same answer by what carries its purse
 abbrev pub answer_with : {Q P : Type 0} → AnswerView Q → P → AnswerView P

@@ -1,5 +1,5 @@
 -- What a purse is seen as, and what purses have together.
-use Rattle.tpcc_book.specs.declared.purse.TheConstants.{ALL_PARTS, MOST_PURSES}
+use Rattle.tpcc_book.specs.declared.purse.TheConstants.{ALL_SHARES, MOST_PURSES}
 use Rattle.std.specs.Prelude.{ℕ, ◌+◌, ℤ, pos, ◌+ℤ◌}
 
 -- the terminal, how many entries it made, what it paid, and how many purses it can still split off
@@ -24,8 +24,8 @@ abbrev pub most_purses : ℕ
 most_purses = MOST_PURSES
 
 -- the parts of a book: the first purse is one, and so is each that can be split off it
-abbrev pub all_parts : ℕ
-all_parts = ALL_PARTS
+abbrev pub all_shares : ℕ
+all_shares = ALL_SHARES
 
 -- the first purse of a book, before any is split off
 abbrev pub first_purse : PurseView

@@ -2,7 +2,7 @@
 use Rattle.std.specs.Prelude.{ℕ, ◌≡◌, ◌+◌, ℤ, ◌+ℤ◌, List, MatchResult}
 use Rattle.std.specs.List.{sum_by}
 use Rattle.tpcc_money.specs.Amounts.{total}
-use Rattle.tpcc_rows.specs.declared.requests.Request.{Request}
+use Rattle.tpcc_rows.specs.declared.transactions.requests.Request.{Request}
 use Rattle.tpcc_rows.specs.Replay.{paid_by_request}
 use Rattle.tpcc_book.specs.Past.{Past}
 use Rattle.tpcc_book.specs.Purses.{PurseView}

@@ -3,11 +3,11 @@ use Rattle.std.specs.Prelude.{ℕ, ◌≡◌, ◌==◌, ◌<◌, ◌^◌, List, 
 use Rattle.std.specs.Result.{ForOk, ForErr}
 use Rattle.std.specs.Option.{option_or}
 use denote.Ref.{MutBor}
-use Rattle.tpcc_rows.specs.declared.entry.Entry.{Entry}
-use Rattle.tpcc_rows.specs.declared.requests.Request.{Request}
-use Rattle.tpcc_rows.specs.declared.replies.Reply.{Reply}
-use Rattle.tpcc_rows.specs.declared.refusals.Refusal.{Refusal}
-use Rattle.tpcc_rows.specs.declared.refusals.Refusal.TheVariants.{Stranger, JournalFull, NoMemory}
+use Rattle.tpcc_rows.specs.declared.transactions.entry.Entry.{Entry}
+use Rattle.tpcc_rows.specs.declared.transactions.requests.Request.{Request}
+use Rattle.tpcc_rows.specs.declared.transactions.replies.Reply.{Reply}
+use Rattle.tpcc_rows.specs.declared.transactions.refusals.Refusal.{Refusal}
+use Rattle.tpcc_rows.specs.declared.transactions.refusals.Refusal.TheVariants.{Stranger, JournalFull, NoMemory}
 use Rattle.tpcc_rows.specs.RefusalOrder.{refusal_number}
 use Rattle.tpcc_rows.specs.Replay.{count_of}
 use Rattle.tpcc_rows.specs.Tables.{State}

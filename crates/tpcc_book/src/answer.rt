@@ -1,6 +1,7 @@
 //! A sealed answer.
 ghost use Rattle.std.specs.Prelude.{◌≡◌};
-ghost use Rattle.tpcc_book.specs.AnswerView.{answer_of, answer_with};
+ghost use Rattle.tpcc_book.specs.AnswerView.{answer_with};
+ghost use Rattle.tpcc_book.specs.Internal.AnswerView.{answer_of};
 
 use crate::carrying::CarriesPurse;
 use crate::register::outcome::Turned;
@@ -28,7 +29,8 @@ impl<P: Drop> Drop for Answer<P> {
 }
 
 impl<P> Model for Answer<P> {
-    ghost use Rattle.tpcc_book.specs.AnswerView.{AnswerView, answer_of};
+    ghost use Rattle.tpcc_book.specs.AnswerView.{AnswerView};
+    ghost use Rattle.tpcc_book.specs.Internal.AnswerView.{answer_of};
 
     ghost Value = { AnswerView P };
 

@@ -1,9 +1,9 @@
 //! The book: a register with the totals of its purses.
 ghost use Rattle.std.specs.Prelude.{◌≡◌, IfOk, OnOk, length};
 ghost use Rattle.tpcc_book.specs.Past.{IsKept, opening_past, rise_of};
-ghost use Rattle.tpcc_book.specs.Purses.{all_parts, first_purse};
+ghost use Rattle.tpcc_book.specs.Purses.{all_shares, first_purse};
 ghost use Rattle.tpcc_book.specs.Turn.{IsTurn, TakesTurn, MakesTurn};
-ghost use Rattle.tpcc_book.specs.AnswerView.{answer_of};
+ghost use Rattle.tpcc_book.specs.Internal.AnswerView.{answer_of};
 ghost use Rattle.tpcc_book.specs.Serve.{Fits, IsServed, rooms_of, entries_of, paid_of};
 ghost use Rattle.tpcc_book.specs.Internal.Crediting.{CanCredit, IsCredited};
 ghost use Rattle.tpcc_rows.specs.Replay.{paid_by_request};
@@ -150,7 +150,7 @@ impl<N: Naming> Book<N> {
     /// The entries and the payments of all purses of the book, put together. The conditions of a call are
     /// that the purses are all there: their number and their rooms add up to 10,001.
     pub fn gather(&mut self, purses: Vec<Purse<N>>) -> (u64, Cents)
-        requires all_there { rooms_of purses.items ≡ all_parts }
+        requires all_there { rooms_of purses.items ≡ all_shares }
         ensures same { self.new ≡ self.old }
         ensures entries { (result.0 ≡ entries_of purses.items)
             × (result.0 ≡ length self.old.entries) }
@@ -169,7 +169,7 @@ impl<N: Naming> Book<N> {
 
     /// The entries and the payments of all purses, which are the journal's length and the rise.
     pub fn audit(&mut self, pool: Pool<N>) -> (u64, Cents)
-        requires all { pool.parts ≡ all_parts }
+        requires all { pool.parts ≡ all_shares }
         ensures same { self.new ≡ self.old }
         ensures kept { IsKept self.old }
         ensures entries { (result.0 ≡ pool.entries) × (result.0 ≡ length self.old.entries) }

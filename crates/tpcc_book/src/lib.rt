@@ -44,7 +44,7 @@ pub use answer::Answer;
 pub use book::Book;
 pub use carrying::CarriesPurse;
 pub use naming::{Blanks, Entries, Naming, PaidCents};
-pub use purse::{ALL_PARTS, MOST_PURSES, Pool, Purse};
+pub use purse::{ALL_SHARES, MOST_PURSES, Pool, Purse};
 pub use register::Register;
 pub use register::outcome::Turned;
 pub use register::ready::MOST_ENTRIES;

@@ -1,8 +1,8 @@
 //! Which book it is: the names of its two ledgers.
 ghost use Rattle.std.specs.Prelude.{◌≡◌, ℕ};
-ghost use Rattle.tpcc_book.specs.Purses.{all_parts};
+ghost use Rattle.tpcc_book.specs.Purses.{all_shares};
 
-use crate::purse::ALL_PARTS;
+use crate::purse::ALL_SHARES;
 use std::marker::{Brand, PhantomData};
 use std::sync::ledger::{Blank, Ledger};
 
@@ -29,7 +29,7 @@ pub struct Entries<N: Naming> {
 impl<N: Naming> Ledger for Entries<N> {
     ghost name = { N.entries };
 
-    ghost parts = { all_parts };
+    ghost parts = { all_shares };
 }
 
 /// The ledger of paid cents, in 10,001 parts.
@@ -40,7 +40,7 @@ pub struct PaidCents<N: Naming> {
 impl<N: Naming> Ledger for PaidCents<N> {
     ghost name = { N.cents };
 
-    ghost parts = { all_parts };
+    ghost parts = { all_shares };
 }
 
 /// The two ledgers of a book that has not been started.
@@ -51,17 +51,17 @@ pub struct Blanks {
     /// For the cents that are paid.
     pub cents: Blank,
     /// It has 10,001 parts.
-    ghost all_entries: { entries.parts ≡ all_parts },
+    ghost all_entries: { entries.parts ≡ all_shares },
     /// It has 10,001 parts.
-    ghost all_cents: { cents.parts ≡ all_parts },
+    ghost all_cents: { cents.parts ≡ all_shares },
 }
 
 impl Blanks {
     /// Two fresh ledgers.
     pub fn new() -> Blanks {
         Blanks {
-            entries: Blank::new(u64::from(ALL_PARTS)),
-            cents: Blank::new(u64::from(ALL_PARTS)),
+            entries: Blank::new(u64::from(ALL_SHARES)),
+            cents: Blank::new(u64::from(ALL_SHARES)),
         }
     }
 }

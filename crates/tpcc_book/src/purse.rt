@@ -1,6 +1,6 @@
 //! Purses: shares of a book's two totals.
 ghost use Rattle.std.specs.Prelude.{◌≡◌, ◌+◌, ◌-◌, ◌<◌, ◌≤◌, ◌^◌, ◌≤ℤ◌, ◌+ℤ◌, pos};
-ghost use Rattle.tpcc_book.specs.Purses.{all_parts, first_purse, most_purses};
+ghost use Rattle.tpcc_book.specs.Purses.{all_shares, first_purse, most_purses};
 ghost use Rattle.tpcc_book.specs.Serve.{purse_after};
 
 mod pool;
@@ -15,7 +15,7 @@ use tpcc_money::Cents;
 pub const MOST_PURSES: u32 = 10_000;
 
 /// The parts of a book: one is its first purse, and one each purse that can be split off.
-pub const ALL_PARTS: u32 = MOST_PURSES + 1;
+pub const ALL_SHARES: u32 = MOST_PURSES + 1;
 
 /// A terminal's token for the entries that it made and the payments among them. A request is served
 /// only with a purse, and the purse's entries and cents are shares of the book's two totals: all
@@ -103,7 +103,7 @@ impl<N: Naming> Purse<N> {
     }
 
     pub(crate) fn first(entry_share: Share<Entries<N>>, cent_share: Share<PaidCents<N>>) -> Purse<N>
-        requires parts { (entry_share.parts ≡ all_parts) × (cent_share.parts ≡ all_parts) }
+        requires parts { (entry_share.parts ≡ all_shares) × (cent_share.parts ≡ all_shares) }
         requires amounts { (entry_share.amount ≡ 0) × (cent_share.amount ≡ 0) }
         ensures { result ≡ first_purse }
     {

@@ -51,7 +51,8 @@ impl Drop for Register {
 }
 
 impl Model for Register {
-    ghost use Rattle.tpcc_book.specs.Past.{Past, IsRegistered};
+    ghost use Rattle.tpcc_book.specs.Past.{Past};
+    ghost use Rattle.tpcc_book.specs.Internal.Past.{IsRegistered};
 
     ghost Value = { Past };
 

@@ -3,7 +3,7 @@ use Rattle.std.proofs.Common.{◌≡◌, ℕ, zero, suc, ◌+◌, List, [], ◌�
 use Rattle.std.specs.Prelude.{◌==◌, ◌+ℤ◌, filter, slice_get}
 use Rattle.std.proofs.lemmas.Int.{ints}
 use Rattle.tpcc_money.specs.Amounts.{total}
-use Rattle.tpcc_rows.specs.declared.rows.DistrictRow.{DistrictRow}
+use Rattle.tpcc_rows.specs.declared.tables.rows.DistrictRow.{DistrictRow}
 use Rattle.tpcc_conditions.specs.Internal.DistrictTotals.{total_in, found_total}
 
 next_row : (w : ℕ) (ds : List DistrictRow) (i : ℕ) → total (total_in w) (take (suc i) ds) ≡ total (total_in w) (take i ds) +ℤ found_total w (slice_get ds i)

@@ -7,7 +7,8 @@ use Rattle.tpcc_rows.specs.Tables.{Rows}
 use Rattle.tpcc_tables.specs.Positions.{count_of}
 use Rattle.tpcc_conditions.specs.declared.condition.Condition.{Condition}
 use Rattle.tpcc_conditions.specs.declared.condition.Condition.TheVariants.{One, Two, Three, Four, Five, Six, Seven, Eight, Nine, Ten, Eleven, Twelve}
-use Rattle.tpcc_conditions.specs.First.{failing_row, failing_at, first_to, first_of, tested_table}
+use Rattle.tpcc_conditions.specs.First.{first_of}
+use Rattle.tpcc_conditions.specs.Internal.First.{failing_row, failing_at, first_to, tested_table}
 
 take_suc : {X : Type 0} (keeps : X → Bool) (broken : X → Broken) (xs : List X) (i : ℕ) → first_failing keeps broken (take (suc i) xs) ≡ option_or (first_failing keeps broken (take i xs)) (failing_row keeps broken (slice_get xs i))
 take_suc keeps broken [] zero = refl

@@ -1,12 +1,12 @@
 -- Whole tables tested row by row.
 use Rattle.std.proofs.Common.{◌≡◌, ℕ, zero, suc, ◌+◌, Bool, true, false, List, [], ◌∷◌, length, take, refl, sym, ◌∙◌, arith}
-use Rattle.tpcc_rows.specs.declared.rows.ItemRow.{ItemRow}
-use Rattle.tpcc_rows.specs.declared.rows.WarehouseRow.{WarehouseRow}
+use Rattle.tpcc_rows.specs.declared.tables.rows.ItemRow.{ItemRow}
+use Rattle.tpcc_rows.specs.declared.tables.rows.WarehouseRow.{WarehouseRow}
 use Rattle.std.specs.List.{list_all}
-use Rattle.tpcc_rows.specs.declared.row.Table.TheVariants as table
+use Rattle.tpcc_rows.specs.declared.tables.row.Table.TheVariants as table
 use Rattle.tpcc_rows.specs.Tables.{Rows}
 use Rattle.tpcc_tables.specs.Positions.{count_of}
-use Rattle.tpcc_conditions.specs.Stocked.{passes_at}
+use Rattle.tpcc_conditions.specs.Internal.Stocked.{passes_at}
 
 take_suc : {X : Type 0} (p : X → Bool) (xs : List X) (i : ℕ) → list_all p (take i xs) ≡ true → passes_at p xs i ≡ true → list_all p (take (suc i) xs) ≡ true
 take_suc p [] i h k = refl

@@ -1,2 +1,4 @@
 -- What no public contract reaches: words of private contracts, of how values are seen, and of proofs.
 pub mod DistrictTotals
+pub mod First
+pub mod Stocked

@@ -1,5 +1,5 @@
 -- Stock of each item in each warehouse (1.4).
-use Rattle.std.specs.Prelude.{ℕ, Bool, true, is_some, List, Option, Some, None, slice_get}
+use Rattle.std.specs.Prelude.{ℕ, Bool, is_some}
 use Rattle.std.specs.List.{list_all}
 use Rattle.tpcc_rows.specs.Tables.{Rows, find_stock}
 
@@ -9,11 +9,3 @@ has_items rows warehouse = list_all (λ i. is_some (find_stock rows warehouse i.
 -- what `IsStocked` asks to be true
 abbrev pub are_stocked : Rows → Bool
 are_stocked rows = list_all (λ w. has_items rows w.id) rows.warehouses
-
-abbrev pub passes : {X : Type 0} → (X → Bool) → Option X → Bool
-passes p None = true
-passes p (Some x) = p x
-
--- whether the row at a place passes, if there is one
-abbrev pub passes_at : {X : Type 0} → (X → Bool) → List X → ℕ → Bool
-passes_at p xs i = passes p (slice_get xs i)

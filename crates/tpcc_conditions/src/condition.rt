@@ -1,7 +1,8 @@
 //! The conditions, and the first row at which one of them fails.
 ghost use Rattle.std.specs.Prelude.{◌≡◌, IfErr, OnOk, Some, None, option_map, if◌then◌else◌};
 ghost use Rattle.tpcc_conditions.specs.Broken.{as_model};
-ghost use Rattle.tpcc_conditions.specs.First.{failing_at, first_of, tested_table};
+ghost use Rattle.tpcc_conditions.specs.First.{first_of};
+ghost use Rattle.tpcc_conditions.specs.Internal.First.{failing_at, tested_table};
 
 use crate::broken::{Broken, at_customer, at_district, at_order, at_order_line, at_warehouse};
 use crate::{keeps, places};

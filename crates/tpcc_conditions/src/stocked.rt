@@ -2,11 +2,12 @@
 ghost use Rattle.std.specs.Prelude.{◌≡◌, None, is_some, slice_get};
 ghost use Rattle.std.specs.List.{list_all};
 ghost use Rattle.std.specs.Option.{option_copied};
-ghost use Rattle.tpcc_rows.specs.declared.requests.Request.{Request};
+ghost use Rattle.tpcc_rows.specs.declared.transactions.requests.Request.{Request};
 ghost use Rattle.tpcc_rows.specs.Tables.{State, find_stock};
 ghost use Rattle.tpcc_rows.specs.Turn.{refusal, state_after};
 ghost use Rattle.tpcc_rows.specs.WellKeyed.{IsStocked, IsWellKeyed};
-ghost use Rattle.tpcc_conditions.specs.Stocked.{has_items, are_stocked, passes_at};
+ghost use Rattle.tpcc_conditions.specs.Stocked.{has_items, are_stocked};
+ghost use Rattle.tpcc_conditions.specs.Internal.Stocked.{passes_at};
 
 use crate::places;
 use tpcc_rows::{ItemRow, RowRef, Table};

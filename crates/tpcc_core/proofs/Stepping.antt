@@ -3,7 +3,7 @@ use Rattle.std.proofs.Common.{◌≡◌, ◌∙◌, sym, ap, refl, ℕ, ◌<◌,
 use Rattle.std.proofs.lemmas.Option.{slice_get_read}
 use Rattle.std.specs.Prelude.{Bool, true, false, ◌&&◌, Option, Some, Result, Ok, Err, is_ok, OnOk, OnErr, slice_get, is_some, option_map, unwrap_or}
 use Rattle.std.proofs.lemmas.Result.{on_ok_weaker}
-use Rattle.tpcc_rows.specs.declared.requests.Request.{Request}
+use Rattle.tpcc_rows.specs.declared.transactions.requests.Request.{Request}
 use Rattle.tpcc_book.specs.Past.{Past}
 use Rattle.tpcc_book.specs.Purses.{PurseView}
 use Rattle.tpcc_core.specs.declared.mailbox.Hand.{Hand}

@@ -7,15 +7,15 @@ use Rattle.std.proofs.lemmas.Int.{ints}
 use Rattle.std.proofs.lemmas.List.{length-append}
 use Rattle.std.proofs.lemmas.List.Sums.{sum_by-cons}
 use Rattle.tpcc_money.specs.Amounts.{total}
-use Rattle.tpcc_rows.specs.declared.entry.Entry.{Entry}
-use Rattle.tpcc_rows.specs.declared.requests.Request.{Request}
-use Rattle.tpcc_rows.specs.declared.replies.Reply.{Reply}
-use Rattle.tpcc_rows.specs.declared.refusals.Refusal.{Refusal}
+use Rattle.tpcc_rows.specs.declared.transactions.entry.Entry.{Entry}
+use Rattle.tpcc_rows.specs.declared.transactions.requests.Request.{Request}
+use Rattle.tpcc_rows.specs.declared.transactions.replies.Reply.{Reply}
+use Rattle.tpcc_rows.specs.declared.transactions.refusals.Refusal.{Refusal}
 use Rattle.tpcc_rows.specs.Replay.{paid_by_entries, paid_by_request}
 use Rattle.tpcc_laws.proofs.List.{total-append}
 use Rattle.tpcc_population.specs.declared.opening.Opening.{Opening}
 use Rattle.tpcc_book.specs.Past.{Past, IsKept}
-use Rattle.tpcc_book.specs.Purses.{PurseView, all_parts, most_purses}
+use Rattle.tpcc_book.specs.Purses.{PurseView, all_shares, most_purses}
 use Rattle.tpcc_book.specs.Turn.{entry_of, Accepts, Refuses}
 use Rattle.tpcc_book.specs.Serve.{purse_after}
 use Rattle.tpcc_core.specs.declared.event.Event.{Event}
@@ -168,7 +168,7 @@ paid_column p = p.paid
 
 -- the parts of the book, the journal's length and its payments
 pub record Balances (d : DeskNow) : Type 0 where
-  pub rooms : worth room_column d ≡ pos all_parts
+  pub rooms : worth room_column d ≡ pos all_shares
   pub entries : worth entries_column d ≡ pos (length d.book.entries)
   pub paid : worth paid_column d ≡ paid_by_entries d.book.entries
 

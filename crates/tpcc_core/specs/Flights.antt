@@ -1,6 +1,6 @@
 -- Where the letters and answers of the terminals are.
 use Rattle.std.specs.Prelude.{ℕ, ◌≡◌, ◌↔◌, List, [], ◌∷◌, Option, Some, None}
-use Rattle.tpcc_rows.specs.declared.requests.Request.{Request}
+use Rattle.tpcc_rows.specs.declared.transactions.requests.Request.{Request}
 use Rattle.tpcc_book.specs.Purses.{PurseView}
 use Rattle.tpcc_core.specs.declared.mailbox.Hand.{Hand}
 use Rattle.tpcc_core.specs.declared.mailbox.Hand.TheVariants as hand

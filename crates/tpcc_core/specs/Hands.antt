@@ -29,12 +29,6 @@ answer_for hand.Empty = None
 answer_for (hand.Holds terminal letter) = None
 answer_for (hand.Served terminal answer) = Some terminal
 
--- the answer leaves the hand
-pub record IsGiven {P : Type 0} (old : Hand P) (answer : AnswerView P) (new : Hand P) : Type 0 where
-  pub terminal : ℕ
-  pub was : old ≡ hand.Served terminal answer
-  pub is : new ≡ hand.Empty
-
 -- the book serves the letter in the hand, which then holds its answer
 pub record Serves (old : Hand PurseView) (book : Past) (new : Hand PurseView) (after : Past) : Type 0 where
   pub terminal : ℕ

@@ -1,2 +1,5 @@
 -- What no public contract reaches: words of private contracts, of how values are seen, and of proofs.
 pub mod Exchanges
+pub mod Hands
+pub mod SeatSteps
+pub mod Seats

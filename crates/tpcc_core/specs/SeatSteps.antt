@@ -1,10 +1,9 @@
 -- What events do to a terminal's seat.
-use Rattle.std.specs.Prelude.{ℕ, ◌≡◌, List, [], ◌∷◌, ◌++◌}
-use Rattle.tpcc_rows.specs.declared.requests.Request.{Request}
+use Rattle.std.specs.Prelude.{List, [], ◌∷◌, ◌++◌}
+use Rattle.tpcc_rows.specs.declared.transactions.requests.Request.{Request}
 use Rattle.tpcc_book.specs.AnswerView.{AnswerView}
 use Rattle.tpcc_core.specs.declared.mailbox.Mailbox.{Mailbox}
 use Rattle.tpcc_core.specs.declared.mailbox.Mailbox.TheVariants as box
-use Rattle.tpcc_core.specs.declared.mailbox.Letter.{Letter}
 use Rattle.tpcc_core.specs.declared.mailbox.Collected.{Collected}
 use Rattle.tpcc_core.specs.Seats.{SeatNow}
 
@@ -14,11 +13,6 @@ mailbox_after_post (box.Free purse) request = box.Posted (record { request = req
 mailbox_after_post (box.Posted letter) request = box.Posted letter
 mailbox_after_post (box.Taken server) request = box.Taken server
 mailbox_after_post (box.Answered answer) request = box.Answered answer
-
--- a server has the letter
-pub record IsTakenFrom {P : Type 0} (old : SeatNow P) (server : ℕ) (letter : Letter P) (new : SeatNow P) : Type 0 where
-  pub was : old.mailbox ≡ box.Posted letter
-  pub is : new ≡ record old { mailbox = box.Taken server }
 
 -- what a terminal keeps of an answer
 abbrev pub kept_of : {P : Type 0} → AnswerView P → Collected

@@ -1,5 +1,5 @@
 -- What contracts see of a terminal's seat.
-use Rattle.std.specs.Prelude.{ℕ, ◌<◌, Bool, true, false, List, ⊤, Option, Some, None}
+use Rattle.std.specs.Prelude.{Bool, true, false, List, Option, Some, None}
 use Rattle.tpcc_core.specs.declared.mailbox.Mailbox.{Mailbox}
 use Rattle.tpcc_core.specs.declared.mailbox.Mailbox.TheVariants as box
 use Rattle.tpcc_core.specs.declared.mailbox.Collected.{Collected}
@@ -39,10 +39,3 @@ purse_at (box.Free purse) = Some purse
 purse_at (box.Posted letter) = None
 purse_at (box.Taken server) = None
 purse_at (box.Answered answer) = None
-
--- there is room for one more answer unless the mailbox is free
-abbrev pub HasRoom : {P : Type 0} → Mailbox P → ℕ → ℕ → Type 0
-HasRoom (box.Free purse) len room = ⊤
-HasRoom (box.Posted letter) len room = len < room
-HasRoom (box.Taken server) len room = len < room
-HasRoom (box.Answered answer) len room = len < room

@@ -2,7 +2,7 @@
 use Rattle.std.specs.Prelude.{◌≡◌, List, [], ◌∷◌, ◌++◌, length}
 use Rattle.std.specs.List.{flat_map}
 use Rattle.tpcc_book.specs.Past.{rise_of}
-use Rattle.tpcc_book.specs.Purses.{PurseView, all_parts}
+use Rattle.tpcc_book.specs.Purses.{PurseView, all_shares}
 use Rattle.tpcc_book.specs.Serve.{rooms_of, entries_of, paid_of}
 use Rattle.tpcc_core.specs.declared.mailbox.Hand.{Hand}
 use Rattle.tpcc_core.specs.declared.mailbox.Hand.TheVariants as hand
@@ -28,6 +28,6 @@ purses_of d = d.first ∷ (flat_map (λ seat. purses_in seat.mailbox) d.seats ++
 
 -- the purses are all there; their entries are the journal's, their cents the rise
 pub record AddsUp (d : DeskNow) : Type 0 where
-  pub rooms : rooms_of (purses_of d) ≡ all_parts
+  pub rooms : rooms_of (purses_of d) ≡ all_shares
   pub entries : entries_of (purses_of d) ≡ length d.book.entries
   pub paid : paid_of (purses_of d) ≡ rise_of d.book

@@ -12,7 +12,7 @@ use crate::event::Event;
 use crate::fault::CoreFault;
 use crate::mailbox::Collected;
 use crate::new_desk::{make_seats, make_servers};
-use crate::seat::{Seat, refuse};
+use crate::seat::{DeskTerminal, refuse};
 use crate::server::{Server, give_answer, serve_letter, take_letter};
 use std::alloc::Global;
 use std::marker::Model;
@@ -28,7 +28,7 @@ pub struct Desk<N: Naming> {
     /// The book's first purse, from which the terminals' purses are split.
     first: Purse<N>,
     /// The terminals, number 1 first.
-    seats: Vec<Seat<Purse<N>>>,
+    seats: Vec<DeskTerminal<Purse<N>>>,
     /// The servers, number 1 first.
     servers: Vec<Server<Purse<N>>>,
     /// Whether the mailboxes are closed.
@@ -67,7 +67,7 @@ fn place<T>(items: &[T], number: u32) -> Option<usize>
 }
 
 // The index of the seat that the answer in a hand belongs to.
-fn answer_place<P: Drop>(seats: &[Seat<P>], server: &Server<P>) -> Option<usize>
+fn answer_place<P: Drop>(seats: &[DeskTerminal<P>], server: &Server<P>) -> Option<usize>
     ensures place { result ≡ answer_place server.now seats.now }
     ensures bound { IfSome result (λ place. place < length seats.now) }
 {

@@ -3,7 +3,7 @@ ghost use Rattle.std.specs.Prelude.{◌≡◌, ◌≤◌, ◌-◌, pos, IfOk, On
 ghost use Rattle.tpcc_book.specs.Purses.{first_purse, most_purses};
 ghost use Rattle.tpcc_core.specs.OpeningDesk.{seats_of, hands_of};
 
-use crate::seat::Seat;
+use crate::seat::DeskTerminal;
 use crate::server::Server;
 use std::alloc::Global;
 use tpcc_book::{Naming, Purse};
@@ -14,7 +14,7 @@ pub(crate) fn make_seats<N: Naming>(
     alloc: Global,
     first: &mut Purse<N>,
     terminals: u32,
-) -> Result<Vec<Seat<Purse<N>>>, NoMemory>
+) -> Result<Vec<DeskTerminal<Purse<N>>>, NoMemory>
     requires first { first.old ≡ first_purse }
     requires terminals { terminals ≤ most_purses }
     ensures seats { IfOk result (λ seats. seats.items ≡ seats_of terminals) }
@@ -23,7 +23,7 @@ pub(crate) fn make_seats<N: Naming>(
 {
     let mut seats = Vec::with_capacity(alloc, terminals as usize)?;
     for k in 0..terminals {
-        seats.push_reserved(Seat::new(alloc, first.split(k + 1)));
+        seats.push_reserved(DeskTerminal::new(alloc, first.split(k + 1)));
     }
     Ok(seats)
 }

@@ -2,7 +2,8 @@
 ghost use Rattle.std.specs.Prelude.{◌≡◌, is_ok, is_some, IfErr, ◌<◌, ◌∷◌, ◌++◌, vec_len, vec_capacity, ◌↔◌, [], IfOk, IfSome, IfNone, OnOk, OnErr, IsErrOf, Option, Some, None, true, false};
 ghost use Rattle.std.specs.Option.{option_copied};
 ghost use Rattle.tpcc_core.specs.Seats.{is_free, is_posted, is_answered, is_taken, purse_at};
-ghost use Rattle.tpcc_core.specs.SeatSteps.{mailbox_after_post, IsTakenFrom, seat_after_collect};
+ghost use Rattle.tpcc_core.specs.SeatSteps.{mailbox_after_post, seat_after_collect};
+ghost use Rattle.tpcc_core.specs.Internal.SeatSteps.{IsTakenFrom};
 
 use crate::fault::CoreFault;
 use crate::mailbox::{Collected, Letter, Mailbox};
@@ -14,16 +15,17 @@ use tpcc_rows::{Request, recall};
 
 /// A terminal's mailbox and what it collected. There is room for one more answer unless the mailbox is free.
 #[derive(Drop)]
-pub(crate) struct Seat<P> {
+pub(crate) struct DeskTerminal<P> {
     /// What is in its mailbox, or its purse.
     mailbox: Mailbox<P>,
     /// The answers that it collected, the first first.
     collected: Vec<Collected>,
 }
 
-impl<P> Model for Seat<P> {
+impl<P> Model for DeskTerminal<P> {
     ghost use Rattle.std.specs.Prelude.{vec_capacity, vec_len};
-    ghost use Rattle.tpcc_core.specs.Seats.{SeatNow, HasRoom};
+    ghost use Rattle.tpcc_core.specs.Seats.{SeatNow};
+    ghost use Rattle.tpcc_core.specs.Internal.Seats.{HasRoom};
 
     ghost Value = { SeatNow P };
 
@@ -32,11 +34,11 @@ impl<P> Model for Seat<P> {
     ghost invariant = { λ s. HasRoom s.mailbox (vec_len s.collected) (vec_capacity s.collected) };
 }
 
-impl<P: Drop> Seat<P> {
-    pub(crate) fn new(alloc: Global, purse: P) -> Seat<P>
+impl<P: Drop> DeskTerminal<P> {
+    pub(crate) fn new(alloc: Global, purse: P) -> DeskTerminal<P>
         ensures { result ≡ record { mailbox = Mailbox.Free purse; collected = [] } }
     {
-        Seat {
+        DeskTerminal {
             mailbox: Mailbox::Free(purse),
             collected: Vec::new(alloc),
         }

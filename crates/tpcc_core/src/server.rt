@@ -1,13 +1,14 @@
 //! A server's hand.
 ghost use Rattle.std.specs.Prelude.{◌≡◌, ◌&&◌, is_ok, is_some, ◌↔◌, IfOk, IfSome, IfNone, IfErr, OnOk, OnErr, IsErrOf, Option, Some, None, true, false};
 ghost use Rattle.tpcc_book.specs.Serve.{IsServed};
-ghost use Rattle.tpcc_core.specs.Hands.{is_empty, holds_letter, answer_for, IsGiven, Serves};
+ghost use Rattle.tpcc_core.specs.Hands.{is_empty, holds_letter, answer_for, Serves};
+ghost use Rattle.tpcc_core.specs.Internal.Hands.{IsGiven};
 ghost use Rattle.tpcc_core.specs.Seats.{is_posted, is_taken};
 ghost use Rattle.tpcc_core.specs.Internal.Exchanges.{IsHanded, IsReturned};
 
 use crate::fault::CoreFault;
 use crate::mailbox::{Hand, Letter};
-use crate::seat::Seat;
+use crate::seat::DeskTerminal;
 use std::marker::Model;
 use std::mem;
 use tpcc_book::{Answer, Book, Naming, Purse};
@@ -133,7 +134,7 @@ fn answer_letter<N: Naming>(letter: Letter<Purse<N>>, book: &mut Book<N>) -> Ans
 
 // The letter of a posted mailbox goes into a hand; unless both are ready nothing happens.
 pub(crate) fn take_letter<P: Drop>(
-    seat: &mut Seat<P>,
+    seat: &mut DeskTerminal<P>,
     server: &mut Server<P>,
     number: u32,
     terminal: u32,
@@ -158,7 +159,7 @@ pub(crate) fn take_letter<P: Drop>(
 
 // The answer in a hand goes into its mailbox; unless both are ready nothing happens.
 pub(crate) fn give_answer<P: Drop>(
-    seat: &mut Seat<P>,
+    seat: &mut DeskTerminal<P>,
     server: &mut Server<P>,
 ) -> Result<(), CoreFault>
     ensures given { OnOk result (IsReturned seat.old server.old seat.new server.new) }

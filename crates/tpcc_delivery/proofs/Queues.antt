@@ -5,8 +5,8 @@ use Rattle.std.specs.List.{list_all}
 use Rattle.std.proofs.lemmas.Bool.Decides.{nat_tests}
 use Rattle.std.proofs.lemmas.List.Folds.{list_all-append}
 use Rattle.tpcc_money.specs.declared.moment.TheConstants.Moment.{LAST_SECOND}
-use Rattle.tpcc_rows.specs.declared.requests.Ticket.{Ticket}
-use Rattle.tpcc_rows.specs.declared.requests.QueuedTicket.{QueuedTicket}
+use Rattle.tpcc_rows.specs.declared.transactions.requests.Ticket.{Ticket}
+use Rattle.tpcc_rows.specs.declared.transactions.requests.QueuedTicket.{QueuedTicket}
 use Rattle.tpcc_rows.specs.Delivery.{queue_with}
 use Rattle.tpcc_rows.specs.Ranges.{is_within, is_carrier, is_moment, is_queued_ticket}
 use Rattle.tpcc_rows.specs.WellKeyed.{IsQueueInRange}

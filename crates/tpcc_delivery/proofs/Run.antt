@@ -1,10 +1,10 @@
 -- A run of the first ticket, by what the queue begins with.
 use Rattle.std.proofs.Common.{◌≡◌, ◌∙◌, sym, ap, subst, ℕ, true, List, [], ◌∷◌, refl, Option, Some, None}
 use Rattle.std.specs.Prelude.{slice_get}
-use Rattle.tpcc_rows.specs.declared.requests.QueuedTicket.{QueuedTicket}
-use Rattle.tpcc_rows.specs.declared.replies.Delivery.{Delivery}
-use Rattle.tpcc_rows.specs.declared.replies.Delivery.TheVariants.{District, NoneQueued}
-use Rattle.tpcc_rows.specs.declared.replies.DistrictDelivery.{DistrictDelivery}
+use Rattle.tpcc_rows.specs.declared.transactions.requests.QueuedTicket.{QueuedTicket}
+use Rattle.tpcc_rows.specs.declared.transactions.replies.Delivery.{Delivery}
+use Rattle.tpcc_rows.specs.declared.transactions.replies.Delivery.TheVariants.{District, NoneQueued}
+use Rattle.tpcc_rows.specs.declared.transactions.replies.DistrictDelivery.{DistrictDelivery}
 use Rattle.tpcc_rows.specs.Delivery.{district_refusal, oldest_new_order, run_refusal, run_reply}
 use Rattle.tpcc_rows.specs.Ranges.{is_carrier}
 use Rattle.tpcc_rows.specs.Tables.{Rows}

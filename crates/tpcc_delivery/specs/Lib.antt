@@ -1,2 +1,3 @@
 pub mod QueueView
 pub mod Runs
+pub mod Internal

@@ -4,7 +4,7 @@ ghost use Rattle.tpcc_rows.specs.Lists.{first_finding};
 ghost use Rattle.tpcc_rows.specs.Delivery.{district_refusal};
 ghost use Rattle.tpcc_rows.specs.Ranges.{is_balance, is_count};
 ghost use Rattle.tpcc_rows.specs.Tables.{customer_at, order_at};
-ghost use Rattle.tpcc_delivery.specs.Runs.{charge_tests};
+ghost use Rattle.tpcc_delivery.specs.Internal.Runs.{charge_tests};
 
 use tpcc_money::Cents;
 use tpcc_rows::limits::{GREATEST_COUNT, GREATEST_TOTAL};

@@ -2,10 +2,10 @@
 #![tactic(auto)]
 
 mod charge;
+mod delivery_queue;
 mod runs;
 mod tickets;
-mod waiting;
 
+pub use delivery_queue::Queue;
 pub use runs::{PreparedRun, deliver_next, finish_run, prepare_run};
 pub use tickets::{finish_ticket, prepare_ticket, queue};
-pub use waiting::Queue;

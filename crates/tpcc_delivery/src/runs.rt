@@ -5,7 +5,7 @@ ghost use Rattle.tpcc_rows.specs.Ranges.{is_carrier};
 ghost use Rattle.tpcc_delivery.specs.Runs.{IsPreparedRun};
 
 use crate::charge::district_refusal;
-use crate::waiting::Queue;
+use crate::delivery_queue::Queue;
 use tpcc_money::Moment;
 use tpcc_rows::{Delivery, DistrictDelivery, Refusal, recall};
 use tpcc_tables::Tables;

@@ -4,7 +4,7 @@ ghost use Rattle.std.specs.Option.{option_or};
 ghost use Rattle.tpcc_rows.specs.Delivery.{queue_with, ticket_refusal};
 ghost use Rattle.tpcc_rows.specs.Ranges.{is_carrier};
 
-use crate::waiting::Queue;
+use crate::delivery_queue::Queue;
 use tpcc_rows::limits::MOST_TICKETS;
 use tpcc_rows::{Refusal, Ticket};
 use tpcc_tables::Tables;

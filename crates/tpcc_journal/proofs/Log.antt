@@ -3,11 +3,11 @@ use Rattle.std.proofs.Common.{◌≡◌, ◌∙◌, sym, ap, ℕ, zero, suc, ◌
 use Rattle.std.specs.Prelude.{filter_map, slice_range}
 use Rattle.std.specs.List.{range_with_len, cons_option}
 use Rattle.std.specs.Option.{option_to_list}
-use Rattle.tpcc_rows.specs.declared.entry.Entry.{Entry}
-use Rattle.tpcc_rows.specs.declared.replies.DistrictDelivery.{DistrictDelivery}
-use Rattle.tpcc_rows.specs.declared.replies.Delivered.{Delivered}
+use Rattle.tpcc_rows.specs.declared.transactions.entry.Entry.{Entry}
+use Rattle.tpcc_rows.specs.declared.transactions.replies.DistrictDelivery.{DistrictDelivery}
+use Rattle.tpcc_rows.specs.declared.transactions.replies.Delivered.{Delivered}
 use Rattle.tpcc_rows.specs.Replay.{district_delivery, district_deliveries, whole_ticket}
-use Rattle.tpcc_journal.specs.Kept.{run_at}
+use Rattle.tpcc_journal.specs.Internal.Kept.{run_at}
 use Rattle.tpcc_journal.proofs.Elements.{are_rest}
 
 then_one : {X : Type 0} (o : Option X) (ls ms : List X) → cons_option o (ls ++ ms) ≡ cons_option o ls ++ ms

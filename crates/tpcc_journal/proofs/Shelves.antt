@@ -5,15 +5,15 @@ use Rattle.std.specs.List.{list_all}
 use Rattle.std.proofs.lemmas.Bool.Decides.{nat_tests}
 use Rattle.std.proofs.lemmas.List.{length_push}
 use Rattle.std.proofs.lemmas.List.Sums.{sum_by-append}
-use Rattle.tpcc_rows.specs.declared.entry.Entry.{Entry}
-use Rattle.tpcc_rows.specs.declared.replies.Reply.{Reply}
-use Rattle.tpcc_rows.specs.declared.replies.Reply.TheVariants as tell
-use Rattle.tpcc_rows.specs.declared.replies.Entered.TheVariants as entered
-use Rattle.tpcc_rows.specs.declared.replies.Delivery.TheVariants.{NoneQueued}
+use Rattle.tpcc_rows.specs.declared.transactions.entry.Entry.{Entry}
+use Rattle.tpcc_rows.specs.declared.transactions.replies.Reply.{Reply}
+use Rattle.tpcc_rows.specs.declared.transactions.replies.Reply.TheVariants as tell
+use Rattle.tpcc_rows.specs.declared.transactions.replies.Entered.TheVariants as entered
+use Rattle.tpcc_rows.specs.declared.transactions.replies.Delivery.TheVariants.{NoneQueued}
 use Rattle.tpcc_rows.specs.Replay.{count_of}
 use Rattle.tpcc_journal.specs.declared.stored.StoredReply.TheVariants as kept
 use Rattle.tpcc_journal.specs.declared.stored.StoredEntry.{StoredEntry}
-use Rattle.tpcc_journal.specs.Kept.{Kinds, Keeps, is_in, reply_at, entry_in}
+use Rattle.tpcc_journal.specs.Internal.Kept.{Kinds, Keeps, is_in, reply_at, entry_in}
 
 -- ---- a list, and one that has more behind the same elements
 

@@ -1,3 +1,3 @@
 pub mod Log
-pub mod Kept
+pub mod EntryRefs
 pub mod Internal

@@ -1,7 +1,7 @@
 //! A list of entries that only grows.
 ghost use Rattle.std.specs.Prelude.{◌≡◌, ◌<◌, ◌==◌, ◌++◌, ◌∷◌, [], OnOk, length, slice_get, option_map};
 ghost use Rattle.tpcc_rows.specs.Replay.{count_of};
-ghost use Rattle.tpcc_journal.specs.Kept.{entry_of};
+ghost use Rattle.tpcc_journal.specs.EntryRefs.{entry_of};
 
 use crate::stored::{Replies, StoredEntry, reserve_one};
 use crate::tallies::{Tally, add_one, tally_of};

@@ -1,7 +1,7 @@
 //! The delivery result log (2.7.2.2).
 ghost use Rattle.std.specs.Prelude.{◌≡◌, ◌++◌, ◌∷◌, [], Some, IfOk, OnOk, length};
 ghost use Rattle.std.specs.Option.{option_to_list};
-ghost use Rattle.tpcc_journal.specs.Kept.{run_at};
+ghost use Rattle.tpcc_journal.specs.Internal.Kept.{run_at};
 ghost use Rattle.tpcc_rows.specs.Replay.{district_delivery, district_deliveries, results_of, whole_ticket};
 
 use crate::journal::Journal;

@@ -1,6 +1,6 @@
 //! Entries as the journal keeps them: the long replies, which differ in length, stand by themselves, kind by kind.
 ghost use Rattle.std.specs.Prelude.{◌≡◌, ◌<◌, [], OnOk, true, vec_len, vec_capacity};
-ghost use Rattle.tpcc_journal.specs.Kept.{is_in, reply_in, Keeps};
+ghost use Rattle.tpcc_journal.specs.Internal.Kept.{is_in, reply_in, Keeps};
 
 use std::alloc::Global;
 use std::marker::Model;
@@ -75,7 +75,7 @@ pub(crate) struct Replies {
 
 impl Model for Replies {
     ghost use Rattle.std.specs.Prelude.{◌-◌, min, vec_len, vec_capacity};
-    ghost use Rattle.tpcc_journal.specs.Kept.{Shelf};
+    ghost use Rattle.tpcc_journal.specs.Internal.Kept.{Shelf};
 
     ghost Value = { Shelf };
 

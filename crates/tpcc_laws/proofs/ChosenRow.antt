@@ -4,9 +4,9 @@ use Rattle.std.specs.Prelude.{◌&&◌, filter, find, Some, slice_get, length, �
 use Rattle.std.specs.List.{list_all}
 use Rattle.std.specs.Str.{bytes_eq}
 use Rattle.std.proofs.lemmas.Bool.Decides.{nat_tests}
-use Rattle.tpcc_rows.specs.declared.rows.CustomerRow.{CustomerRow}
-use Rattle.tpcc_rows.specs.declared.requests.Who.{Who}
-use Rattle.tpcc_rows.specs.declared.requests.Who.TheVariants.{Number, Name}
+use Rattle.tpcc_rows.specs.declared.tables.rows.CustomerRow.{CustomerRow}
+use Rattle.tpcc_rows.specs.declared.transactions.requests.Who.{Who}
+use Rattle.tpcc_rows.specs.declared.transactions.requests.Who.TheVariants.{Number, Name}
 use Rattle.tpcc_rows.specs.Lists.{inserted, inserted_all, key_before, is_ascending}
 use Rattle.tpcc_rows.specs.Tables.{Rows, is_customer, find_customer, customers_in, customer_key}
 use Rattle.tpcc_rows.specs.ChosenCustomer.{chosen_customer, customers_named, first_name_before}

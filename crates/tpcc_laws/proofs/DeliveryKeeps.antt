@@ -7,11 +7,11 @@ use Rattle.std.specs.Ordering.{int_eq}
 use Rattle.std.proofs.lemmas.Int.{ints}
 use Rattle.std.proofs.lemmas.Bool.Decides.{nat_tests}
 use Rattle.tpcc_money.specs.Amounts.{total}
-use Rattle.tpcc_rows.specs.declared.rows.DistrictRow.{DistrictRow}
-use Rattle.tpcc_rows.specs.declared.rows.CustomerRow.{CustomerRow}
-use Rattle.tpcc_rows.specs.declared.rows.OrderRow.{OrderRow}
-use Rattle.tpcc_rows.specs.declared.rows.OrderLineRow.{OrderLineRow}
-use Rattle.tpcc_rows.specs.declared.rows.NewOrderRow.{NewOrderRow}
+use Rattle.tpcc_rows.specs.declared.tables.rows.DistrictRow.{DistrictRow}
+use Rattle.tpcc_rows.specs.declared.tables.rows.CustomerRow.{CustomerRow}
+use Rattle.tpcc_rows.specs.declared.tables.rows.OrderRow.{OrderRow}
+use Rattle.tpcc_rows.specs.declared.tables.rows.OrderLineRow.{OrderLineRow}
+use Rattle.tpcc_rows.specs.declared.tables.rows.NewOrderRow.{NewOrderRow}
 use Rattle.tpcc_rows.specs.Lists.{updated, largest, smallest, larger, smaller, key_before, is_ascending}
 use Rattle.tpcc_rows.specs.Tables.{Rows, is_district, is_order, is_line_of, is_new_order, is_customer, is_order_of, order_key, new_order_key, find_order, find_new_order, order_at, orders_in, orders_of, paid_by, no_order}
 use Rattle.tpcc_rows.specs.WellKeyed.{IsKeyed, HasParents, has_order}

@@ -4,11 +4,11 @@ use Rattle.std.specs.Prelude.{ℤ, ◌+ℤ◌, ◌&&◌, not, find, unwrap_or, i
 use Rattle.std.specs.List.{list_all, list_any}
 use Rattle.std.proofs.lemmas.Bool.Decides.{nat_tests}
 use Rattle.std.proofs.lemmas.List.Folds.{list_all-append}
-use Rattle.tpcc_rows.specs.declared.rows.OrderRow.{OrderRow}
-use Rattle.tpcc_rows.specs.declared.rows.OrderLineRow.{OrderLineRow}
-use Rattle.tpcc_rows.specs.declared.rows.CustomerRow.{CustomerRow}
-use Rattle.tpcc_rows.specs.declared.requests.QueuedTicket.{QueuedTicket}
-use Rattle.tpcc_rows.specs.declared.requests.Ticket.{Ticket}
+use Rattle.tpcc_rows.specs.declared.tables.rows.OrderRow.{OrderRow}
+use Rattle.tpcc_rows.specs.declared.tables.rows.OrderLineRow.{OrderLineRow}
+use Rattle.tpcc_rows.specs.declared.tables.rows.CustomerRow.{CustomerRow}
+use Rattle.tpcc_rows.specs.declared.transactions.requests.QueuedTicket.{QueuedTicket}
+use Rattle.tpcc_rows.specs.declared.transactions.requests.Ticket.{Ticket}
 use Rattle.tpcc_rows.specs.Lists.{updated}
 use Rattle.tpcc_rows.specs.Ranges.{is_order_row, is_order_line_row, is_customer_row, is_new_order_row, is_queued_ticket, is_carrier, is_moment, is_balance, is_count, is_district_id, is_null_or, is_total, is_text}
 use Rattle.tpcc_rows.specs.Tables.{Rows, is_order, is_line_of, is_customer, is_new_order, order_at, customer_at, no_customer}

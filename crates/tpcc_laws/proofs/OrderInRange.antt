@@ -5,12 +5,12 @@ use Rattle.tpcc_money.specs.Amounts.{line_amount}
 use Rattle.std.specs.List.{list_all, list_any}
 use Rattle.std.specs.Option.{option_or}
 use Rattle.std.proofs.lemmas.Bool.Decides.{nat_tests}
-use Rattle.tpcc_rows.specs.declared.rows.DistrictRow.{DistrictRow}
-use Rattle.tpcc_rows.specs.declared.rows.CustomerRow.{CustomerRow}
-use Rattle.tpcc_rows.specs.declared.rows.ItemRow.{ItemRow}
-use Rattle.tpcc_rows.specs.declared.rows.StockRow.{StockRow}
-use Rattle.tpcc_rows.specs.declared.requests.Line.{Line}
-use Rattle.tpcc_rows.specs.declared.requests.Order.{Order}
+use Rattle.tpcc_rows.specs.declared.tables.rows.DistrictRow.{DistrictRow}
+use Rattle.tpcc_rows.specs.declared.tables.rows.CustomerRow.{CustomerRow}
+use Rattle.tpcc_rows.specs.declared.tables.rows.ItemRow.{ItemRow}
+use Rattle.tpcc_rows.specs.declared.tables.rows.StockRow.{StockRow}
+use Rattle.tpcc_rows.specs.declared.transactions.requests.Line.{Line}
+use Rattle.tpcc_rows.specs.declared.transactions.requests.Order.{Order}
 use Rattle.tpcc_rows.specs.Lists.{by_key}
 use Rattle.tpcc_rows.specs.Ranges.{is_within, is_warehouse_row, is_district_row, is_customer_row, is_order_row, is_order_line_row, is_new_order_row, is_item_row, is_stock_row, is_order_id, is_district_id, is_warehouse_id, is_customer_id, is_item_id, is_exact_text, is_amount_within, is_moment, is_count, greatest_order, greatest_stock_ytd}
 use Rattle.tpcc_rows.specs.Tables.{Rows, order_key, order_line_key, new_order_key, is_warehouse, is_district, is_customer, is_item, is_stock, find_warehouse, find_district, find_customer, find_item, find_stock, stock_at, no_district, no_item, no_stock}

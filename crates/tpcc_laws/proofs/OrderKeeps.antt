@@ -4,14 +4,14 @@ use Rattle.std.specs.Prelude.{ℤ, pos, ◌+ℤ◌, ◌-ℤ◌, filter, map, max
 use Rattle.std.specs.List.{list_all, enumerate_from}
 use Rattle.std.specs.Bool.{beq}
 use Rattle.std.specs.Ordering.{int_eq}
-use Rattle.tpcc_rows.specs.declared.rows.CustomerRow.{CustomerRow}
+use Rattle.tpcc_rows.specs.declared.tables.rows.CustomerRow.{CustomerRow}
 use Rattle.std.proofs.lemmas.Int.{ints}
 use Rattle.std.proofs.lemmas.Bool.Decides.{nat_tests}
 use Rattle.tpcc_money.specs.Amounts.{total}
-use Rattle.tpcc_rows.specs.declared.rows.DistrictRow.{DistrictRow}
-use Rattle.tpcc_rows.specs.declared.rows.OrderRow.{OrderRow}
-use Rattle.tpcc_rows.specs.declared.rows.OrderLineRow.{OrderLineRow}
-use Rattle.tpcc_rows.specs.declared.requests.Order.{Order}
+use Rattle.tpcc_rows.specs.declared.tables.rows.DistrictRow.{DistrictRow}
+use Rattle.tpcc_rows.specs.declared.tables.rows.OrderRow.{OrderRow}
+use Rattle.tpcc_rows.specs.declared.tables.rows.OrderLineRow.{OrderLineRow}
+use Rattle.tpcc_rows.specs.declared.transactions.requests.Order.{Order}
 use Rattle.tpcc_rows.specs.WellKeyed.{is_numbered_below_next, has_order_and_stock, HasParents}
 use Rattle.tpcc_rows.specs.Lists.{updated, inserted, inserted_all, by_key, largest, smallest, larger, smaller}
 use Rattle.tpcc_rows.specs.Tables.{Rows, order_line_key, districts_of, order_lines_in, lines_of, orders_of, is_order, is_line_of, is_new_order, is_order_of, find_order, find_stock, find_new_order, district_at, orders_in, is_district, no_district, no_order, paid_by, order_key, new_order_key}

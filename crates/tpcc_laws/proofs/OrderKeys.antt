@@ -1,11 +1,11 @@
 -- An order keeps keys.
 use Rattle.std.proofs.Common.{◌≡◌, ℕ, ◌+◌, ◌<◌, ◌==◌, Bool, true, false, List, [], ◌∷◌, refl, ◌∙◌, arith}
 use Rattle.std.specs.Prelude.{◌&&◌, ◌||◌, map, fold}
-use Rattle.tpcc_rows.specs.declared.rows.StockRow.{StockRow}
+use Rattle.tpcc_rows.specs.declared.tables.rows.StockRow.{StockRow}
 use Rattle.std.specs.List.{list_all, enumerate_from}
 use Rattle.std.proofs.lemmas.Bool.Decides.{nat_tests}
-use Rattle.tpcc_rows.specs.declared.requests.Line.{Line}
-use Rattle.tpcc_rows.specs.declared.requests.Order.{Order}
+use Rattle.tpcc_rows.specs.declared.transactions.requests.Line.{Line}
+use Rattle.tpcc_rows.specs.declared.transactions.requests.Order.{Order}
 use Rattle.tpcc_rows.specs.Lists.{inserted, inserted_all, by_key, key_before, is_ascending}
 use Rattle.tpcc_rows.specs.Tables.{Rows, district_key, order_key, order_line_key, new_order_key, stock_key, is_district}
 use Rattle.tpcc_rows.specs.WellKeyed.{IsKeyed, HasParents, is_numbered_below_next, has_order, has_order_and_stock}

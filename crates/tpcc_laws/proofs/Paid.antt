@@ -4,12 +4,12 @@ use Rattle.std.specs.Prelude.{ℤ, pos, ◌+ℤ◌, ◌≤ℤ◌, None, Some, Op
 use Rattle.std.proofs.lemmas.Int.{ints}
 use Rattle.std.proofs.lemmas.Bool.Decides.{nat_tests}
 use Rattle.tpcc_money.specs.Amounts.{total}
-use Rattle.tpcc_rows.specs.declared.rows.WarehouseRow.{WarehouseRow}
-use Rattle.tpcc_rows.specs.declared.requests.Order.{Order}
-use Rattle.tpcc_rows.specs.declared.requests.Payment.{Payment}
-use Rattle.tpcc_rows.specs.declared.requests.QueuedTicket.{QueuedTicket}
-use Rattle.tpcc_rows.specs.declared.requests.Request.{Request}
-use Rattle.tpcc_rows.specs.declared.requests.Request.TheVariants as ask
+use Rattle.tpcc_rows.specs.declared.tables.rows.WarehouseRow.{WarehouseRow}
+use Rattle.tpcc_rows.specs.declared.transactions.requests.Order.{Order}
+use Rattle.tpcc_rows.specs.declared.transactions.requests.Payment.{Payment}
+use Rattle.tpcc_rows.specs.declared.transactions.requests.QueuedTicket.{QueuedTicket}
+use Rattle.tpcc_rows.specs.declared.transactions.requests.Request.{Request}
+use Rattle.tpcc_rows.specs.declared.transactions.requests.Request.TheVariants as ask
 use Rattle.tpcc_rows.specs.Lists.{updated, key_before}
 use Rattle.tpcc_rows.specs.Ranges.{is_amount_within}
 use Rattle.tpcc_rows.specs.Tables.{Rows, State, is_warehouse, warehouse_key, find_warehouse}

@@ -1,10 +1,10 @@
 -- What is known of the rows that a payment names, where nothing refuses it.
 use Rattle.std.proofs.Common.{◌≡◌, ◌+◌, true, sym, ap, ◌∙◌}
 use Rattle.std.specs.Prelude.{pos, ◌+ℤ◌, ◌-ℤ◌, is_none, Some, None, unwrap_or}
-use Rattle.tpcc_rows.specs.declared.rows.WarehouseRow.{WarehouseRow}
-use Rattle.tpcc_rows.specs.declared.rows.DistrictRow.{DistrictRow}
-use Rattle.tpcc_rows.specs.declared.rows.CustomerRow.{CustomerRow}
-use Rattle.tpcc_rows.specs.declared.requests.Payment.{Payment}
+use Rattle.tpcc_rows.specs.declared.tables.rows.WarehouseRow.{WarehouseRow}
+use Rattle.tpcc_rows.specs.declared.tables.rows.DistrictRow.{DistrictRow}
+use Rattle.tpcc_rows.specs.declared.tables.rows.CustomerRow.{CustomerRow}
+use Rattle.tpcc_rows.specs.declared.transactions.requests.Payment.{Payment}
 use Rattle.tpcc_rows.specs.Lists.{is_ascending}
 use Rattle.tpcc_rows.specs.Ranges.{is_amount_within, is_total, is_balance, is_count}
 use Rattle.tpcc_rows.specs.Tables.{Rows, customer_key, find_warehouse, find_district, find_customer, warehouse_at, district_at, no_warehouse, no_district, no_customer}

@@ -3,7 +3,7 @@ use Rattle.std.proofs.Common.{◌≡◌, ℕ, Bool, true, false, List, [], ◌�
 use Rattle.std.specs.Prelude.{◌&&◌, nat_lt, is_some, find, unwrap_or}
 use Rattle.std.specs.List.{list_all}
 use Rattle.std.proofs.lemmas.List.Folds.{list_all-append}
-use Rattle.tpcc_rows.specs.declared.requests.Payment.{Payment}
+use Rattle.tpcc_rows.specs.declared.transactions.requests.Payment.{Payment}
 use Rattle.tpcc_rows.specs.Lists.{updated}
 use Rattle.tpcc_rows.specs.Tables.{Rows, is_warehouse, is_district, is_customer, warehouse_key, district_key, customer_key, find_warehouse, find_item, find_customer, find_district, no_district, district_at}
 use Rattle.tpcc_rows.specs.WellKeyed.{IsKeyed, HasParents, has_warehouse, has_district, has_payer, has_customer, has_warehouse_and_item, is_numbered_below_next}

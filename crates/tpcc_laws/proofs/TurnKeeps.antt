@@ -2,12 +2,12 @@
 use Rattle.std.proofs.Common.{◌≡◌, ℕ, Bool, true, false, List, [], ◌∷◌, refl, arith}
 use Rattle.std.specs.Prelude.{Option, Some, None, is_some, is_none, ◌||◌, if◌then◌else◌}
 use Rattle.std.specs.Option.{option_or}
-use Rattle.tpcc_rows.specs.declared.requests.Order.{Order}
-use Rattle.tpcc_rows.specs.declared.requests.Payment.{Payment}
-use Rattle.tpcc_rows.specs.declared.requests.QueuedTicket.{QueuedTicket}
-use Rattle.tpcc_rows.specs.declared.requests.Request.{Request}
-use Rattle.tpcc_rows.specs.declared.requests.Request.TheVariants as ask
-use Rattle.tpcc_rows.specs.declared.rows.DistrictRow.{DistrictRow}
+use Rattle.tpcc_rows.specs.declared.transactions.requests.Order.{Order}
+use Rattle.tpcc_rows.specs.declared.transactions.requests.Payment.{Payment}
+use Rattle.tpcc_rows.specs.declared.transactions.requests.QueuedTicket.{QueuedTicket}
+use Rattle.tpcc_rows.specs.declared.transactions.requests.Request.{Request}
+use Rattle.tpcc_rows.specs.declared.transactions.requests.Request.TheVariants as ask
+use Rattle.tpcc_rows.specs.declared.tables.rows.DistrictRow.{DistrictRow}
 use Rattle.tpcc_rows.specs.Lists.{first_finding, key_before}
 use Rattle.tpcc_rows.specs.Tables.{Rows, State, is_district, district_key, find_district}
 use Rattle.tpcc_rows.specs.WellKeyed.{IsKeyed, HasParents}

@@ -3,12 +3,12 @@ use Rattle.std.proofs.Common.{◌≡◌, ℕ, Bool, true, false, List, [], ◌�
 use Rattle.std.specs.Prelude.{◌&&◌, ◌==◌, ◌||◌, Option, Some, None, is_some, is_none, unwrap_or, if◌then◌else◌}
 use Rattle.std.specs.List.{list_all, list_any}
 use Rattle.std.proofs.lemmas.Bool.Decides.{nat_tests}
-use Rattle.tpcc_rows.specs.declared.requests.Line.{Line}
-use Rattle.tpcc_rows.specs.declared.requests.Order.{Order}
-use Rattle.tpcc_rows.specs.declared.requests.Payment.{Payment}
-use Rattle.tpcc_rows.specs.declared.requests.QueuedTicket.{QueuedTicket}
-use Rattle.tpcc_rows.specs.declared.requests.Request.{Request}
-use Rattle.tpcc_rows.specs.declared.requests.Request.TheVariants as ask
+use Rattle.tpcc_rows.specs.declared.transactions.requests.Line.{Line}
+use Rattle.tpcc_rows.specs.declared.transactions.requests.Order.{Order}
+use Rattle.tpcc_rows.specs.declared.transactions.requests.Payment.{Payment}
+use Rattle.tpcc_rows.specs.declared.transactions.requests.QueuedTicket.{QueuedTicket}
+use Rattle.tpcc_rows.specs.declared.transactions.requests.Request.{Request}
+use Rattle.tpcc_rows.specs.declared.transactions.requests.Request.TheVariants as ask
 use Rattle.tpcc_rows.specs.Tables.{Rows, State, is_warehouse, is_item, find_warehouse, find_district, find_customer, find_item, find_stock, no_customer}
 use Rattle.tpcc_rows.specs.WellKeyed.{IsKeyed, HasParents, IsStocked}
 use Rattle.tpcc_rows.specs.ChosenCustomer.{chosen_customer}

@@ -1,9 +1,9 @@
 -- Each request that is not refused, with its moment in range, keeps the ranges of the rows and of the queue.
 use Rattle.std.proofs.Common.{◌≡◌, Bool, true, false, refl, None}
 use Rattle.std.specs.Prelude.{if◌then◌else◌}
-use Rattle.tpcc_rows.specs.declared.requests.Order.{Order}
-use Rattle.tpcc_rows.specs.declared.requests.Request.{Request}
-use Rattle.tpcc_rows.specs.declared.requests.Request.TheVariants as ask
+use Rattle.tpcc_rows.specs.declared.transactions.requests.Order.{Order}
+use Rattle.tpcc_rows.specs.declared.transactions.requests.Request.{Request}
+use Rattle.tpcc_rows.specs.declared.transactions.requests.Request.TheVariants as ask
 use Rattle.tpcc_rows.specs.Moments.{has_moment_in_range}
 use Rattle.tpcc_rows.specs.Ranges.{is_moment}
 use Rattle.tpcc_rows.specs.Tables.{Rows, State}

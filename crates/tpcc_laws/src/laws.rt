@@ -1,8 +1,8 @@
 //! The laws of the model that carry the system, each as the contract of a function with nothing to do.
 ghost use Rattle.std.specs.Prelude.{◌≡◌, ◌↔◌, ◌++◌, ◌∷◌, ◌+ℤ◌, ◌≤ℤ◌, List, [], None, pos, true};
 ghost use Rattle.tpcc_money.specs.Amounts.{total};
-ghost use Rattle.tpcc_rows.specs.declared.entry.Entry.{Entry};
-ghost use Rattle.tpcc_rows.specs.declared.requests.Request.{Request};
+ghost use Rattle.tpcc_rows.specs.declared.transactions.entry.Entry.{Entry};
+ghost use Rattle.tpcc_rows.specs.declared.transactions.requests.Request.{Request};
 ghost use Rattle.tpcc_rows.specs.Conditions.{IsConsistent, first_broken};
 ghost use Rattle.tpcc_rows.specs.Moments.{has_moment_in_range};
 ghost use Rattle.tpcc_rows.specs.Replay.{replay, IsFaithful, IsServedAt, paid_by_request};

@@ -3,9 +3,9 @@ use Rattle.std.proofs.Common.{◌≡◌, ◌∙◌, ℕ, Bool, true, false, List
 use Rattle.std.specs.Prelude.{◌-◌, filter, find, ◌&&◌, ◌==◌, ◌||◌, nat_le, nat_lt, is_some, unwrap_or}
 use Rattle.std.specs.List.{list_any}
 use Rattle.std.proofs.lemmas.Bool.Decides.{nat_tests}
-use Rattle.tpcc_rows.specs.declared.rows.OrderRow.{OrderRow}
-use Rattle.tpcc_rows.specs.declared.rows.DistrictRow.{DistrictRow}
-use Rattle.tpcc_rows.specs.declared.requests.StockQuery.{StockQuery}
+use Rattle.tpcc_rows.specs.declared.tables.rows.OrderRow.{OrderRow}
+use Rattle.tpcc_rows.specs.declared.tables.rows.DistrictRow.{DistrictRow}
+use Rattle.tpcc_rows.specs.declared.transactions.requests.StockQuery.{StockQuery}
 use Rattle.tpcc_rows.specs.Lists.{distinct, largest, larger}
 use Rattle.tpcc_rows.specs.Lookups.{is_low, last_order_number, low_stock}
 use Rattle.tpcc_rows.specs.Tables.{Rows, is_order, is_order_of, find_order, find_district, no_district, order_lines_in}

@@ -46,7 +46,7 @@ pub fn asking_customer<'a>(
 
 /// The district of a Stock-Level that nothing refuses.
 #[tactic(auto, unfolding(tpcc_rows::specs::Lookups::stock_tests))]
-pub fn asked_district<'a>(
+pub fn queried_district<'a>(
     tables: &'a Tables,
     query: &StockQuery,
 ) -> Result<&'a DistrictRow, Refusal>

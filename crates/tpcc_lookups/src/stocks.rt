@@ -2,7 +2,7 @@
 ghost use Rattle.std.specs.Prelude.{◌≡◌, IfOk, IfErr, OnOk, Some, None};
 ghost use Rattle.tpcc_rows.specs.Lookups.{stock_refusal, stock_reply};
 
-use crate::queries::asked_district;
+use crate::queries::queried_district;
 use tpcc_rows::{Level, Refusal, StockQuery};
 use tpcc_tables::Tables;
 
@@ -19,7 +19,7 @@ pub fn stock_level(tables: &Tables, query: &StockQuery) -> Result<Level, Refusal
         district,
         threshold,
     } = *query;
-    let next = asked_district(tables, query)?.next_order;
+    let next = queried_district(tables, query)?.next_order;
     Ok(Level {
         warehouse,
         district,

@@ -8,11 +8,12 @@ use lib.ListN.{get_elem?}
 use prog.Atomic.{either}
 use Rattle.atomic_table.specs.Table.{Me, step, keeps, takes, gives, stepped, rest, Allows}
 use Rattle.atomic_table.proofs.Lists.{set_here, set_else}
-use Rattle.tpcc_mailbox.specs.declared.rule.Mail.{Mail}
-use Rattle.tpcc_mailbox.specs.declared.rule.Mail.TheVariants.{Letter, Reply}
+use Rattle.tpcc_mailbox.specs.declared.words.rule.Mail.{Mail}
+use Rattle.tpcc_mailbox.specs.declared.words.rule.Mail.TheVariants.{Letter, Reply}
 use Rattle.tpcc_mailbox.specs.Views.{Phase, Fresh, Free, Sent, Role, Opening, Client, Server, Holder, View}
 use Rattle.atomic_table.specs.declared.shared.Seat.{Seat}
-use Rattle.tpcc_mailbox.specs.Rule.{word_of, Found, view_with, seat_with, server_seat, serving_role, serving_slots, splits_of, hand_of, splits_in, hand_in, half, halved, MailboxOk, Underway, Ruled}
+use Rattle.tpcc_mailbox.specs.Rule.{view_with, seat_with, server_seat, serving_role, serving_slots, splits_of, hand_of, splits_in, hand_in}
+use Rattle.tpcc_mailbox.specs.Internal.Rule.{word_of, Found, half, halved, MailboxOk, Underway, FollowsRule}
 use Rattle.tpcc_mailbox.specs.Internal.Steps.{PostStep, TakeStep, AnswerStep, CollectStep, with_flag, FirstCollectStep}
 use Rattle.tpcc_mailbox.proofs.Moves.{word_in_block, put_here, stays, moves}
 
@@ -62,7 +63,7 @@ module _ {J A : Type 0} (fits : J → A → Type 0) where
   posted_letter (Sent j) w slot ok one = (j, refl, ok.posted one)
 
   pub posts : (slots id : ℕ) (me : M) (k : ℕ) (j : J) → k < slots → me.0.roles ≡ Client k Free ∷ [] → me.1 ≡ (k, Some (Letter j)) ∷ []
-      → Allows (Ruled fits) slots id me (word_of k) (λ w. either (eqb w 0) 1 w) (PostStep (step slots (word_of k) 0 1 none) me)
+      → Allows (FollowsRule fits) slots id me (word_of k) (λ w. either (eqb w 0) 1 w) (PostStep (step slots (word_of k) 0 1 none) me)
   posts slots id me k j near is carried s r deep at _ = let deep' = r.slot_count in let inside : k < r.n = omega arith in
       let knows = r.seats id me.0 at 0 (Client k Free) (ap (λ (z : List (Role J)). get_elem? z 0) is) inside in
       let w : View J = view_with (Client k (Sent j)) me.0.closed me.0.answered in let homes' : List Slot = set s.homes k (some (Some (Letter j))) in
@@ -70,8 +71,8 @@ module _ {J A : Type 0} (fits : J → A → Type 0) where
         w,
         gives,
         tt,
-        subst (λ b. Ruled fits (stepped s (word_of k) (either b 1 (get_or s.words (word_of k) 0)) id me.1 w gives)) (sym (eq-eqb (get_or s.words (word_of k) 0) 0 was))
-            (subst (λ (c : List (ℕ × Option (Mail J A))). Ruled fits (stepped s (word_of k) 1 id c w gives)) (sym carried)
+        subst (λ b. FollowsRule fits (stepped s (word_of k) (either b 1 (get_or s.words (word_of k) 0)) id me.1 w gives)) (sym (eq-eqb (get_or s.words (word_of k) 0) 0 was))
+            (subst (λ (c : List (ℕ × Option (Mail J A))). FollowsRule fits (stepped s (word_of k) 1 id c w gives)) (sym carried)
             (moves fits s r k 1 id (Sent j) homes' me.0 (Client k Free) (Client k (Sent j)) me.0.answered inside at is (inr knows.1) (inl (λ e. omega arith)) (length-set s.homes k (some (Some (Letter j))))
             (λ i ne. set_else s.homes k i (some (Some (Letter j))) ne)
             record { posted = λ _. set_here s.homes k (some (Some (Letter j))) (omega arith); answered = λ e. absurd (omega arith); used = (omega arith, omega arith) }
@@ -80,13 +81,13 @@ module _ {J A : Type 0} (fits : J → A → Type 0) where
       )
 
   pub takes_letter : (slots id : ℕ) (me : M) (k d : ℕ) → k < slots → me.0.roles ≡ Server d ∷ []
-      → Allows (Ruled fits) slots id me (word_of k) (λ w. either (eqb w 1) 2 w) (TakeStep (step slots (word_of k) 1 2 none) me)
+      → Allows (FollowsRule fits) slots id me (word_of k) (λ w. either (eqb w 1) 2 w) (TakeStep (step slots (word_of k) 1 2 none) me)
   takes_letter slots id me k d near is s r deep at _ = let x : ℕ = get_or s.words (word_of k) 0 in let deep' = r.slot_count in let word_count = r.word_count in let inside : k < r.n = omega arith in dite (ℕ_discrete x 1)
       (λ hit. let got = posted_letter (r.phase k) x (get_elem? s.homes k) (r.mailboxes k inside) hit in let j : J = got.0 in let w : View J = view_with (Holder d k j) me.0.closed me.0.answered in (
         w,
         takes k (Some (Letter j)),
         got.2,
-        subst (λ b. Ruled fits (stepped s (word_of k) (either b 2 x) id me.1 w (takes k (Some (Letter j))))) (sym (eq-eqb x 1 hit))
+        subst (λ b. FollowsRule fits (stepped s (word_of k) (either b 2 x) id me.1 w (takes k (Some (Letter j))))) (sym (eq-eqb x 1 hit))
             (moves fits s r k 2 id (Sent j) (set s.homes k none) me.0 (Server d) (Holder d k j) me.0.answered inside at is (inl got.1) (inl (λ e. omega arith)) (length-set s.homes k none) (λ i ne. set_else s.homes k i none ne)
             record { posted = λ e. absurd (omega arith); answered = λ e. absurd (omega arith); used = (omega arith, omega arith) }
             (inside, put_here r.phase k (Sent j), get_or-set_same s.words (word_of k) 2 0 (word_in_block k r.n (length s.words) word_count (omega arith)), put_here r.server k id) (λ _. (d, j, refl)) tt (λ top. refl) refl),
@@ -99,20 +100,20 @@ module _ {J A : Type 0} (fits : J → A → Type 0) where
         me.0,
         keeps,
         tt,
-        subst (λ b. Ruled fits (stepped s (word_of k) (either b 2 x) id me.1 me.0 keeps)) (sym (ne_eqb x 1 miss)) (stays fits s (word_of k) id me.0 me.1 at r),
+        subst (λ b. FollowsRule fits (stepped s (word_of k) (either b 2 x) id me.1 me.0 keeps)) (sym (ne_eqb x 1 miss)) (stays fits s (word_of k) id me.0 me.1 at r),
         λ d' is'. ((λ hit. absurd (miss hit)), λ _. refl),
       ))
 
   pub answers : (slots id : ℕ) (me : M) (d k : ℕ) (j : J) (a : A) → me.0.roles ≡ Holder d k j ∷ [] → me.1 ≡ (k, Some (Reply a)) ∷ [] → fits j a
-      → Allows (Ruled fits) slots id me (word_of k) (λ w. either (eqb w 2) 3 w) (AnswerStep (step slots (word_of k) 2 3 none) me)
+      → Allows (FollowsRule fits) slots id me (word_of k) (λ w. either (eqb w 2) 3 w) (AnswerStep (step slots (word_of k) 2 3 none) me)
   answers slots id me d k j a is carried fit s r deep at _ =
       let knows = r.seats id me.0 at 0 (Holder d k j) (ap (λ (z : List (Role J)). get_elem? z 0) is) in let inside = knows.0 in let deep' = r.slot_count in
       let ks : List ℕ = me.0.answered ++ k ∷ [] in let w : View J = view_with (Server d) me.0.closed ks in let homes' : List Slot = set s.homes k (some (Some (Reply a))) in (
         w,
         gives,
         tt,
-        subst (λ b. Ruled fits (stepped s (word_of k) (either b 3 (get_or s.words (word_of k) 0)) id me.1 w gives)) (sym (eq-eqb (get_or s.words (word_of k) 0) 2 knows.2))
-            (subst (λ (c : List (ℕ × Option (Mail J A))). Ruled fits (stepped s (word_of k) 3 id c w gives)) (sym carried)
+        subst (λ b. FollowsRule fits (stepped s (word_of k) (either b 3 (get_or s.words (word_of k) 0)) id me.1 w gives)) (sym (eq-eqb (get_or s.words (word_of k) 0) 2 knows.2))
+            (subst (λ (c : List (ℕ × Option (Mail J A))). FollowsRule fits (stepped s (word_of k) 3 id c w gives)) (sym carried)
             (moves fits s r k 3 id (Sent j) homes' me.0 (Holder d k j) (Server d) ks inside at is (inl knows.1) (inr knows.3) (length-set s.homes k (some (Some (Reply a))))
             (λ i ne. set_else s.homes k i (some (Some (Reply a))) ne)
             record { posted = λ e. absurd (omega arith); answered = λ _. (a, set_here s.homes k (some (Some (Reply a))) (omega arith), fit); used = (omega arith, omega arith) }
@@ -121,7 +122,7 @@ module _ {J A : Type 0} (fits : J → A → Type 0) where
       )
 
   pub collects : (slots id : ℕ) (me : M) (k : ℕ) (j : J) → k < slots → me.0.roles ≡ Client k (Sent j) ∷ []
-      → Allows (Ruled fits) slots id me (word_of k) (λ w. either (eqb w 3) 0 w) (CollectStep fits (step slots (word_of k) 3 0 none) me)
+      → Allows (FollowsRule fits) slots id me (word_of k) (λ w. either (eqb w 3) 0 w) (CollectStep fits (step slots (word_of k) 3 0 none) me)
   collects slots id me k j near is s r deep at _ = let x : ℕ = get_or s.words (word_of k) 0 in let deep' = r.slot_count in let inside : k < r.n = omega arith in
       let knows = r.seats id me.0 at 0 (Client k (Sent j)) (ap (λ (z : List (Role J)). get_elem? z 0) is) inside in
       let ok : Underway fits j x (get_elem? s.homes k) = subst (λ (p : Phase J). MailboxOk fits p x (get_elem? s.homes k)) knows.0 (r.mailboxes k inside) in dite (ℕ_discrete x 3)
@@ -129,7 +130,7 @@ module _ {J A : Type 0} (fits : J → A → Type 0) where
         w,
         takes k (Some (Reply a)),
         got.1,
-        subst (λ b. Ruled fits (stepped s (word_of k) (either b 0 x) id me.1 w (takes k (Some (Reply a))))) (sym (eq-eqb x 3 hit))
+        subst (λ b. FollowsRule fits (stepped s (word_of k) (either b 0 x) id me.1 w (takes k (Some (Reply a))))) (sym (eq-eqb x 3 hit))
             (moves fits s r k 0 id Free (set s.homes k none) me.0 (Client k (Sent j)) (Client k Free) me.0.answered inside at is (inr knows.1) (inl (λ e. omega arith)) (length-set s.homes k none) (λ i ne. set_else s.homes k i none ne)
             refl (λ _. (put_here r.phase k Free, knows.1, knows.2)) (λ e. absurd (omega arith)) tt (λ top. refl) refl),
         λ k' j' is'. (
@@ -145,19 +146,19 @@ module _ {J A : Type 0} (fits : J → A → Type 0) where
         me.0,
         keeps,
         tt,
-        subst (λ b. Ruled fits (stepped s (word_of k) (either b 0 x) id me.1 me.0 keeps)) (sym (ne_eqb x 3 miss)) (stays fits s (word_of k) id me.0 me.1 at r),
+        subst (λ b. FollowsRule fits (stepped s (word_of k) (either b 0 x) id me.1 me.0 keeps)) (sym (ne_eqb x 3 miss)) (stays fits s (word_of k) id me.0 me.1 at r),
         λ k' j' is'. ((λ hit. absurd (miss hit)), λ _. refl),
       ))
 
   pub first_collects : (slots id : ℕ) (me : M) (k : ℕ) → k < slots → me.0.roles ≡ Client k Fresh ∷ [] → me.1 ≡ []
-      → Allows (Ruled fits) slots id me (word_of k) (λ w. either (eqb w 3) 0 w) (FirstCollectStep (step slots (word_of k) 3 0 none) me)
+      → Allows (FollowsRule fits) slots id me (word_of k) (λ w. either (eqb w 3) 0 w) (FirstCollectStep (step slots (word_of k) 3 0 none) me)
   first_collects slots id me k near is bare s r deep at _ = let x : ℕ = get_or s.words (word_of k) 0 in let deep' = r.slot_count in let inside : k < r.n = omega arith in
       let knows = r.seats id me.0 at 0 (Client k Fresh) (ap (λ (z : List (Role J)). get_elem? z 0) is) inside in
       let ok : MailboxOk fits Fresh x (get_elem? s.homes k) = subst (λ (p : Phase J). MailboxOk fits p x (get_elem? s.homes k)) knows.0 (r.mailboxes k inside) in let hit : x ≡ 3 = ok.0 in let w : View J = view_with (Client k Free) me.0.closed me.0.answered in (
         w,
         takes k None,
         ok.1,
-        subst (λ b. Ruled fits (stepped s (word_of k) (either b 0 x) id me.1 w (takes k None))) (sym (eq-eqb x 3 hit))
+        subst (λ b. FollowsRule fits (stepped s (word_of k) (either b 0 x) id me.1 w (takes k None))) (sym (eq-eqb x 3 hit))
             (moves fits s r k 0 id Free (set s.homes k none) me.0 (Client k Fresh) (Client k Free) me.0.answered inside at is (inr knows.1) (inl (λ e. omega arith)) (length-set s.homes k none) (λ i ne. set_else s.homes k i none ne)
             refl (λ _. (put_here r.phase k Free, knows.1, knows.2)) (λ e. absurd (omega arith)) tt (λ top. refl) refl),
         λ k' is' bare' t. (view_with (Client (ap mailbox_in (sym is ∙ is') t) Free) me.0.closed me.0.answered, (ap mailbox_in (sym is ∙ is') t, None) ∷ bare t),

@@ -1,4 +1,6 @@
 -- What no public contract reaches: words of private contracts, of how values are seen, and of proofs.
+pub mod Lefts
 pub mod Only
 pub mod Roles
+pub mod Rule
 pub mod Steps

@@ -2,12 +2,12 @@
 ghost use Rattle.std.specs.Prelude.{◌≡◌, ◌+◌, ◌<◌, ◌≤◌, true, IfOk, IfErr};
 ghost use Rattle.tpcc_mailbox.specs.Tokens.{identity, idle_origin, idle_mailbox, idle_saw_closed, waiting_origin, waiting_mailbox, waiting_letter, waiting_saw_closed};
 
-use crate::answers::Answers;
-use crate::plays::{Collecting, Posting, Reading};
-use crate::room::Posted;
-use crate::rule::{ANSWERED, CLOSED, FREE, Mail, POSTED};
+use crate::letters::answers::Answers;
+use crate::letters::room::PostedLetter;
 use crate::table::{Mailboxes, exchange_slot, load_word, step_word, word_index};
 use crate::tokens::{Idle, Waiting};
+use crate::words::plays::{Collecting, Posting, Reading};
+use crate::words::rule::{ANSWERED, CLOSED, FREE, Mail, POSTED};
 use std::snapshot::Snapshot;
 
 impl<J, A: Answers<J>> Mailboxes<J, A> {
@@ -26,7 +26,7 @@ impl<J, A: Answers<J>> Mailboxes<J, A> {
         } = idle;
         let shared = &self.table.shared;
         let kept = Snapshot::of(&letter);
-        let posted = Mail::Letter(Posted::new(letter, room));
+        let posted = Mail::Letter(PostedLetter::new(letter, room));
         let was = exchange_slot(shared, &mut seat, mailbox, Some(posted));
         let None = was else { unreachable!() };
         step_word::<J, A, Posting>(shared, &mut seat, mailbox, FREE, POSTED);

@@ -1,19 +1,20 @@
 //! Mailboxes that are made.
 ghost use Rattle.std.specs.Prelude.{◌≡◌, ◌+◌, ◌<◌, ◌≤◌, false, [], replicate, set, vec_len, vec_capacity, All, IfOk, None};
-ghost use Rattle.tpcc_mailbox.specs.Rule.{IsSized, opener, view_with, word_of, words_of};
+ghost use Rattle.tpcc_mailbox.specs.Rule.{IsSized, view_with, words_of};
+ghost use Rattle.tpcc_mailbox.specs.Internal.Rule.{opener, word_of};
 ghost use Rattle.tpcc_mailbox.specs.Views.{Opening};
 ghost use Rattle.tpcc_mailbox.specs.declared.table.TheConstants.{MOST_MAILBOXES};
 ghost use Rattle.tpcc_mailbox.specs.Tokens.{identity, mailbox_count, AreNewIdles, idle_mailbox, idle_origin, idle_saw_closed, serving_origin, serving_hand, serving_splits, serving_answered, serving_saw_closed};
 
-use crate::answers::Answers;
-use crate::plays::{FirstCollecting, MakingClient, MakingServer};
-use crate::room::Room;
-use crate::rule::{ANSWERED, FREE, OPEN};
-use crate::sleeping::Sleepers;
+use crate::letters::answers::Answers;
+use crate::letters::room::Room;
 use crate::table::{
     MailboxSeat, MailboxTable, Mailboxes, split_seat, step_word, word_count, word_index,
 };
 use crate::tokens::{Idle, Serving};
+use crate::words::plays::{FirstCollecting, MakingClient, MakingServer};
+use crate::words::rule::{ANSWERED, FREE, OPEN};
+use crate::words::sleeping::Sleepers;
 use atomic_table::Table;
 use std::alloc::{AllocError, Global};
 use tpcc_rows::NoMemory;

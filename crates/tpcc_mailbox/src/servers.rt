@@ -2,11 +2,11 @@
 ghost use Rattle.std.specs.Prelude.{◌≡◌, ◌+◌, ◌<◌, ◌≤◌, [], ◌∷◌, ◌++◌, true, IfSome, IfNone, Some, None};
 ghost use Rattle.tpcc_mailbox.specs.Tokens.{identity, mailbox_count, serving_origin, serving_hand, serving_splits, serving_answered, serving_saw_closed, taken_mailbox, taken_letter};
 
-use crate::answers::Answers;
-use crate::plays::{Answering, Closing, Reading, SplittingServer, Taking};
-use crate::rule::{ANSWERED, CLOSED, Mail, POSTED, TAKEN};
+use crate::letters::answers::Answers;
 use crate::table::{Mailboxes, exchange_slot, load_word, split_seat, step_word, word_index};
 use crate::tokens::{Serving, Taken};
+use crate::words::plays::{Answering, Closing, Reading, SplittingServer, Taking};
+use crate::words::rule::{ANSWERED, CLOSED, Mail, POSTED, TAKEN};
 use std::snapshot::Snapshot;
 
 impl<J, A: Answers<J>> Mailboxes<J, A> {

@@ -4,11 +4,12 @@ ghost use mathlib.Core.Option.{none};
 ghost use Rattle.atomic_table.specs.Table.{rest, step, Allows, Splits};
 ghost use Rattle.tpcc_mailbox.specs.Internal.Steps.{MayStep};
 ghost use Rattle.tpcc_mailbox.specs.declared.table.TheConstants.{MOST_MAILBOXES};
-ghost use Rattle.tpcc_mailbox.specs.Rule.{IsSized, Ruled, word_of, words_of};
+ghost use Rattle.tpcc_mailbox.specs.Rule.{IsSized, words_of};
+ghost use Rattle.tpcc_mailbox.specs.Internal.Rule.{FollowsRule, word_of};
 
-use crate::answers::Answers;
-use crate::rule::{Mail, MailboxRule, View};
-use crate::sleeping::Sleepers;
+use crate::letters::answers::Answers;
+use crate::words::rule::{Mail, MailboxRule, View};
+use crate::words::sleeping::Sleepers;
 use atomic_table::{Play, Seat, Shared, Split, Table};
 use std::alloc::Global;
 
@@ -88,7 +89,7 @@ pub(crate) fn load_word<J, A: Answers<J>, P: Play<Option<Mail<J, A>>, View<J>>>(
     requires own { seat.old.table_id ≡ shared.now.table_id }
     requires within { word < shared.now.table_id.words }
     requires allowed { Allows
-        (Ruled (λ j a. A.fits (A.label j) a))
+        (FollowsRule (λ j a. A.fits (A.label j) a))
         shared.now.table_id.slots
         seat.old.id
         seat.old.me
@@ -129,7 +130,7 @@ pub(crate) fn split_seat<J, A: Answers<J>, P: Split<View<J>>>(
     requires own { seat.old.table_id ≡ shared.now.table_id }
     requires words { 0 < shared.now.table_id.words }
     requires splits { Splits
-        (Ruled (λ j a. A.fits (A.label j) a))
+        (FollowsRule (λ j a. A.fits (A.label j) a))
         seat.old.id
         seat.old.me.0
         (P.left seat.old.me.0)

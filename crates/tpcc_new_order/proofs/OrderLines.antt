@@ -5,9 +5,9 @@ use Rattle.std.specs.List.{list_all, list_any, enumerate_from}
 use Rattle.std.proofs.lemmas.Int.{ints}
 use Rattle.std.proofs.lemmas.List.{take_more, length-take-le}
 use Rattle.tpcc_money.specs.Amounts.{line_amount, total}
-use Rattle.tpcc_rows.specs.declared.rows.ItemRow.{ItemRow}
-use Rattle.tpcc_rows.specs.declared.rows.StockRow.{StockRow}
-use Rattle.tpcc_rows.specs.declared.requests.Line.{Line}
+use Rattle.tpcc_rows.specs.declared.tables.rows.ItemRow.{ItemRow}
+use Rattle.tpcc_rows.specs.declared.tables.rows.StockRow.{StockRow}
+use Rattle.tpcc_rows.specs.declared.transactions.requests.Line.{Line}
 use Rattle.tpcc_rows.specs.Ranges.{is_within, is_item_row, is_stock_row, is_count, greatest_stock_ytd, is_amount_within}
 use Rattle.tpcc_rows.specs.Tables.{Rows, is_item, is_stock, find_item, find_stock, item_at, stock_at, no_item, no_stock}
 use Rattle.tpcc_rows.specs.WellKeyed.{IsInRange}

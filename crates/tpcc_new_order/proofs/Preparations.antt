@@ -3,9 +3,9 @@ use Rattle.std.proofs.Common.{◌≡◌, ◌≤◌, ◌+◌, ℕ, Bool, true, fa
 use Rattle.std.specs.Prelude.{◌&&◌, not, is_some, is_none, unwrap_or}
 use Rattle.std.specs.List.{list_all, list_any, enumerate_from}
 use Rattle.tpcc_money.specs.Amounts.{order_total, total}
-use Rattle.tpcc_rows.specs.declared.requests.Line.{Line}
-use Rattle.tpcc_rows.specs.declared.requests.Order.{Order}
-use Rattle.tpcc_rows.specs.declared.replies.AcceptedOrder.{AcceptedOrder}
+use Rattle.tpcc_rows.specs.declared.transactions.requests.Line.{Line}
+use Rattle.tpcc_rows.specs.declared.transactions.requests.Order.{Order}
+use Rattle.tpcc_rows.specs.declared.transactions.replies.AcceptedOrder.{AcceptedOrder}
 use Rattle.tpcc_rows.specs.Ranges.{is_within, is_district_row, is_moment}
 use Rattle.tpcc_rows.specs.Tables.{Rows, is_district, find_item, find_stock, no_warehouse, no_district, no_customer}
 use Rattle.tpcc_rows.specs.WellKeyed.{IsInRange, IsStocked}
@@ -16,10 +16,10 @@ use Rattle.tpcc_laws.proofs.PaymentRanges.{district_tells, district_key_is}
 use Rattle.tpcc_laws.proofs.TurnKeeps.{all_false, first_none, some_if}
 use Rattle.tpcc_laws.proofs.TurnKeys.{lines_stocked}
 use Rattle.tpcc_laws.proofs.Numbers.{within, not_false}
-use Rattle.tpcc_rows.specs.declared.rows.OrderRow.{OrderRow}
-use Rattle.tpcc_rows.specs.declared.rows.OrderLineRow.{OrderLineRow}
+use Rattle.tpcc_rows.specs.declared.tables.rows.OrderRow.{OrderRow}
+use Rattle.tpcc_rows.specs.declared.tables.rows.OrderLineRow.{OrderLineRow}
 use Rattle.tpcc_tables.specs.Writes.{IsOrderOf}
-use Rattle.tpcc_new_order.specs.declared.order_rows.OrderRows.{OrderRows}
+use Rattle.tpcc_new_order.specs.declared.reading.order_rows.OrderRows.{OrderRows}
 use Rattle.tpcc_new_order.specs.Internal.Supplied.{IsServable}
 use Rattle.tpcc_new_order.specs.Internal.Tests.{IsNamed}
 

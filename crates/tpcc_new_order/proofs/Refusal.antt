@@ -2,12 +2,12 @@
 use Rattle.std.proofs.Common.{◌≡◌, List, ◌∷◌, refl, sym, ◌∙◌, ap, Bool, true, false, Option, Some, None, Bor}
 use Rattle.std.specs.Prelude.{is_none}
 use Rattle.std.specs.Option.{option_copied, IsSome}
-use Rattle.tpcc_rows.specs.declared.rows.WarehouseRow.{WarehouseRow}
-use Rattle.tpcc_rows.specs.declared.rows.DistrictRow.{DistrictRow}
-use Rattle.tpcc_rows.specs.declared.rows.CustomerRow.{CustomerRow}
-use Rattle.tpcc_rows.specs.declared.requests.Order.{Order}
-use Rattle.tpcc_rows.specs.declared.refusals.Refusal.{Refusal}
-use Rattle.tpcc_rows.specs.declared.refusals.Refusal.TheVariants.{NoWarehouse, NoDistrict, NoCustomer}
+use Rattle.tpcc_rows.specs.declared.tables.rows.WarehouseRow.{WarehouseRow}
+use Rattle.tpcc_rows.specs.declared.tables.rows.DistrictRow.{DistrictRow}
+use Rattle.tpcc_rows.specs.declared.tables.rows.CustomerRow.{CustomerRow}
+use Rattle.tpcc_rows.specs.declared.transactions.requests.Order.{Order}
+use Rattle.tpcc_rows.specs.declared.transactions.refusals.Refusal.{Refusal}
+use Rattle.tpcc_rows.specs.declared.transactions.refusals.Refusal.TheVariants.{NoWarehouse, NoDistrict, NoCustomer}
 use Rattle.tpcc_rows.specs.Lists.{first_finding}
 use Rattle.tpcc_rows.specs.Tables.{Rows, find_warehouse, find_district, find_customer}
 use Rattle.tpcc_rows.specs.NewOrder.{order_number, order_refusal, order_refusal_by_input, order_input_tests, order_refusal_by_range, order_range_tests, stocks_after}

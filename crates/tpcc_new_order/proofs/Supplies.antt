@@ -3,14 +3,14 @@ use Rattle.std.proofs.Common.{◌≡◌, ℕ, ◌+◌, ◌*◌, ◌≤◌, ◌==
 use Rattle.std.specs.Prelude.{◌&&◌, ◌||◌, fold, filter, not, nat_lt, if◌then◌else◌}
 use Rattle.std.specs.List.{list_all}
 use Rattle.std.proofs.lemmas.Bool.Decides.{nat_tests}
-use Rattle.tpcc_rows.specs.declared.rows.StockRow.{StockRow}
-use Rattle.tpcc_rows.specs.declared.requests.Line.{Line}
+use Rattle.tpcc_rows.specs.declared.tables.rows.StockRow.{StockRow}
+use Rattle.tpcc_rows.specs.declared.transactions.requests.Line.{Line}
 use Rattle.tpcc_rows.specs.Ranges.{is_within, is_count, is_stock_row, is_text, is_exact_text, greatest_count, greatest_stock_ytd}
 use Rattle.tpcc_rows.specs.NewOrder.{quantity_after, stock_after_line, stock_after}
 use Rattle.tpcc_rows.proofs.Booleans.{split}
 use Rattle.tpcc_laws.proofs.Numbers.{within, is_in}
-use Rattle.tpcc_new_order.specs.declared.ranges.Overruns.{Overruns}
-use Rattle.tpcc_new_order.specs.declared.supply.StockNumbers.{StockNumbers}
+use Rattle.tpcc_new_order.specs.declared.reading.ranges.Overruns.{Overruns}
+use Rattle.tpcc_new_order.specs.declared.writing.supply.StockNumbers.{StockNumbers}
 use Rattle.tpcc_new_order.specs.Internal.Supplied.{numbers_of, numbers_after_line, is_far, IsNear}
 use Rattle.tpcc_new_order.specs.Internal.Tests.{overruns_with}
 

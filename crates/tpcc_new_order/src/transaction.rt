@@ -5,11 +5,11 @@ ghost use Rattle.tpcc_rows.specs.WellKeyed.{IsStocked};
 ghost use Rattle.tpcc_rows.specs.NewOrder.{order_refusal, order_reply, rows_after_order};
 ghost use Rattle.tpcc_new_order.specs.Prepares.{IsPrepared, HasRoom};
 
-use crate::lookups::has_unused_item;
-use crate::order_rows::rows_of_order;
-use crate::ranges::range_refusal;
-use crate::replies::show_rollback;
-use crate::rows::write_order;
+use crate::reading::lookups::has_unused_item;
+use crate::reading::order_rows::rows_of_order;
+use crate::reading::ranges::range_refusal;
+use crate::reply::replies::show_rollback;
+use crate::writing::rows::write_order;
 use tpcc_rows::{Entered, NoMemory, Order, Refusal};
 use tpcc_tables::Tables;
 

@@ -2,12 +2,12 @@
 use Rattle.std.proofs.Common.{◌≡◌, Bool, true, false, List, ◌∷◌, refl, sym, ◌∙◌, ap, Option, Some, None, Bor}
 use Rattle.std.specs.Prelude.{is_none, is_some, not, ◌||◌, unwrap_or}
 use Rattle.std.specs.Option.{option_copied}
-use Rattle.tpcc_rows.specs.declared.rows.WarehouseRow.{WarehouseRow}
-use Rattle.tpcc_rows.specs.declared.rows.DistrictRow.{DistrictRow}
-use Rattle.tpcc_rows.specs.declared.rows.CustomerRow.{CustomerRow}
-use Rattle.tpcc_rows.specs.declared.requests.Payment.{Payment}
-use Rattle.tpcc_rows.specs.declared.refusals.Refusal.{Refusal}
-use Rattle.tpcc_rows.specs.declared.refusals.Refusal.TheVariants.{NoWarehouse, NoDistrict, NoCustomer}
+use Rattle.tpcc_rows.specs.declared.tables.rows.WarehouseRow.{WarehouseRow}
+use Rattle.tpcc_rows.specs.declared.tables.rows.DistrictRow.{DistrictRow}
+use Rattle.tpcc_rows.specs.declared.tables.rows.CustomerRow.{CustomerRow}
+use Rattle.tpcc_rows.specs.declared.transactions.requests.Payment.{Payment}
+use Rattle.tpcc_rows.specs.declared.transactions.refusals.Refusal.{Refusal}
+use Rattle.tpcc_rows.specs.declared.transactions.refusals.Refusal.TheVariants.{NoWarehouse, NoDistrict, NoCustomer}
 use Rattle.tpcc_rows.specs.Lists.{first_finding}
 use Rattle.tpcc_rows.specs.Tables.{Rows, find_warehouse, find_district, warehouse_at, district_at, no_warehouse, no_district, no_customer}
 use Rattle.tpcc_rows.specs.ChosenCustomer.{chosen_customer}

@@ -3,7 +3,7 @@ ghost use Rattle.std.specs.Prelude.{◌≡◌, ◌+◌, ◌++◌, ◌≤◌, ◌
 ghost use Rattle.std.specs.Fmt.{decimal};
 ghost use Rattle.tpcc_money.specs.Texts.{amount_text};
 ghost use Rattle.tpcc_rows.specs.Payment.{payment_note, has_bad_credit};
-ghost use Rattle.tpcc_payment.specs.Prepares.{new_information};
+ghost use Rattle.tpcc_payment.specs.Internal.Prepares.{new_information};
 ghost use Rattle.tpcc_rows.specs.declared.limits.TheConstants.{GREATEST_PAYMENT};
 
 use tpcc_money::Cents;

@@ -4,7 +4,7 @@ ghost use Rattle.std.specs.Option.{option_copied};
 ghost use Rattle.tpcc_rows.specs.Payment.{payment_refusal, paying_customer};
 ghost use Rattle.tpcc_rows.specs.Tables.{find_customer};
 ghost use Rattle.tpcc_rows.specs.ChosenCustomer.{chosen_customer};
-ghost use Rattle.tpcc_payment.specs.Prepares.{IsNamed};
+ghost use Rattle.tpcc_payment.specs.Internal.Prepares.{IsNamed};
 
 use crate::ranges::range_refusal;
 use tpcc_rows::{

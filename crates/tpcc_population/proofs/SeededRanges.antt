@@ -10,11 +10,12 @@ use Rattle.tpcc_draws.specs.Internal.Within.{HasWords}
 use Rattle.tpcc_draws.proofs.Draw.{answers_are_words, between_is_between}
 use Rattle.tpcc_draws.proofs.Order.{permutation_is_within}
 use Rattle.tpcc_draws.proofs.PrintableDraws.{a_text, n_text}
-use Rattle.tpcc_rows.specs.declared.rows.Address.{Address}
+use Rattle.tpcc_rows.specs.declared.tables.rows.Address.{Address}
 use Rattle.tpcc_rows.specs.Printable.{is_printable}
 use Rattle.tpcc_rows.specs.Ranges.{is_amount_within, is_text, is_exact_text, is_null_or, is_carrier, is_address, greatest_moment, is_warehouse_row, is_district_row, is_customer_row, is_history_row, is_order_row, is_order_line_row, is_item_row, is_stock_row}
 use Rattle.tpcc_rows.specs.Layout.{is_delivered}
-use Rattle.tpcc_population.specs.Regular.{IsScale, RefersInside, HasRowsInRange}
+use Rattle.tpcc_population.specs.Regular.{IsScale}
+use Rattle.tpcc_population.specs.Internal.Regular.{RefersInside, HasRowsInRange}
 use Rattle.tpcc_population.specs.Seeded.{Seeding, seeded_rules, drawn_zip, drawn_address, drawn_last, drawn_information, drawn_texts, drawn_carrier, drawn_amount, with_original, district_number, number_in_districts, line_number, stock_number, seeded_warehouse, seeded_district, seeded_customer, seeded_history, seeded_order, seeded_order_line, seeded_item, seeded_stock}
 use Rattle.tpcc_population.proofs.Range.{within, amount_within, text_ok, exact_ok, last_name_ok}
 use Rattle.tpcc_population.proofs.PlainRanges.{text_where, moment_where, new_order_ok}

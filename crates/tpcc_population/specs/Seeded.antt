@@ -3,15 +3,15 @@ use Rattle.std.specs.Prelude.{ℕ, zero, suc, ◌+◌, ◌-◌, ◌*◌, ◌==�
 use Rattle.rand_core.specs.Stream.{Stream}
 use Rattle.tpcc_draws.specs.Draws.{stream_at, between, nurand, a_string, n_string, permutation}
 use Rattle.tpcc_rows.specs.LastName.{last_name}
-use Rattle.tpcc_rows.specs.declared.rows.Address.{Address}
-use Rattle.tpcc_rows.specs.declared.rows.WarehouseRow.{WarehouseRow}
-use Rattle.tpcc_rows.specs.declared.rows.DistrictRow.{DistrictRow}
-use Rattle.tpcc_rows.specs.declared.rows.CustomerRow.{CustomerRow}
-use Rattle.tpcc_rows.specs.declared.rows.HistoryRow.{HistoryRow}
-use Rattle.tpcc_rows.specs.declared.rows.OrderRow.{OrderRow}
-use Rattle.tpcc_rows.specs.declared.rows.OrderLineRow.{OrderLineRow}
-use Rattle.tpcc_rows.specs.declared.rows.ItemRow.{ItemRow}
-use Rattle.tpcc_rows.specs.declared.rows.StockRow.{StockRow}
+use Rattle.tpcc_rows.specs.declared.tables.rows.Address.{Address}
+use Rattle.tpcc_rows.specs.declared.tables.rows.WarehouseRow.{WarehouseRow}
+use Rattle.tpcc_rows.specs.declared.tables.rows.DistrictRow.{DistrictRow}
+use Rattle.tpcc_rows.specs.declared.tables.rows.CustomerRow.{CustomerRow}
+use Rattle.tpcc_rows.specs.declared.tables.rows.HistoryRow.{HistoryRow}
+use Rattle.tpcc_rows.specs.declared.tables.rows.OrderRow.{OrderRow}
+use Rattle.tpcc_rows.specs.declared.tables.rows.OrderLineRow.{OrderLineRow}
+use Rattle.tpcc_rows.specs.declared.tables.rows.ItemRow.{ItemRow}
+use Rattle.tpcc_rows.specs.declared.tables.rows.StockRow.{StockRow}
 use Rattle.tpcc_rows.specs.Layout.{Scale, RowRules, is_delivered}
 use Rattle.tpcc_rows.specs.Opening.{plain_new_order}
 

@@ -8,11 +8,12 @@ use Rattle.tpcc_text.specs.Prefix.{AppendsPrefix, PassesBytes}
 use Rattle.tpcc_text.proofs.BlockSteps.{all_wait, in_turn, cut_first, cut_later, ends_whole, ends_part}
 use Rattle.tpcc_terminal.specs.Cards.{home_of, request_of}
 use Rattle.tpcc_text.specs.RequestLines.{request_line}
-use Rattle.tpcc_terminal.specs.Terminals.{Station, IsStarted, ahead_of, drawn_ahead}
-use Rattle.tpcc_program.specs.Requests.{IsTold, asked_from, asked_next, asked_by, next_line, request_lines}
+use Rattle.tpcc_terminal.specs.Terminals.{TerminalView, IsStarted, ahead_of, drawn_ahead}
+use Rattle.tpcc_program.specs.Requests.{asked_from, asked_by, request_lines}
+use Rattle.tpcc_program.specs.Internal.Requests.{IsTold, asked_next, next_line}
 
 -- the lines of the cards so far, and what those that are left will ask
-pub record SoFar (start : Station) (moment cards done : ℕ) (held now : Option (List ℕ)) (waited waits : List ℕ) (t : Station) : Type 0 where
+pub record SoFar (start : TerminalView) (moment cards done : ℕ) (held now : Option (List ℕ)) (waited waits : List ℕ) (t : TerminalView) : Type 0 where
   pub number_is : t.number ≡ start.number
   pub scale_is : t.scale ≡ start.scale
   pub left : ℕ
@@ -21,7 +22,7 @@ pub record SoFar (start : Station) (moment cards done : ℕ) (held now : Option 
   pub passed : PassesBytes held now (waited ++ text) waits
   pub whole : text ++ request_lines (asked_from left (home_of start.number start.scale) moment (ahead_of t)) ≡ request_lines (asked_next start moment cards)
 
-pub starts : (start : Station) (moment cards : ℕ) (held : Option (List ℕ)) (waits : List ℕ) → SoFar start moment cards 0 held held waits waits start
+pub starts : (start : TerminalView) (moment cards : ℕ) (held : Option (List ℕ)) (waits : List ℕ) → SoFar start moment cards 0 held held waits waits start
 starts start moment cards held waits = record {
   number_is = refl;
   scale_is = refl;
@@ -33,11 +34,11 @@ starts start moment cards held waits = record {
 }
 
 -- the line of the next card
-line_is : (start t : Station) (moment : ℕ) → t.number ≡ start.number → t.scale ≡ start.scale
+line_is : (start t : TerminalView) (moment : ℕ) → t.number ≡ start.number → t.scale ≡ start.scale
     → next_line t moment ≡ request_line (request_of (home_of start.number start.scale) moment t.draft)
 line_is start t moment number_is scale_is = λ i. request_line (request_of (home_of (number_is i) (scale_is i)) moment t.draft)
 
-more : (start : Station) (moment cards done left : ℕ) (held now next : Option (List ℕ)) (waited waits after : List ℕ) (t new : Station) (text : List ℕ)
+more : (start : TerminalView) (moment cards done left : ℕ) (held now next : Option (List ℕ)) (waited waits after : List ℕ) (t new : TerminalView) (text : List ℕ)
     → t.number ≡ start.number → t.scale ≡ start.scale → done + left ≡ cards → done < cards → PassesBytes held now (waited ++ text) waits
     → text ++ request_lines (asked_from left (home_of start.number start.scale) moment (ahead_of t)) ≡ request_lines (asked_next start moment cards)
     → IsTold t new → PassesBytes now next (waits ++ next_line t moment) after → SoFar start moment cards (done + 1) held next waited after new
@@ -58,13 +59,13 @@ more start moment cards done (suc left) held now next waited waits after t new t
       whole = append_assoc text line rest ∙ ap (λ a. text ++ (line ++ request_lines (asked_from left (home_of start.number start.scale) moment a))) ahead ∙ whole;
     }
 
-pub goes_on : (start : Station) (moment cards done : ℕ) (held now next : Option (List ℕ)) (waited waits after : List ℕ) (t new : Station)
+pub goes_on : (start : TerminalView) (moment cards done : ℕ) (held now next : Option (List ℕ)) (waited waits after : List ℕ) (t new : TerminalView)
     → SoFar start moment cards done held now waited waits t → done < cards → IsTold t new → PassesBytes now next (waits ++ next_line t moment) after
     → SoFar start moment cards (done + 1) held next waited after new
 goes_on start moment cards done held now next waited waits after t new so less told put =
     more start moment cards done so.left held now next waited waits after t new so.text so.number_is so.scale_is so.left_is less so.passed so.whole told put
 
-cut_at : (start : Station) (moment cards done left : ℕ) (held now next : Option (List ℕ)) (waited waits : List ℕ) (t : Station) (text : List ℕ)
+cut_at : (start : TerminalView) (moment cards done left : ℕ) (held now next : Option (List ℕ)) (waited waits : List ℕ) (t : TerminalView) (text : List ℕ)
     → t.number ≡ start.number → t.scale ≡ start.scale → done + left ≡ cards → done < cards → PassesBytes held now (waited ++ text) waits
     → text ++ request_lines (asked_from left (home_of start.number start.scale) moment (ahead_of t)) ≡ request_lines (asked_next start moment cards)
     → AppendsPrefix now next (waits ++ next_line t moment) → AppendsPrefix held next (waited ++ request_lines (asked_next start moment cards))
@@ -78,13 +79,13 @@ cut_at start moment cards done (suc left) held now next waited waits t text numb
     subst (λ z. AppendsPrefix held next (waited ++ z)) (append_assoc text line rest ∙ whole) (cut_first held next waited (text ++ line) rest first)
 
 -- cut off in the line of the next card
-pub is_cut : (start : Station) (moment cards done : ℕ) (held now next : Option (List ℕ)) (waited waits : List ℕ) (t : Station)
+pub is_cut : (start : TerminalView) (moment cards done : ℕ) (held now next : Option (List ℕ)) (waited waits : List ℕ) (t : TerminalView)
     → SoFar start moment cards done held now waited waits t → done < cards → AppendsPrefix now next (waits ++ next_line t moment)
     → AppendsPrefix held next (waited ++ request_lines (asked_next start moment cards))
 is_cut start moment cards done held now next waited waits t so less part =
     cut_at start moment cards done so.left held now next waited waits t so.text so.number_is so.scale_is so.left_is less so.passed so.whole part
 
-all_but : (start : Station) (moment cards done left : ℕ) (held now : Option (List ℕ)) (waited waits : List ℕ) (t : Station) (text : List ℕ)
+all_but : (start : TerminalView) (moment cards done left : ℕ) (held now : Option (List ℕ)) (waited waits : List ℕ) (t : TerminalView) (text : List ℕ)
     → done + left ≡ cards → cards ≤ done → PassesBytes held now (waited ++ text) waits
     → text ++ request_lines (asked_from left (home_of start.number start.scale) moment (ahead_of t)) ≡ request_lines (asked_next start moment cards)
     → PassesBytes held now (waited ++ request_lines (asked_next start moment cards)) waits
@@ -93,20 +94,20 @@ all_but start moment cards done zero held now waited waits t text sum most passe
 all_but start moment cards done (suc left) held now waited waits t text sum most passed whole = absurd (omega (arith, sum, most))
 
 -- no card is left
-pub ends : (start : Station) (moment cards done : ℕ) (held now : Option (List ℕ)) (waited waits : List ℕ) (t : Station)
+pub ends : (start : TerminalView) (moment cards done : ℕ) (held now : Option (List ℕ)) (waited waits : List ℕ) (t : TerminalView)
     → SoFar start moment cards done held now waited waits t → cards ≤ done
     → PassesBytes held now (waited ++ request_lines (asked_next start moment cards)) waits
 ends start moment cards done held now waited waits t so most =
     all_but start moment cards done so.left held now waited waits t so.text so.left_is most so.passed so.whole
 
-asked_is : (number : ℕ) (scale : Scale) (seed moment cards : ℕ) (t : Station) → IsStarted number scale seed t
+asked_is : (number : ℕ) (scale : Scale) (seed moment cards : ℕ) (t : TerminalView) → IsStarted number scale seed t
     → request_lines (asked_next t moment cards) ≡ request_lines (asked_by number scale seed moment cards)
 asked_is number scale seed moment cards t started =
     let home : home_of t.number t.scale ≡ home_of number scale = λ i. home_of (started.number_is i) (started.scale_is i) in
     λ i. request_lines (asked_from cards (home i) moment (started.ahead i))
 
 -- the next cards of a terminal that has asked none are its first
-pub first_cards : (number : ℕ) (scale : Scale) (seed moment cards : ℕ) (a b c : Option (List ℕ)) (waits : List ℕ) (t : Station)
+pub first_cards : (number : ℕ) (scale : Scale) (seed moment cards : ℕ) (a b c : Option (List ℕ)) (waits : List ℕ) (t : TerminalView)
     → IsStarted number scale seed t → PassesBytes a b ([] ++ request_lines (asked_next t moment cards)) waits → Appends b c waits
     → Appends a c (request_lines (asked_by number scale seed moment cards))
 first_cards number scale seed moment cards a b c waits t started passed added =
@@ -114,14 +115,14 @@ first_cards number scale seed moment cards a b c waits t started passed added =
     (ends_whole a b c (request_lines (asked_next t moment cards)) waits passed added)
 
 -- cut off while they are put
-pub first_cut : (number : ℕ) (scale : Scale) (seed moment cards : ℕ) (a b : Option (List ℕ)) (t : Station)
+pub first_cut : (number : ℕ) (scale : Scale) (seed moment cards : ℕ) (a b : Option (List ℕ)) (t : TerminalView)
     → IsStarted number scale seed t → AppendsPrefix a b ([] ++ request_lines (asked_next t moment cards))
     → AppendsPrefix a b (request_lines (asked_by number scale seed moment cards))
 first_cut number scale seed moment cards a b t started part =
     subst (AppendsPrefix a b) (asked_is number scale seed moment cards t started) part
 
 -- or while what waits is written
-pub last_cut : (number : ℕ) (scale : Scale) (seed moment cards : ℕ) (a b c : Option (List ℕ)) (waits : List ℕ) (t : Station)
+pub last_cut : (number : ℕ) (scale : Scale) (seed moment cards : ℕ) (a b c : Option (List ℕ)) (waits : List ℕ) (t : TerminalView)
     → IsStarted number scale seed t → PassesBytes a b ([] ++ request_lines (asked_next t moment cards)) waits → AppendsPrefix b c waits
     → AppendsPrefix a c (request_lines (asked_by number scale seed moment cards))
 last_cut number scale seed moment cards a b c waits t started passed part =

@@ -1,4 +1,5 @@
 -- What no public contract reaches: words of private contracts, of how values are seen, and of proofs.
 pub mod Openings
 pub mod Ranges
+pub mod Requests
 pub mod Tasks

@@ -2,7 +2,8 @@
 ghost use Rattle.std.specs.Prelude.{◌≤◌, ◌++◌, OnErr, OnOk};
 ghost use Rattle.std.specs.Io.KnownBytes.{Appends};
 ghost use Rattle.tpcc_text.specs.Prefix.{AppendsPrefix, PassesBytes};
-ghost use Rattle.tpcc_program.specs.Requests.{IsTold, asked_by, asked_next, next_line, request_lines};
+ghost use Rattle.tpcc_program.specs.Requests.{asked_by, request_lines};
+ghost use Rattle.tpcc_program.specs.Internal.Requests.{IsTold, asked_next, next_line};
 
 use std::alloc::Global;
 use std::io::Write;

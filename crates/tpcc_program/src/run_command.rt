@@ -1,6 +1,6 @@
 //! A run that the words ask for.
 ghost use Rattle.tpcc_run.specs.Plans.{IsPlan};
-ghost use Rattle.tpcc_run.specs.Plans.{plan_once};
+ghost use Rattle.tpcc_run.specs.Internal.Plans.{plan_once};
 
 use crate::fault::ProgramFault;
 use crate::progress::{CountedTurn, Progress};

@@ -7,8 +7,8 @@ use Rattle.std.proofs.Math.Seq.{take-append_seam, take-append-add, drop-append_s
 use Rattle.tpcc_rows.specs.Printable.{is_printable}
 use Rattle.tpcc_rows.specs.Internal.TextView.{IsText}
 use Rattle.tpcc_rows.specs.Internal.FewView.{IsFew}
-use Rattle.tpcc_rows.specs.declared.text.Text.TheInside.{Inside}
-use Rattle.tpcc_rows.specs.declared.few.Few.TheInside as few
+use Rattle.tpcc_rows.specs.declared.values.text.Text.TheInside.{Inside}
+use Rattle.tpcc_rows.specs.declared.values.few.Few.TheInside as few
 use Rattle.tpcc_rows.proofs.PrintableTexts.{append_is_printable}
 
 -- printable bytes before zeros
@@ -49,14 +49,14 @@ cut_added N s xs ys long fits =
     ap (λ k. take k (xs ++ ys)) (omega (arith, long, fits)) ∙ take-append-add xs ys (N - s) ∙ ap (λ zs. xs ++ zs) (sym (take_min (N - s) ys) ∙ ap (λ k. take k ys) (omega arith))
 
 -- the first unused place written
-pub pushed_is_few : {T : Type 0} (blank : T) (N : ℕ) (t : few.Inside T N) (item : T) → t.len < N → IsFew blank N t → IsFew blank N (record { items = slice_set t.items t.len item; len = t.len + 1 })
-pushed_is_few blank N t item room h =
+pub pushed_is_few : {T : Type 0} (filler : T) (N : ℕ) (t : few.Inside T N) (item : T) → t.len < N → IsFew filler N t → IsFew filler N (record { items = slice_set t.items t.len item; len = t.len + 1 })
+pushed_is_few filler N t item room h =
     record {
       fits = omega (arith, room);
       whole = length-set t.items t.len item ∙ h.whole;
       rest =
-          drop-set-lt (t.len + 1) t.items t.len item (omega arith) ∙ ap (λ k. drop k t.items) (omega arith) ∙ sym (drop-drop 1 t.len t.items) ∙ ap (drop 1) h.rest ∙ drop-replicate 1 (N - t.len) blank
-          ∙ ap (λ k. replicate k blank) (omega arith);
+          drop-set-lt (t.len + 1) t.items t.len item (omega arith) ∙ ap (λ k. drop k t.items) (omega arith) ∙ sym (drop-drop 1 t.len t.items) ∙ ap (drop 1) h.rest ∙ drop-replicate 1 (N - t.len) filler
+          ∙ ap (λ k. replicate k filler) (omega arith);
     }
 
 -- some of sixteen zero digits

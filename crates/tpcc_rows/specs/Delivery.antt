@@ -1,14 +1,14 @@
 -- 2.7: Delivery. A ticket is queued, and each run delivers the next district of the first ticket.
 use Rattle.std.specs.Prelude.{ℕ, ◌+◌, ◌==◌, not, List, [], ◌∷◌, ◌++◌, length, map, filter, ℤ, ◌+ℤ◌, is_none, Bool, Option, Some, None, if◌then◌else◌, nat_le}
 use Rattle.tpcc_money.specs.Amounts.{total}
-use Rattle.tpcc_rows.specs.declared.rows.CustomerRow.{CustomerRow}
-use Rattle.tpcc_rows.specs.declared.requests.Ticket.{Ticket}
-use Rattle.tpcc_rows.specs.declared.requests.QueuedTicket.{QueuedTicket}
-use Rattle.tpcc_rows.specs.declared.refusals.Refusal.{Refusal}
-use Rattle.tpcc_rows.specs.declared.refusals.Refusal.TheVariants.{NoWarehouse, Carrier, QueueFull, Count, Total}
-use Rattle.tpcc_rows.specs.declared.refusals.Field.TheVariants.{DeliveryCount, Balance}
-use Rattle.tpcc_rows.specs.declared.replies.Delivery.{Delivery}
-use Rattle.tpcc_rows.specs.declared.replies.Delivery.TheVariants.{District, NoneQueued}
+use Rattle.tpcc_rows.specs.declared.tables.rows.CustomerRow.{CustomerRow}
+use Rattle.tpcc_rows.specs.declared.transactions.requests.Ticket.{Ticket}
+use Rattle.tpcc_rows.specs.declared.transactions.requests.QueuedTicket.{QueuedTicket}
+use Rattle.tpcc_rows.specs.declared.transactions.refusals.Refusal.{Refusal}
+use Rattle.tpcc_rows.specs.declared.transactions.refusals.Refusal.TheVariants.{NoWarehouse, Carrier, QueueFull, Count, Total}
+use Rattle.tpcc_rows.specs.declared.transactions.refusals.Field.TheVariants.{DeliveryCount, Balance}
+use Rattle.tpcc_rows.specs.declared.transactions.replies.Delivery.{Delivery}
+use Rattle.tpcc_rows.specs.declared.transactions.replies.Delivery.TheVariants.{District, NoneQueued}
 use Rattle.tpcc_rows.specs.Lists.{updated, smallest, first_finding}
 use Rattle.tpcc_rows.specs.Ranges.{is_balance, is_count, is_carrier}
 use Rattle.tpcc_rows.specs.Tables.{Rows, State, is_order, is_new_order, is_line_of, is_customer, find_warehouse, order_at, customer_at, lines_of, new_orders_in}

@@ -1,16 +1,16 @@
 -- 2.6: Order-Status. 2.8: Stock-Level.
 use Rattle.std.specs.Prelude.{ℕ, ◌-◌, Bool, not, ◌&&◌, List, [], ◌∷◌, length, map, filter, is_none, Option, unwrap_or, option_map, nat_le, nat_lt}
 use Rattle.std.specs.List.{list_any}
-use Rattle.tpcc_rows.specs.declared.rows.OrderLineRow.{OrderLineRow}
-use Rattle.tpcc_rows.specs.declared.rows.CustomerRow.{CustomerRow}
-use Rattle.tpcc_rows.specs.declared.requests.StatusQuery.{StatusQuery}
-use Rattle.tpcc_rows.specs.declared.requests.StockQuery.{StockQuery}
-use Rattle.tpcc_rows.specs.declared.refusals.Refusal.{Refusal}
-use Rattle.tpcc_rows.specs.declared.refusals.Refusal.TheVariants.{NoWarehouse, NoDistrict, NoCustomer, Threshold}
-use Rattle.tpcc_rows.specs.declared.replies.StatusLine.{StatusLine}
-use Rattle.tpcc_rows.specs.declared.replies.LastOrder.{LastOrder}
-use Rattle.tpcc_rows.specs.declared.replies.Status.{Status}
-use Rattle.tpcc_rows.specs.declared.replies.Level.{Level}
+use Rattle.tpcc_rows.specs.declared.tables.rows.OrderLineRow.{OrderLineRow}
+use Rattle.tpcc_rows.specs.declared.tables.rows.CustomerRow.{CustomerRow}
+use Rattle.tpcc_rows.specs.declared.transactions.requests.StatusQuery.{StatusQuery}
+use Rattle.tpcc_rows.specs.declared.transactions.requests.StockQuery.{StockQuery}
+use Rattle.tpcc_rows.specs.declared.transactions.refusals.Refusal.{Refusal}
+use Rattle.tpcc_rows.specs.declared.transactions.refusals.Refusal.TheVariants.{NoWarehouse, NoDistrict, NoCustomer, Threshold}
+use Rattle.tpcc_rows.specs.declared.transactions.replies.StatusLine.{StatusLine}
+use Rattle.tpcc_rows.specs.declared.transactions.replies.LastOrder.{LastOrder}
+use Rattle.tpcc_rows.specs.declared.transactions.replies.Status.{Status}
+use Rattle.tpcc_rows.specs.declared.transactions.replies.Level.{Level}
 use Rattle.tpcc_rows.specs.Lists.{largest, distinct, first_finding}
 use Rattle.tpcc_rows.specs.Ranges.{is_within}
 use Rattle.tpcc_rows.specs.Tables.{Rows, is_stock, find_warehouse, find_district, district_at, order_at, orders_of, order_lines_in, lines_of, no_customer}

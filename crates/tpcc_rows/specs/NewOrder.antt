@@ -3,26 +3,26 @@ use Rattle.std.specs.Prelude.{ℕ, ◌+◌, ◌-◌, ◌==◌, Bool, not, ◌&&�
 use Rattle.std.specs.List.{list_any, list_all, enumerate_from}
 use Rattle.std.specs.Option.{option_or}
 use Rattle.tpcc_money.specs.Amounts.{total, line_amount, order_total}
-use Rattle.tpcc_rows.specs.declared.rows.OrderRow.{OrderRow}
-use Rattle.tpcc_rows.specs.declared.rows.OrderLineRow.{OrderLineRow}
-use Rattle.tpcc_rows.specs.declared.rows.NewOrderRow.{NewOrderRow}
-use Rattle.tpcc_rows.specs.declared.rows.WarehouseRow.{WarehouseRow}
-use Rattle.tpcc_rows.specs.declared.rows.DistrictRow.{DistrictRow}
-use Rattle.tpcc_rows.specs.declared.rows.CustomerRow.{CustomerRow}
-use Rattle.tpcc_rows.specs.declared.rows.ItemRow.{ItemRow}
-use Rattle.tpcc_rows.specs.declared.rows.StockRow.{StockRow}
-use Rattle.tpcc_rows.specs.declared.requests.Order.{Order}
-use Rattle.tpcc_rows.specs.declared.requests.Line.{Line}
-use Rattle.tpcc_rows.specs.declared.refusals.Refusal.{Refusal}
-use Rattle.tpcc_rows.specs.declared.refusals.Refusal.TheVariants.{NoWarehouse, NoDistrict, NoCustomer, LineCount, Quantity, NoSupply, OrderNumbers, Count, Total}
-use Rattle.tpcc_rows.specs.declared.refusals.Field.TheVariants.{StockOrders, RemoteOrders, StockYtd}
-use Rattle.tpcc_rows.specs.declared.replies.Brand.{Brand}
-use Rattle.tpcc_rows.specs.declared.replies.Brand.TheVariants.{Original, Generic}
-use Rattle.tpcc_rows.specs.declared.replies.EnteredLine.{EnteredLine}
-use Rattle.tpcc_rows.specs.declared.replies.AcceptedOrder.{AcceptedOrder}
-use Rattle.tpcc_rows.specs.declared.replies.RolledBackOrder.{RolledBackOrder}
-use Rattle.tpcc_rows.specs.declared.replies.Entered.{Entered}
-use Rattle.tpcc_rows.specs.declared.replies.Entered.TheVariants.{Accepted, RolledBack}
+use Rattle.tpcc_rows.specs.declared.tables.rows.OrderRow.{OrderRow}
+use Rattle.tpcc_rows.specs.declared.tables.rows.OrderLineRow.{OrderLineRow}
+use Rattle.tpcc_rows.specs.declared.tables.rows.NewOrderRow.{NewOrderRow}
+use Rattle.tpcc_rows.specs.declared.tables.rows.WarehouseRow.{WarehouseRow}
+use Rattle.tpcc_rows.specs.declared.tables.rows.DistrictRow.{DistrictRow}
+use Rattle.tpcc_rows.specs.declared.tables.rows.CustomerRow.{CustomerRow}
+use Rattle.tpcc_rows.specs.declared.tables.rows.ItemRow.{ItemRow}
+use Rattle.tpcc_rows.specs.declared.tables.rows.StockRow.{StockRow}
+use Rattle.tpcc_rows.specs.declared.transactions.requests.Order.{Order}
+use Rattle.tpcc_rows.specs.declared.transactions.requests.Line.{Line}
+use Rattle.tpcc_rows.specs.declared.transactions.refusals.Refusal.{Refusal}
+use Rattle.tpcc_rows.specs.declared.transactions.refusals.Refusal.TheVariants.{NoWarehouse, NoDistrict, NoCustomer, LineCount, Quantity, NoSupply, OrderNumbers, Count, Total}
+use Rattle.tpcc_rows.specs.declared.transactions.refusals.Field.TheVariants.{StockOrders, RemoteOrders, StockYtd}
+use Rattle.tpcc_rows.specs.declared.transactions.replies.Brand.{Brand}
+use Rattle.tpcc_rows.specs.declared.transactions.replies.Brand.TheVariants.{Original, Generic}
+use Rattle.tpcc_rows.specs.declared.transactions.replies.EnteredLine.{EnteredLine}
+use Rattle.tpcc_rows.specs.declared.transactions.replies.AcceptedOrder.{AcceptedOrder}
+use Rattle.tpcc_rows.specs.declared.transactions.replies.RolledBackOrder.{RolledBackOrder}
+use Rattle.tpcc_rows.specs.declared.transactions.replies.Entered.{Entered}
+use Rattle.tpcc_rows.specs.declared.transactions.replies.Entered.TheVariants.{Accepted, RolledBack}
 use Rattle.tpcc_rows.specs.Lists.{updated, inserted, inserted_all, by_key, has_text, first_finding}
 use Rattle.tpcc_rows.specs.Ranges.{is_within, is_count, greatest_order, greatest_stock_ytd}
 use Rattle.tpcc_rows.specs.Tables.{Rows, order_key, order_line_key, new_order_key, is_district, find_warehouse, find_district, find_customer, find_item, warehouse_at, district_at, customer_at, item_at, stock_at}

@@ -3,16 +3,16 @@ use Rattle.std.specs.Prelude.{ℕ, ◌+◌, ◌-◌, ◌*◌, ◌%◌, ◌==◌,
 use Rattle.std.specs.List.{range_with_len}
 use Rattle.tpcc_money.specs.Texts.{padded_number}
 use Rattle.tpcc_rows.specs.LastName.{last_name}
-use Rattle.tpcc_rows.specs.declared.rows.Address.{Address}
-use Rattle.tpcc_rows.specs.declared.rows.WarehouseRow.{WarehouseRow}
-use Rattle.tpcc_rows.specs.declared.rows.DistrictRow.{DistrictRow}
-use Rattle.tpcc_rows.specs.declared.rows.CustomerRow.{CustomerRow}
-use Rattle.tpcc_rows.specs.declared.rows.HistoryRow.{HistoryRow}
-use Rattle.tpcc_rows.specs.declared.rows.OrderRow.{OrderRow}
-use Rattle.tpcc_rows.specs.declared.rows.OrderLineRow.{OrderLineRow}
-use Rattle.tpcc_rows.specs.declared.rows.NewOrderRow.{NewOrderRow}
-use Rattle.tpcc_rows.specs.declared.rows.ItemRow.{ItemRow}
-use Rattle.tpcc_rows.specs.declared.rows.StockRow.{StockRow}
+use Rattle.tpcc_rows.specs.declared.tables.rows.Address.{Address}
+use Rattle.tpcc_rows.specs.declared.tables.rows.WarehouseRow.{WarehouseRow}
+use Rattle.tpcc_rows.specs.declared.tables.rows.DistrictRow.{DistrictRow}
+use Rattle.tpcc_rows.specs.declared.tables.rows.CustomerRow.{CustomerRow}
+use Rattle.tpcc_rows.specs.declared.tables.rows.HistoryRow.{HistoryRow}
+use Rattle.tpcc_rows.specs.declared.tables.rows.OrderRow.{OrderRow}
+use Rattle.tpcc_rows.specs.declared.tables.rows.OrderLineRow.{OrderLineRow}
+use Rattle.tpcc_rows.specs.declared.tables.rows.NewOrderRow.{NewOrderRow}
+use Rattle.tpcc_rows.specs.declared.tables.rows.ItemRow.{ItemRow}
+use Rattle.tpcc_rows.specs.declared.tables.rows.StockRow.{StockRow}
 use Rattle.tpcc_rows.specs.Tables.{Rows}
 use Rattle.tpcc_rows.specs.Layout.{Scale, RowRules, laid_out, is_delivered}
 

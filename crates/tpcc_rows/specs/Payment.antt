@@ -3,15 +3,15 @@ use Rattle.tpcc_rows.specs.declared.limits.TheConstants.{LEAST_PAYMENT, GREATEST
 use Rattle.std.specs.Prelude.{ℕ, ◌+◌, Bool, not, ◌||◌, List, [], ◌∷◌, ◌++◌, take, ℤ, ◌+ℤ◌, ◌-ℤ◌, is_none, Option, Some, None, unwrap_or, if◌then◌else◌, codes, decimal}
 use Rattle.std.specs.Str.{bytes_eq}
 use Rattle.tpcc_money.specs.Texts.{amount_text}
-use Rattle.tpcc_rows.specs.declared.rows.WarehouseRow.{WarehouseRow}
-use Rattle.tpcc_rows.specs.declared.rows.DistrictRow.{DistrictRow}
-use Rattle.tpcc_rows.specs.declared.rows.CustomerRow.{CustomerRow}
-use Rattle.tpcc_rows.specs.declared.rows.HistoryRow.{HistoryRow}
-use Rattle.tpcc_rows.specs.declared.requests.Payment.{Payment}
-use Rattle.tpcc_rows.specs.declared.refusals.Refusal.{Refusal}
-use Rattle.tpcc_rows.specs.declared.refusals.Refusal.TheVariants.{NoWarehouse, NoDistrict, NoCustomer, Amount, Count, Total}
-use Rattle.tpcc_rows.specs.declared.refusals.Field.TheVariants.{PaymentCount, WarehouseYtd, DistrictYtd, Balance, YtdPayment}
-use Rattle.tpcc_rows.specs.declared.replies.Paid.{Paid}
+use Rattle.tpcc_rows.specs.declared.tables.rows.WarehouseRow.{WarehouseRow}
+use Rattle.tpcc_rows.specs.declared.tables.rows.DistrictRow.{DistrictRow}
+use Rattle.tpcc_rows.specs.declared.tables.rows.CustomerRow.{CustomerRow}
+use Rattle.tpcc_rows.specs.declared.tables.rows.HistoryRow.{HistoryRow}
+use Rattle.tpcc_rows.specs.declared.transactions.requests.Payment.{Payment}
+use Rattle.tpcc_rows.specs.declared.transactions.refusals.Refusal.{Refusal}
+use Rattle.tpcc_rows.specs.declared.transactions.refusals.Refusal.TheVariants.{NoWarehouse, NoDistrict, NoCustomer, Amount, Count, Total}
+use Rattle.tpcc_rows.specs.declared.transactions.refusals.Field.TheVariants.{PaymentCount, WarehouseYtd, DistrictYtd, Balance, YtdPayment}
+use Rattle.tpcc_rows.specs.declared.transactions.replies.Paid.{Paid}
 use Rattle.tpcc_rows.specs.Lists.{updated, first_finding}
 use Rattle.tpcc_rows.specs.Ranges.{is_amount_within, is_total, is_balance, is_count}
 use Rattle.tpcc_rows.specs.Tables.{Rows, is_warehouse, is_district, is_customer, find_warehouse, find_district, warehouse_at, district_at, no_customer}

@@ -1,7 +1,7 @@
 -- The numbers of the refusals: the tests stand in this order.
 use Rattle.std.specs.Prelude.{ℕ}
-use Rattle.tpcc_rows.specs.declared.refusals.Refusal.{Refusal}
-use Rattle.tpcc_rows.specs.declared.refusals.Refusal.TheVariants.{NoWarehouse, NoDistrict, NoCustomer, LineCount, Quantity, NoSupply, Amount, Carrier, Threshold, Stranger, JournalFull, QueueFull, OrderNumbers, Count, Total, NoMemory}
+use Rattle.tpcc_rows.specs.declared.transactions.refusals.Refusal.{Refusal}
+use Rattle.tpcc_rows.specs.declared.transactions.refusals.Refusal.TheVariants.{NoWarehouse, NoDistrict, NoCustomer, LineCount, Quantity, NoSupply, Amount, Carrier, Threshold, Stranger, JournalFull, QueueFull, OrderNumbers, Count, Total, NoMemory}
 
 abbrev pub refusal_number : Refusal → ℕ
 refusal_number NoWarehouse = 1

@@ -2,14 +2,14 @@
 use Rattle.std.specs.Prelude.{◌≡◌, ℕ, ◌+◌, ◌*◌, ◌/◌, ◌==◌, List, [], ◌∷◌, ◌++◌, length, map, filter_map, count_by, sum, slice_range, slice_get, Option, Some, None, option_map, ℤ, pos, ◌-ℤ◌}
 use Rattle.std.specs.List.{range_with_len}
 use Rattle.tpcc_money.specs.Amounts.{total}
-use Rattle.tpcc_rows.specs.declared.requests.Request.{Request}
-use Rattle.tpcc_rows.specs.declared.requests.Request.TheVariants as ask
-use Rattle.tpcc_rows.specs.declared.replies.Reply.{Reply}
-use Rattle.tpcc_rows.specs.declared.replies.Reply.TheVariants as tell
-use Rattle.tpcc_rows.specs.declared.replies.Delivery.TheVariants.{District, NoneQueued}
-use Rattle.tpcc_rows.specs.declared.replies.DistrictDelivery.{DistrictDelivery}
-use Rattle.tpcc_rows.specs.declared.replies.Delivered.{Delivered}
-use Rattle.tpcc_rows.specs.declared.entry.Entry.{Entry}
+use Rattle.tpcc_rows.specs.declared.transactions.requests.Request.{Request}
+use Rattle.tpcc_rows.specs.declared.transactions.requests.Request.TheVariants as ask
+use Rattle.tpcc_rows.specs.declared.transactions.replies.Reply.{Reply}
+use Rattle.tpcc_rows.specs.declared.transactions.replies.Reply.TheVariants as tell
+use Rattle.tpcc_rows.specs.declared.transactions.replies.Delivery.TheVariants.{District, NoneQueued}
+use Rattle.tpcc_rows.specs.declared.transactions.replies.DistrictDelivery.{DistrictDelivery}
+use Rattle.tpcc_rows.specs.declared.transactions.replies.Delivered.{Delivered}
+use Rattle.tpcc_rows.specs.declared.transactions.entry.Entry.{Entry}
 use Rattle.tpcc_rows.specs.Tables.{Rows, State}
 use Rattle.tpcc_rows.specs.Turn.{refusal, state_after, reply_to}
 

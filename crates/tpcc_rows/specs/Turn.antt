@@ -1,10 +1,10 @@
 -- One request served: why it is refused, or the state after it and its reply.
 use Rattle.std.specs.Prelude.{Option}
-use Rattle.tpcc_rows.specs.declared.requests.Request.{Request}
-use Rattle.tpcc_rows.specs.declared.requests.Request.TheVariants as ask
-use Rattle.tpcc_rows.specs.declared.refusals.Refusal.{Refusal}
-use Rattle.tpcc_rows.specs.declared.replies.Reply.{Reply}
-use Rattle.tpcc_rows.specs.declared.replies.Reply.TheVariants as tell
+use Rattle.tpcc_rows.specs.declared.transactions.requests.Request.{Request}
+use Rattle.tpcc_rows.specs.declared.transactions.requests.Request.TheVariants as ask
+use Rattle.tpcc_rows.specs.declared.transactions.refusals.Refusal.{Refusal}
+use Rattle.tpcc_rows.specs.declared.transactions.replies.Reply.{Reply}
+use Rattle.tpcc_rows.specs.declared.transactions.replies.Reply.TheVariants as tell
 use Rattle.tpcc_rows.specs.Tables.{State}
 use Rattle.tpcc_rows.specs.NewOrder.{order_refusal, rows_after_order, order_reply}
 use Rattle.tpcc_rows.specs.Payment.{payment_refusal, after_payment, payment_reply}

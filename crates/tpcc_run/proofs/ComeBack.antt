@@ -8,7 +8,7 @@ use Rattle.tpcc_rows.specs.Layout.{Scale}
 use Rattle.tpcc_run.specs.declared.plan.Plan.{Plan}
 use Rattle.tpcc_turns.specs.Seats.{SeatedView, keeper_of}
 use Rattle.tpcc_terminal.specs.declared.receipts.Receipt.{Receipt}
-use Rattle.tpcc_run.specs.Posts.{Post}
+use Rattle.tpcc_run.specs.OperatorView.{OperatorView}
 use Rattle.tpcc_run.specs.Purses.{split_off, with_rooms}
 use Rattle.tpcc_run.specs.Working.{HasRun}
 use Rattle.tpcc_run.specs.Returned.{HaveComeBack, HaveWorked, HasKept, Returned, returned_of, without_receipts}
@@ -29,7 +29,7 @@ module _ (scale : Scale) (plan : Plan) where
       record { numbers = both.0; worked = both.1 }
 
   -- and the delivery runner has run
-  runner_worked : (number : ℕ) (promise : ComesBack) (post : Post)
+  runner_worked : (number : ℕ) (promise : ComesBack) (post : OperatorView)
       → IsPromised Deliveries scale plan promise → promise.number ≡ number → HasRun promise.scale promise.plan promise.number post → HasRun scale plan number post
   runner_worked number promise post promised same run =
       subst (λ (s : Scale). HasRun s plan number post) promised.scale_is

@@ -8,14 +8,16 @@ use Rattle.tpcc_rows.specs.Layout.{Scale}
 use Rattle.tpcc_run.specs.declared.plan.Plan.{Plan}
 use Rattle.tpcc_turns.specs.Seats.{SeatedView, keeper_of}
 use Rattle.tpcc_terminal.specs.declared.receipts.Receipt.{Receipt}
-use Rattle.tpcc_run.specs.Posts.{Post}
-use Rattle.tpcc_run.specs.Working.{HasComeBack, HasWorked}
-use Rattle.tpcc_run.specs.Returned.{HasKept, HasKeptBack, Returned, lists_of, returned_of, without_receipts}
+use Rattle.tpcc_run.specs.OperatorView.{OperatorView}
+use Rattle.tpcc_run.specs.Working.{HasWorked}
+use Rattle.tpcc_run.specs.Internal.Working.{HasComeBack}
+use Rattle.tpcc_run.specs.Returned.{HasKept, Returned, lists_of, returned_of, without_receipts}
+use Rattle.tpcc_run.specs.Internal.Returned.{HasKeptBack}
 use Rattle.tpcc_run.specs.Internal.Started.{AreKept, HasJoinedRunner, HaveJoined, HaveJoinedServers, IsPromised}
 use Rattle.tpcc_run.specs.Internal.Answered.{HasDrained, IfAll}
 use Rattle.tpcc_run.specs.Asking.{HasAsked}
-use Rattle.tpcc_run.specs.declared.threads.asking.OperatorBack.{OperatorBack}
-use Rattle.tpcc_run.specs.declared.threads.asking.OperatorBack.TheVariants.{All as Whole, Short, Missing}
+use Rattle.tpcc_run.specs.declared.threads.operator_work.OperatorBack.{OperatorBack}
+use Rattle.tpcc_run.specs.declared.threads.operator_work.OperatorBack.TheVariants.{All as Whole, Short, Missing}
 use Rattle.tpcc_run.specs.declared.threads.duty.Duty.{Duty}
 use Rattle.tpcc_run.specs.declared.threads.duty.Duty.TheVariants.{Deliveries, Rest}
 use Rattle.tpcc_run.specs.declared.threads.fault.RunFault.{RunFault}
@@ -51,7 +53,7 @@ pub kept_mapped : {X : Type 0} (f : X → Returned) (a b : List X) (p0 : List Se
 kept_mapped f a b p0 r0 p1 r1 p2 r2 was is =
     subst (λ (rs : List Returned). HasKept rs p0 r0 p2 r2) (sym (map-append f a b)) (kept_behind (map f a) (map f b) p0 r0 p1 r1 p2 r2 was is)
 
-kept_more : (promises : List ComesBack) (posts : List Post) (promise : ComesBack) (post : Post)
+kept_more : (promises : List ComesBack) (posts : List OperatorView) (promise : ComesBack) (post : OperatorView)
     → AreKept promises posts → HasWorked promise.duty promise.scale promise.plan promise.number post → AreKept (promises ++ promise ∷ []) (posts ++ post ∷ [])
 kept_more [] [] promise post before here = (here, tt)
 kept_more [] (q ∷ qs) promise post before here = absurd before

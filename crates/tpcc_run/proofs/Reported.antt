@@ -8,11 +8,11 @@ use Rattle.tpcc_text.specs.declared.screens.report.Report.{Report}
 use Rattle.tpcc_show.specs.declared.parts.Part.{Part}
 use Rattle.tpcc_run.specs.declared.plan.Plan.{Plan}
 use Rattle.tpcc_show.specs.Shown.{book_report}
-use Rattle.tpcc_run.specs.Outcome.{HasCut, HasReported, HasShownPrefix, HasTotals}
+use Rattle.tpcc_run.specs.Outcome.{HasCut, HasReported, HasShownPrefix, HasSettled}
 
 -- the book's report is that of its totals
 pub report_of_totals : (opening : Opening) (plan : Plan) (book : Past) (report : Report) (before after : Option (List ℕ))
-    → HasTotals opening plan book report → Appends before after (book_report book) → HasReported opening plan before after
+    → HasSettled opening plan book report → Appends before after (book_report book) → HasReported opening plan before after
 report_of_totals opening plan book report before after told written =
     let gathered = told.settled.gathered in
     record {

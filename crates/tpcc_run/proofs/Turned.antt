@@ -1,6 +1,6 @@
 -- A turn that was made for the same request and purse.
 use Rattle.std.proofs.Common.{◌≡◌, subst}
-use Rattle.tpcc_rows.specs.declared.requests.Request.{Request}
+use Rattle.tpcc_rows.specs.declared.transactions.requests.Request.{Request}
 use Rattle.tpcc_book.specs.AnswerView.{AnswerView}
 use Rattle.tpcc_turns.specs.Seats.{SeatedView, IsTurned}
 

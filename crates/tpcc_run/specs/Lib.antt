@@ -1,7 +1,7 @@
 pub mod Purses
 pub mod Plans
 pub mod Asking
-pub mod Posts
+pub mod OperatorView
 pub mod Returned
 pub mod Working
 pub mod Outcome

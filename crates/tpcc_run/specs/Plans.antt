@@ -1,6 +1,5 @@
 -- The ranges of a plan, which have one proof at most, as a fact that a struct keeps must.
 use Rattle.std.specs.Prelude.{⊤, ◌≤◌}
-use Rattle.std.specs.Coded.{le_prop}
 use Rattle.tpcc_run.specs.declared.plan.Plan.{Plan}
 use Rattle.tpcc_run.specs.declared.plan.Service.{Service}
 use Rattle.tpcc_run.specs.declared.plan.Service.TheVariants.{Servers, Direct}
@@ -17,12 +16,3 @@ pub record IsPlan (plan : Plan) : Type 0 where
   pub terminals_most : plan.terminals ≤ MOST_TERMINALS
   pub service : IsService plan.service
   pub cards_most : plan.cards ≤ MOST_CARDS
-
--- those of what serves
-service_once : (s : Service) → IsProp (IsService s)
-service_once (Servers count retire) = hlevel le_prop
-service_once Direct = hlevel
-
--- those of all
-pub plan_once : (p : Plan) → IsProp (IsPlan p)
-plan_once p = hlevel (le_prop, service_once)

@@ -8,11 +8,9 @@ use Rattle.tpcc_run.specs.declared.plan.Service.{Service}
 use Rattle.tpcc_run.specs.declared.plan.Service.TheVariants.{Servers, Direct}
 use Rattle.tpcc_turns.specs.Seats.{SeatedView, keeper_of}
 use Rattle.tpcc_terminal.specs.declared.receipts.Receipt.{Receipt}
-use Rattle.tpcc_run.specs.Posts.{Post}
+use Rattle.tpcc_run.specs.OperatorView.{OperatorView}
 use Rattle.tpcc_run.specs.Purses.{split_off, with_rooms}
 use Rattle.tpcc_run.specs.Working.{HasWorked, HasRun}
-use Rattle.tpcc_run.specs.declared.threads.asking.OperatorBack.{OperatorBack}
-use Rattle.tpcc_run.specs.declared.threads.asking.OperatorBack.TheVariants.{All as Whole, Short, Missing}
 use Rattle.tpcc_run.specs.declared.threads.duty.Duty.TheVariants.{Cards}
 
 -- a purse, and the receipts of its terminal
@@ -20,7 +18,7 @@ pub record Returned : Type 0 where
   pub purse : SeatedView
   pub receipts : List Receipt
 
-abbrev pub returned_of : Post → Returned
+abbrev pub returned_of : OperatorView → Returned
 returned_of post = record { purse = post.purse; receipts = post.station.receipts }
 
 -- a purse for which nobody keeps receipts
@@ -36,14 +34,8 @@ pub record HasKept (returned : List Returned) (purses : List SeatedView) (receip
   pub purses_are : new_purses ≡ purses ++ map (λ r. r.purse) returned
   pub receipts_are : lists_of new_receipts ≡ lists_of receipts ++ map (λ r. r.receipts) returned
 
--- a terminal that has asked all is kept whole, and any other leaves a fault
-abbrev pub HasKeptBack : {N T C : Type 0} → OperatorBack N T C → List SeatedView → List (Vec Receipt Global) → List SeatedView → List (Vec Receipt Global) → Type 0
-HasKeptBack (Whole s) purses receipts new_purses new_receipts = HasKept (returned_of s ∷ []) purses receipts new_purses new_receipts
-HasKeptBack (Short s) purses receipts new_purses new_receipts = ⊥
-HasKeptBack Missing purses receipts new_purses new_receipts = ⊥
-
 -- the plan's terminals in the order of their numbers, from 1 on: each began with an empty purse, and asked all its cards
-pub record HaveWorked (scale : Scale) (plan : Plan) (posts : List Post) : Type 0 where
+pub record HaveWorked (scale : Scale) (plan : Plan) (posts : List OperatorView) : Type 0 where
   pub numbers : map (λ post. post.purse.purse.terminal) posts ≡ range_with_len 1 plan.terminals
   pub worked : All (λ post. HasWorked Cards scale plan post.purse.purse.terminal post) posts
 
@@ -54,8 +46,8 @@ HaveIdled count plan first purses = map keeper_of purses ≡ map (λ number. kee
 -- the purses and receipts of a run with so many servers, all split off one purse: those of the terminals, of the delivery runner, whose
 -- number is the next, what is left of the purse, and the servers'
 pub record HaveComeBack (servers : ℕ) (scale : Scale) (plan : Plan) (first : SeatedView) (purses : List SeatedView) (receipts : List (Vec Receipt Global)) : Type 0 where
-  pub terminals : List Post
-  pub runner : Post
+  pub terminals : List OperatorView
+  pub runner : OperatorView
   pub rest : SeatedView
   pub idle : List SeatedView
   pub terminals_worked : HaveWorked scale plan terminals

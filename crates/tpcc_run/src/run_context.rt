@@ -1,6 +1,6 @@
 //! What a run is lent.
 ghost use Rattle.tpcc_run.specs.Plans.{IsPlan};
-ghost use Rattle.tpcc_run.specs.Plans.{plan_once};
+ghost use Rattle.tpcc_run.specs.Internal.Plans.{plan_once};
 
 use crate::plan::Plan;
 use std::alloc::Global;

@@ -2,7 +2,7 @@
 ghost use Rattle.std.specs.Prelude.{◌≡◌, IfOk, OnErr};
 ghost use Rattle.tpcc_population.specs.Opening.{opening_scale};
 ghost use Rattle.tpcc_population.specs.declared.opening.Opening.{Opening};
-ghost use Rattle.tpcc_run.specs.Outcome.{HasReported, HasShown, HasShownPrefix, HasTotals};
+ghost use Rattle.tpcc_run.specs.Outcome.{HasReported, HasShown, HasShownPrefix, HasSettled};
 ghost use Rattle.tpcc_run.specs.Plans.{IsPlan};
 
 use crate::plan::Plan;
@@ -121,7 +121,7 @@ impl<
         requires make { F.IsAlwaysCallable self.now.make.now }
         requires entries { blanks.entries.name ≡ N.entries }
         requires cents { blanks.cents.name ≡ N.cents }
-        ensures settled { IfOk result (λ s. HasTotals opening.now self.now.plan s.book s.report) }
+        ensures settled { IfOk result (λ s. HasSettled opening.now self.now.plan s.book s.report) }
     {
         let Ok(turns) = UnnamedTurns::<N>::start(self.alloc, opening, blanks) else {
             return Err(RunFault::NoMemory);
@@ -139,7 +139,7 @@ impl<
         requires name { turns.table ≡ T.table }
         requires scale { scale ≡ opening_scale turns.opening }
         ensures settled { IfOk result (λ s.
-            HasTotals turns.opening self.now.plan s.book s.report) }
+            HasSettled turns.opening self.now.plan s.book s.report) }
     {
         let (turns, first) = turns.name::<T>();
         let threads = RunThreads {

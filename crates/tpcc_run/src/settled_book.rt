@@ -2,7 +2,7 @@
 ghost use Rattle.std.specs.Prelude.{◌≡◌, IfErr, IfOk, IsErrOf, None, OnErr, Some};
 ghost use Rattle.tpcc_population.specs.Opening.{opening_scale};
 ghost use Rattle.tpcc_audit.specs.Settlement.{AllSeen, all_receipts};
-ghost use Rattle.tpcc_run.specs.Outcome.{HasCut, HasShown, HasTotals, opening_purse};
+ghost use Rattle.tpcc_run.specs.Outcome.{HasCut, HasShown, HasSettled, opening_purse};
 ghost use Rattle.tpcc_run.specs.Returned.{HaveAllComeBack};
 ghost use Rattle.tpcc_run.specs.declared.threads.fault.RunFault.{RunFault};
 ghost use Rattle.tpcc_run.specs.declared.threads.fault.RunFault.TheVariants.{Missing};
@@ -46,7 +46,7 @@ pub(crate) fn end_run<N: Naming, T: Seating>(
     requires back { all.fault ≡ None
         → HaveAllComeBack (opening_scale turns) plan.now (opening_purse turns)
         all.purses.items all.receipts.items }
-    ensures settled { IfOk result (λ s. HasTotals turns plan.now s.book s.report) }
+    ensures settled { IfOk result (λ s. HasSettled turns plan.now s.book s.report) }
     ensures fault { (fault : RunFault) → all.fault ≡ Some fault → IsErrOf result fault }
 {
     let ThreadResults {
@@ -69,7 +69,7 @@ fn totals_of<N: Naming, T: Seating>(
     requires seen { AllSeen purses.items (all_receipts receipts.now) }
     requires back { HaveAllComeBack (opening_scale turns) plan.now (opening_purse turns)
         purses.items receipts.now }
-    ensures settled { IfOk result (λ s. HasTotals turns plan.now s.book s.report) }
+    ensures settled { IfOk result (λ s. HasSettled turns plan.now s.book s.report) }
     ensures missing { IfErr result (λ fault. fault ≡ Missing) }
 {
     // For the proof: whose purses and receipts these are.
@@ -90,7 +90,7 @@ pub(crate) fn show_settled<N: Naming, W: Write>(
     opening: &Opening,
     plan: &Plan,
 ) -> Result<Report, RunFault>
-    requires totals { HasTotals opening.now plan.now settled.now.book settled.now.report }
+    requires totals { HasSettled opening.now plan.now settled.now.book settled.now.report }
     ensures shown { IfOk result (λ report.
         HasShown opening.now plan.now parts.now report (W.contents out.old) (W.contents out.new)) }
     ensures part { OnErr result

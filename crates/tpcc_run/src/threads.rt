@@ -3,17 +3,18 @@ ghost use Rattle.std.specs.Prelude.{◌≡◌, ◌+◌, ◌≤◌, ◌<◌, All,
 ghost use Rattle.tpcc_book.specs.Purses.{most_purses};
 ghost use Rattle.tpcc_mailbox.specs.Tokens.{identity, idle_origin, serving_origin};
 ghost use Rattle.tpcc_audit.specs.Settlement.{AllSeen, all_receipts};
-ghost use Rattle.tpcc_run.specs.Plans.{IsPlan, IsService, plan_once};
+ghost use Rattle.tpcc_run.specs.Plans.{IsPlan, IsService};
+ghost use Rattle.tpcc_run.specs.Internal.Plans.{plan_once};
 ghost use Rattle.tpcc_run.specs.Returned.{HaveAllComeBack, HaveComeBack, servers_in};
 ghost use Rattle.tpcc_run.specs.declared.plan.TheConstants.{MOST_SERVERS};
 
-mod askers;
-mod asking;
 mod delivery_runner;
 mod duty;
 pub(crate) mod fault;
 mod job_turns;
 mod operator;
+mod operator_work;
+mod operators;
 mod promises;
 pub(crate) mod results;
 mod route;

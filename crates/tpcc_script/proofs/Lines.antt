@@ -11,7 +11,8 @@ use Rattle.tpcc_text.specs.declared.script.call.Call.{Call}
 use Rattle.tpcc_text.specs.declared.script.fault.ScriptFault.{ScriptFault}
 use Rattle.tpcc_text.specs.declared.script.fault.ScriptFault.TheVariants.{Bad, Cut, LongLine, TooManyLines, Read, Write, NoMemory}
 use Rattle.tpcc_script.specs.ScriptBook.{ScriptBook}
-use Rattle.tpcc_script.specs.Run.{Shows, HasServed}
+use Rattle.tpcc_script.specs.Run.{Shows}
+use Rattle.tpcc_script.specs.Internal.Run.{HasServed}
 use Rattle.tpcc_text.specs.Script.{parts_of, with_byte, lines_say, rest_says, then_says, call_of, ends, fails}
 use Rattle.tpcc_script.specs.Internal.Steps.{says, IsLine, IsRead, IsLineServed, IsStopped, IsFault, IsStillBroken, IsLineBroken}
 use Rattle.std.specs.Io.KnownBytes.{Appends}

@@ -3,10 +3,10 @@ use Rattle.std.proofs.Common.{◌≡◌, ◌∙◌, sym, refl, ap, subst, ℕ, �
 use Rattle.std.specs.Prelude.{Bool, cond, Option, Some, Result, Ok, Err, ◌==◌, true}
 use Rattle.std.proofs.lemmas.List.Sums.{sum_by_push}
 use Rattle.std.proofs.lemmas.Bool.Decides.{nat_tests}
-use Rattle.tpcc_rows.specs.declared.entry.Entry.{Entry}
-use Rattle.tpcc_rows.specs.declared.requests.Request.{Request}
-use Rattle.tpcc_rows.specs.declared.refusals.Refusal.{Refusal}
-use Rattle.tpcc_rows.specs.declared.replies.Reply.{Reply}
+use Rattle.tpcc_rows.specs.declared.transactions.entry.Entry.{Entry}
+use Rattle.tpcc_rows.specs.declared.transactions.requests.Request.{Request}
+use Rattle.tpcc_rows.specs.declared.transactions.refusals.Refusal.{Refusal}
+use Rattle.tpcc_rows.specs.declared.transactions.replies.Reply.{Reply}
 use Rattle.tpcc_rows.specs.Replay.{count_of}
 use Rattle.tpcc_rows.specs.Turn.{reply_to}
 use Rattle.tpcc_population.specs.declared.opening.Opening.{Opening}
@@ -18,7 +18,8 @@ use Rattle.tpcc_script.specs.ScriptBook.{terminal}
 use Rattle.tpcc_text.specs.declared.script.fault.ScriptFault.{ScriptFault}
 use Rattle.tpcc_text.specs.Script.{Script}
 use Rattle.tpcc_script.specs.Run.{HasRun, IsCounted}
-use Rattle.tpcc_script.specs.Session.{IsAtHand, opened_book, book_of}
+use Rattle.tpcc_script.specs.Session.{opened_book, book_of}
+use Rattle.tpcc_script.specs.Internal.Session.{IsAtHand}
 
 -- one more entry of the terminal
 count-push : (t : ℕ) (entries : List Entry) (e : Entry) → e.terminal ≡ t → count_of t (entries ++ e ∷ []) ≡ count_of t entries + 1

@@ -2,10 +2,10 @@
 use Rattle.std.proofs.Common.{◌≡◌, ◌∙◌, sym, refl, ap, ap₂, ℕ, List, Option, Some, None, inl, inr}
 use Rattle.std.specs.Prelude.{Result, Ok, Err}
 use Rattle.std.specs.Option.{option_or}
-use Rattle.tpcc_rows.specs.declared.requests.Request.{Request}
-use Rattle.tpcc_rows.specs.declared.refusals.Refusal.{Refusal}
-use Rattle.tpcc_rows.specs.declared.refusals.Refusal.TheVariants as refused
-use Rattle.tpcc_rows.specs.declared.replies.Reply.{Reply}
+use Rattle.tpcc_rows.specs.declared.transactions.requests.Request.{Request}
+use Rattle.tpcc_rows.specs.declared.transactions.refusals.Refusal.{Refusal}
+use Rattle.tpcc_rows.specs.declared.transactions.refusals.Refusal.TheVariants as refused
+use Rattle.tpcc_rows.specs.declared.transactions.replies.Reply.{Reply}
 use Rattle.tpcc_rows.specs.Conditions.{first_broken}
 use Rattle.tpcc_rows.specs.Replay.{count_of, results_of}
 use Rattle.tpcc_rows.specs.Turn.{reply_to}
@@ -17,8 +17,10 @@ use Rattle.tpcc_book.specs.Turn.{after, turn_refusal}
 use Rattle.tpcc_text.specs.Screens.{answer_screen, reply_screen, refused_screen, check_screen, results_screen}
 use Rattle.tpcc_text.specs.declared.script.call.Call.TheVariants.{Ask, Check, Results}
 use Rattle.tpcc_script.specs.ScriptBook.{ScriptBook, terminal, screen_of, book_after, screen_by, book_by, book_with_entry, request_refusal}
-use Rattle.tpcc_script.specs.Run.{HasServed, Shows}
-use Rattle.tpcc_script.specs.Session.{IsAtHand, book_of}
+use Rattle.tpcc_script.specs.Run.{Shows}
+use Rattle.tpcc_script.specs.Internal.Run.{HasServed}
+use Rattle.tpcc_script.specs.Session.{book_of}
+use Rattle.tpcc_script.specs.Internal.Session.{IsAtHand}
 
 shows-reply : (old new : ScriptBook) (request : Request) (reply : Reply) (screen : List ℕ)
     → request_refusal old request ≡ None → reply ≡ reply_to old.state request → new ≡ book_with_entry old request → screen ≡ reply_screen reply

@@ -1,7 +1,7 @@
 -- What a run of a script writes: the screens of its lines, each at the book that the lines before it left.
 use Rattle.std.specs.Prelude.{◌≡◌, ◌⊎◌, ℕ, ◌≤◌, Bool, true, false, List, [], ◌∷◌, ◌++◌, length, take, Option, Some, None, Result, Ok, Err}
 use Rattle.std.specs.Io.KnownBytes.{Appends}
-use Rattle.tpcc_rows.specs.declared.refusals.Refusal.TheVariants as refused
+use Rattle.tpcc_rows.specs.declared.transactions.refusals.Refusal.TheVariants as refused
 use Rattle.tpcc_text.specs.Screens.{refused_screen}
 use Rattle.tpcc_text.specs.declared.script.call.Call.{Call}
 use Rattle.tpcc_text.specs.declared.script.call.Call.TheVariants.{Ask, Check, Results}
@@ -29,11 +29,6 @@ pub record IsOutOfMemory (old : ScriptBook) (call : Call) (screen : List ℕ) (n
 
 abbrev pub Shows : ScriptBook → Call → List ℕ → ScriptBook → Type 0
 Shows old call screen new = IsServed old call screen new ⊎ IsOutOfMemory old call screen new
-
--- a call was served, and had some screen
-pub record HasServed (old : ScriptBook) (call : Call) (new : ScriptBook) : Type 0 where
-  pub screen : List ℕ
-  pub shows : Shows old call screen new
 
 -- calls one after another: the text is their screens
 abbrev pub Prints : ScriptBook → List Call → List ℕ → ScriptBook → Type 0

@@ -5,7 +5,8 @@ ghost use Rattle.tpcc_rows.specs.Conditions.{first_broken};
 ghost use Rattle.tpcc_rows.specs.Replay.{results_of};
 ghost use Rattle.tpcc_text.specs.Screens as screens;
 ghost use Rattle.tpcc_text.specs.declared.script.call.Call.TheVariants.{Ask};
-ghost use Rattle.tpcc_script.specs.Run.{HasServed, Shows};
+ghost use Rattle.tpcc_script.specs.Run.{Shows};
+ghost use Rattle.tpcc_script.specs.Internal.Run.{HasServed};
 ghost use Rattle.tpcc_script.specs.Session.{book_of};
 
 use std::alloc::Global;
@@ -33,7 +34,7 @@ impl<N: Naming> Drop for Session<N> {
 
 impl<N: Naming> Model for Session<N> {
     ghost use Rattle.tpcc_book.specs.Past.{Past};
-    ghost use Rattle.tpcc_script.specs.Session.{IsAtHand};
+    ghost use Rattle.tpcc_script.specs.Internal.Session.{IsAtHand};
 
     ghost Value = { Past };
 

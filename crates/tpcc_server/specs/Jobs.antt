@@ -1,5 +1,5 @@
 -- What a job is seen as.
-use Rattle.tpcc_rows.specs.declared.requests.Request.{Request}
+use Rattle.tpcc_rows.specs.declared.transactions.requests.Request.{Request}
 use Rattle.tpcc_turns.specs.Seats.{SeatedView}
 
 -- what is asked, the purse that it is served for, and the call that is to serve it

@@ -1,5 +1,5 @@
 //! Work that is served once.
-ghost use Rattle.tpcc_rows.specs.declared.requests.Request.{Request};
+ghost use Rattle.tpcc_rows.specs.declared.transactions.requests.Request.{Request};
 ghost use Rattle.tpcc_turns.specs.Seats.{SeatedView, IsTurned};
 
 use std::sync::Wait;

@@ -6,10 +6,10 @@ use Rattle.csv.specs.Machine.{next_record}
 use Rattle.csv.specs.Reading.{default_config, records_from}
 use Rattle.csv.specs.Writing.{default_writer, row_text, read_back}
 use Rattle.csv.specs.declared.parser.State.TheVariants as st
-use Rattle.tpcc_rows.specs.declared.row.Row.{Row}
-use Rattle.tpcc_rows.specs.declared.row.Row.TheVariants as row
-use Rattle.tpcc_rows.specs.declared.row.Table.{Table}
-use Rattle.tpcc_rows.specs.declared.row.Table.TheVariants as table
+use Rattle.tpcc_rows.specs.declared.tables.row.Row.{Row}
+use Rattle.tpcc_rows.specs.declared.tables.row.Row.TheVariants as row
+use Rattle.tpcc_rows.specs.declared.tables.row.Table.{Table}
+use Rattle.tpcc_rows.specs.declared.tables.row.Table.TheVariants as table
 use Rattle.tpcc_rows.specs.Tables.{Rows}
 use Rattle.tpcc_show.specs.Columns.{columns}
 use Rattle.tpcc_show.specs.Dump.{IsReadBack, records_text, rows_of}

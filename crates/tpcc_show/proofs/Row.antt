@@ -6,12 +6,13 @@ use Rattle.std.proofs.lemmas.List.{length-map, map-append, flat_map_more, take_a
 use Rattle.std.proofs.lemmas.List.Concat.{flat_map-append}
 use Rattle.std.proofs.lemmas.Option.{none-some, slice_get-map, slice_get_within, get_or_from_slice_get}
 use Rattle.csv.specs.Writing.{default_writer, row_text}
-use Rattle.tpcc_rows.specs.declared.row.Row.{Row}
-use Rattle.tpcc_rows.specs.declared.row.Table.{Table}
-use Rattle.tpcc_rows.specs.declared.row.Table.TheVariants as table
+use Rattle.tpcc_rows.specs.declared.tables.row.Row.{Row}
+use Rattle.tpcc_rows.specs.declared.tables.row.Table.{Table}
+use Rattle.tpcc_rows.specs.declared.tables.row.Table.TheVariants as table
 use Rattle.tpcc_rows.specs.Tables.{Rows}
 use Rattle.tpcc_tables.specs.Positions.{count_of, row_at}
-use Rattle.tpcc_show.specs.Dump.{rows_of, records_from, records_text}
+use Rattle.tpcc_show.specs.Dump.{rows_of, records_text}
+use Rattle.tpcc_show.specs.Internal.Dump.{records_from}
 use Rattle.tpcc_text.specs.Prefix.{AppendsPrefix, PassesBytes}
 use Rattle.tpcc_show.specs.Records.{record_of}
 use Rattle.tpcc_text.proofs.BlockSteps.{in_turn, cut_first, cut_later, cut_between}

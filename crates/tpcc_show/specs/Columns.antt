@@ -1,7 +1,7 @@
 -- 1.3: the names of the tables' columns, in the standard's order.
 use Rattle.std.specs.Prelude.{ℕ, List, [], ◌∷◌, codes}
-use Rattle.tpcc_rows.specs.declared.row.Table.{Table}
-use Rattle.tpcc_rows.specs.declared.row.Table.TheVariants as table
+use Rattle.tpcc_rows.specs.declared.tables.row.Table.{Table}
+use Rattle.tpcc_rows.specs.declared.tables.row.Table.TheVariants as table
 
 abbrev pub columns : Table → List (List ℕ)
 columns table.Warehouse = codes "W_ID" ∷ codes "W_NAME"

@@ -1,11 +1,11 @@
 -- What a dump of a table writes: the names of its columns and then each row, as records of comma-separated values.
-use Rattle.std.specs.Prelude.{◌≡◌, ℕ, List, ◌∷◌, map, flat_map, take, drop}
+use Rattle.std.specs.Prelude.{◌≡◌, ℕ, List, ◌∷◌, map, flat_map}
 use Rattle.csv.specs.Reading.{default_config, records}
 use Rattle.csv.specs.Writing.{default_writer, row_text}
-use Rattle.tpcc_rows.specs.declared.row.Row.{Row}
-use Rattle.tpcc_rows.specs.declared.row.Row.TheVariants as row
-use Rattle.tpcc_rows.specs.declared.row.Table.{Table}
-use Rattle.tpcc_rows.specs.declared.row.Table.TheVariants as table
+use Rattle.tpcc_rows.specs.declared.tables.row.Row.{Row}
+use Rattle.tpcc_rows.specs.declared.tables.row.Row.TheVariants as row
+use Rattle.tpcc_rows.specs.declared.tables.row.Table.{Table}
+use Rattle.tpcc_rows.specs.declared.tables.row.Table.TheVariants as table
 use Rattle.tpcc_rows.specs.Tables.{Rows}
 use Rattle.tpcc_show.specs.Columns.{columns}
 use Rattle.tpcc_show.specs.Records.{record_of}
@@ -25,10 +25,6 @@ rows_of rows table.Stock = map row.Stock rows.stocks
 -- records one after another, by the default writer: commas, a line feed behind each record, quotes where needed
 abbrev pub records_text : List (List (List ℕ)) → List ℕ
 records_text lines = flat_map (row_text default_writer) lines
-
--- the records of so many rows from a place on
-abbrev pub records_from : Rows → Table → ℕ → ℕ → List (List (List ℕ))
-records_from rows table from count = map record_of (take count (drop from (rows_of rows table)))
 
 abbrev pub dump_text : Rows → Table → List ℕ
 dump_text rows table = records_text (columns table ∷ map record_of (rows_of rows table))

@@ -1,3 +1,5 @@
 -- What no public contract reaches: words of private contracts, of how values are seen, and of proofs.
+pub mod Dump
 pub mod Fields
 pub mod Output
+pub mod Shown

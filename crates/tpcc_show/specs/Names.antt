@@ -1,7 +1,7 @@
 -- The words that ask for a table (1.3) and for a part of a book.
 use Rattle.std.specs.Prelude.{ℕ, List, codes}
-use Rattle.tpcc_rows.specs.declared.row.Table.{Table}
-use Rattle.tpcc_rows.specs.declared.row.Table.TheVariants as table
+use Rattle.tpcc_rows.specs.declared.tables.row.Table.{Table}
+use Rattle.tpcc_rows.specs.declared.tables.row.Table.TheVariants as table
 use Rattle.tpcc_show.specs.declared.parts.Part.{Part}
 use Rattle.tpcc_show.specs.declared.parts.Part.TheVariants as parts
 

@@ -2,7 +2,7 @@
 use Rattle.std.specs.Prelude.{ℕ, List, [], ◌∷◌, ◌++◌, flat_map, length, codes, Option, Some, None}
 use Rattle.tpcc_rows.specs.Conditions.{first_broken}
 use Rattle.tpcc_rows.specs.Replay.{results_of}
-use Rattle.tpcc_rows.specs.declared.entry.Entry.{Entry}
+use Rattle.tpcc_rows.specs.declared.transactions.entry.Entry.{Entry}
 use Rattle.tpcc_book.specs.Past.{Past, rise_of}
 use Rattle.tpcc_text.specs.Screens.{reply_screen, results_screen, check_screen}
 use Rattle.tpcc_text.specs.Report.{report_text}
@@ -33,13 +33,6 @@ part_text screens book parts.Journal = journal_lines book.entries
 part_text screens book parts.Results = results_screen (results_of book.entries)
 part_text screens book parts.Check = check_screen (first_broken book.state.rows)
 part_text screens book (parts.Rows table) = dump_text book.state.rows table
-
--- the line over a part
-abbrev pub named_line : Part → List ℕ
-named_line part = part_name part ++ (10 ∷ [])
-
-abbrev pub heading : Part → List ℕ
-heading part = codes "== " ++ named_line part
 
 -- a part under its heading
 unfoldable pub headed_text : Option (List ℕ) → Past → Part → List ℕ

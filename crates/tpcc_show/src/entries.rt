@@ -1,7 +1,7 @@
 //! The journal's entries, one after another.
 ghost use Rattle.std.specs.Prelude.{◌≡◌, ◌++◌, IfOk, OnErr, OnOk, flat_map};
 ghost use Rattle.tpcc_text.specs.Prefix.{AppendsPrefix, PassesBytes};
-ghost use Rattle.tpcc_journal.specs.Kept.{entry_of};
+ghost use Rattle.tpcc_journal.specs.EntryRefs.{entry_of};
 ghost use Rattle.tpcc_text.specs.RequestLines as lines;
 ghost use Rattle.tpcc_text.specs.Screens as screens;
 
@@ -16,7 +16,7 @@ use tpcc_text::{Blocks, Screen, reply_screen, request_line};
 /// What is written of each entry.
 pub trait EntryText {
     ghost use Rattle.std.specs.Prelude.{ℕ, List};
-    ghost use Rattle.tpcc_rows.specs.declared.entry.Entry.{Entry};
+    ghost use Rattle.tpcc_rows.specs.declared.transactions.entry.Entry.{Entry};
 
     /// An entry's text.
     ghost text: { Entry → List ℕ };

@@ -6,7 +6,7 @@ ghost use Rattle.tpcc_show.specs.Names.{part_name};
 ghost use Rattle.tpcc_show.specs.declared.parts.Part.{Part};
 
 use crate::table_names::{table_name, table_named};
-use tpcc_rows::{Blank, Few, Table};
+use tpcc_rows::{Few, Filler, Table};
 
 /// What is shown of a book.
 #[derive(Clone, Copy, PartialEq, Eq)]
@@ -28,12 +28,12 @@ pub enum Part {
 /// Parts in the order in which they are shown.
 pub type ShownParts = Few<Part, 16>;
 
-impl Blank for Part {
+impl Filler for Part {
     ghost use Rattle.tpcc_show.specs.declared.parts.Part.TheVariants as parts;
 
-    ghost blank = { parts.Report };
+    ghost filler = { parts.Report };
 
-    fn blank() -> Self {
+    fn filler() -> Self {
         Part::Report
     }
 }

@@ -2,7 +2,8 @@
 ghost use Rattle.std.specs.Prelude.{◌≡◌, ◌++◌, OnErr, OnOk, Some, flat_map, option_map};
 ghost use Rattle.std.specs.Io.KnownBytes.{Appends};
 ghost use Rattle.tpcc_text.specs.Prefix.{AppendsPrefix, PassesBytes};
-ghost use Rattle.tpcc_show.specs.Shown.{book_report, headed_text, heading, named_line, part_text, parts_text, screens_shown, served_text, shown_text};
+ghost use Rattle.tpcc_show.specs.Shown.{book_report, headed_text, part_text, parts_text, screens_shown, served_text, shown_text};
+ghost use Rattle.tpcc_show.specs.Internal.Shown.{heading, named_line};
 
 use crate::book_screens::calls::{check_screen, results_screen};
 use crate::entries::{ReplyScreens, RequestLines, put_each};

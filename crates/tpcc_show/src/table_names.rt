@@ -3,7 +3,7 @@ ghost use Rattle.std.specs.Prelude.{◌≡◌, ◌≢◌, IfNone, IfSome, IsTrue
 ghost use Rattle.std.specs.Option.{option_copied};
 ghost use Rattle.std.specs.Str.{bytes_eq};
 ghost use Rattle.tpcc_show.specs.Names as names;
-ghost use Rattle.tpcc_rows.specs.declared.row.Table.{Table};
+ghost use Rattle.tpcc_rows.specs.declared.tables.row.Table.{Table};
 
 use tpcc_rows::Table;
 

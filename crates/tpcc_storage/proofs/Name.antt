@@ -15,7 +15,8 @@ use Rattle.std.proofs.lemmas.Bool.{eqb-true}
 use Rattle.std.proofs.lemmas.Slice.Eq.{bytes_eq-Decides}
 use Rattle.std.proofs.lemmas.Bool.Decides.{nat_tests}
 use Rattle.tpcc_storage.specs.declared.names.CustomerName.{CustomerName}
-use Rattle.tpcc_storage.specs.Names.{last_cmp, name_cmp, name_before, is_in_order, is_named}
+use Rattle.tpcc_storage.specs.Names.{last_cmp, name_cmp, name_before, is_named}
+use Rattle.tpcc_storage.specs.Internal.Names.{is_in_order}
 use Rattle.tpcc_storage.proofs.Order.{front_of}
 use Rattle.tpcc_storage.proofs.Stretch.{within, run_is, same_filter, front_within}
 

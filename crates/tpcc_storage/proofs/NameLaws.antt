@@ -12,8 +12,8 @@ use Rattle.std.proofs.lemmas.Cmp.{then_total, on_total, nat_cmp_total, nat_list_
 use Rattle.std.proofs.lemmas.List.Sorted.{ranks_by}
 use Rattle.std.proofs.lemmas.Option.{slice_get-map}
 use Rattle.std.proofs.lemmas.Bool.{eqb-true}
-use Rattle.tpcc_rows.specs.declared.rows.CustomerRow.{CustomerRow}
-use Rattle.tpcc_rows.specs.declared.requests.Who.TheVariants.{Name}
+use Rattle.tpcc_rows.specs.declared.tables.rows.CustomerRow.{CustomerRow}
+use Rattle.tpcc_rows.specs.declared.transactions.requests.Who.TheVariants.{Name}
 use Rattle.tpcc_rows.specs.Lists.{updated, inserted, sorted, is_ascending}
 use Rattle.tpcc_rows.specs.Tables.{Rows, customers_in, customer_key, find_customer}
 use Rattle.tpcc_rows.specs.ChosenCustomer.{chosen_customer, first_name_before}
@@ -22,7 +22,8 @@ use Rattle.tpcc_laws.proofs.Insert.{length-inserted, list_all-inserted_all}
 use Rattle.tpcc_rows.proofs.Booleans.{split, both_true}
 use Rattle.tpcc_laws.proofs.ChosenRow.{chosen_row}
 use Rattle.tpcc_storage.specs.declared.names.CustomerName.{CustomerName}
-use Rattle.tpcc_storage.specs.Names.{name_before, name_of, names_of, is_in_order, is_named, middle_id}
+use Rattle.tpcc_storage.specs.Names.{name_before, name_of, names_of, is_named, middle_id}
+use Rattle.tpcc_storage.specs.Internal.Names.{is_in_order}
 use Rattle.tpcc_storage.proofs.Order.{in_order-inserted, in_order-filter, in_order-sorted, one_order, sorted_is, count-sorted}
 use Rattle.tpcc_storage.proofs.Name.{last_both, last_total, name_order, names_tied, equal_is_named}
 

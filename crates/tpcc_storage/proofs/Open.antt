@@ -7,14 +7,14 @@ use Rattle.std.proofs.Math.Seq.{map-set_same}
 use Rattle.std.proofs.lemmas.List.{length-map}
 use Rattle.std.proofs.lemmas.List.Elements.{All-set, AllWithin-kept, AllWithin-more_set}
 use Rattle.std.proofs.lemmas.List.Folds.{flat_map-map}
-use Rattle.tpcc_rows.specs.declared.keys.DistrictKey.{DistrictKey}
+use Rattle.tpcc_rows.specs.declared.tables.keys.DistrictKey.{DistrictKey}
 use Rattle.tpcc_rows.specs.Lists.{by_key, inserted, is_ascending}
 use Rattle.tpcc_laws.proofs.Insert.{list_all-inserted}
 use Rattle.tpcc_laws.proofs.OrderKeys.{apart, ascending-inserted}
 use Rattle.tpcc_storage.specs.Internal.DistrictRows.{DistrictRows}
 use Rattle.tpcc_storage.specs.Searches.{is_same_key}
 use Rattle.tpcc_storage.specs.ByDistrict.{district_numbers, is_of, has_owner}
-use Rattle.tpcc_storage.specs.Internal.DistrictWords.{rows_in, owner_of, part_numbers, is_part, owns, owner_and_rows, HasRoom, IsGrown, IsOpened, AreParts}
+use Rattle.tpcc_storage.specs.Internal.DistrictWords.{rows_in, owner_of, part_numbers, is_part, owns, owner_and_rows, HasRoom, IsGrown, IsOpened, AreDistricts}
 use Rattle.tpcc_storage.proofs.Keys.{same_if_equal}
 use Rattle.tpcc_storage.proofs.Owner.{owner_is_part}
 use Rattle.tpcc_storage.proofs.Place.{none_before}
@@ -76,7 +76,7 @@ module _ {T : Type 0} (owner : DistrictKey) (room : ℕ) (old new : List (Distri
       let here : is_part (district_numbers owner) opened.part ≡ true = same_if_equal (part_numbers opened.part) (district_numbers owner) (ap district_numbers opened.of_owner) in
       owner_is_part new (district_numbers owner) ∙ ap (list_any (is_part (district_numbers owner))) opened.put ∙ any-inserted (by_key part_numbers) (is_part (district_numbers owner)) opened.part old ∙ (λ i. here i || list_any (is_part (district_numbers owner)) old)
 
-  pub parts_opened : (key : T → List ℕ) (len : ℕ) → AreParts key len room old → position (is_part (district_numbers owner)) old ≡ None → AreParts key len room new
+  pub parts_opened : (key : T → List ℕ) (len : ℕ) → AreDistricts key len room old → position (is_part (district_numbers owner)) old ≡ None → AreDistricts key len room new
   parts_opened key len kept none =
       let absent = none_before (is_part (district_numbers owner)) old (list_any (is_part (district_numbers owner)) old) refl none in
       let own : owns key opened.part ≡ true = ap (list_all (λ row. is_of opened.part.owner (key row))) opened.empty in
@@ -100,7 +100,7 @@ module _ {T : Type 0} (old new : List (DistrictRows T)) (same : map owner_and_ro
   pub owners_shown : map owner_of new ≡ map owner_of old
   owners_shown = map-shown owner_and_rows (λ (s : DistrictKey × List T). s.0) new ∙ ap (map (λ (s : DistrictKey × List T). s.0)) same ∙ sym (map-shown owner_and_rows (λ (s : DistrictKey × List T). s.0) old)
 
-  pub parts_shown : (key : T → List ℕ) (len room more : ℕ) → AreParts key len room old → All (HasRoom more) new → len + more < 2 ^ 64 → AreParts key len more new
+  pub parts_shown : (key : T → List ℕ) (len room more : ℕ) → AreDistricts key len room old → All (HasRoom more) new → len + more < 2 ^ 64 → AreDistricts key len more new
   parts_shown key len room more kept roomy fits =
       let mine = λ (s : DistrictKey × List T). list_all (λ row. is_of s.0 (key row)) s.1 in
       record {

@@ -16,7 +16,7 @@ use Rattle.tpcc_rows.specs.Lists.{inserted, inserted_all, sorted}
 use Rattle.tpcc_laws.proofs.List.{list_all-mono}
 use Rattle.tpcc_laws.proofs.Insert.{list_all-inserted, length-inserted_all}
 use Rattle.tpcc_rows.proofs.Booleans.{split, both_true}
-use Rattle.tpcc_storage.specs.Names.{is_in_order}
+use Rattle.tpcc_storage.specs.Internal.Names.{is_in_order}
 
 both : (b : Bool) → b ≡ true → b ≡ false → ⊥
 both true e f = cc

@@ -4,7 +4,7 @@ use Rattle.std.specs.Prelude.{OnErr, OnOk, Option, Some, None, ◌||◌, find, i
 use Rattle.std.specs.declared.result.Result.{Result}
 use Rattle.std.specs.declared.result.Result.TheVariants.{Ok, Err}
 use Rattle.std.specs.List.{list_any}
-use Rattle.tpcc_rows.specs.declared.keys.DistrictKey.{DistrictKey}
+use Rattle.tpcc_rows.specs.declared.tables.keys.DistrictKey.{DistrictKey}
 use Rattle.tpcc_storage.specs.Internal.DistrictRows.{DistrictRows}
 use Rattle.tpcc_storage.specs.ByDistrict.{district_numbers, has_owner}
 use Rattle.tpcc_storage.specs.Internal.DistrictWords.{owner_of, part_numbers, is_part}

@@ -2,14 +2,14 @@
 use Rattle.std.proofs.Common.{◌≡◌, ◌∙◌, ℕ, Bool, true, false, List, [], ◌∷◌, refl, ap, sym, arith, get_or, set}
 use Rattle.std.specs.Prelude.{Option, Some, None, ◌||◌, not, filter, find, flat_map, is_some, position, take}
 use Rattle.std.specs.List.{list_all, list_any}
-use Rattle.tpcc_rows.specs.declared.keys.DistrictKey.{DistrictKey}
+use Rattle.tpcc_rows.specs.declared.tables.keys.DistrictKey.{DistrictKey}
 use Rattle.tpcc_rows.specs.Lists.{key_before, updated}
 use Rattle.tpcc_laws.proofs.List.{has_one, list_all-mono, one_of_key}
 use Rattle.tpcc_laws.proofs.Remove.{found_passes}
 use Rattle.tpcc_storage.specs.Internal.DistrictRows.{DistrictRows}
 use Rattle.tpcc_storage.specs.Searches.{is_same_key}
 use Rattle.tpcc_storage.specs.ByDistrict.{district_numbers, is_of}
-use Rattle.tpcc_storage.specs.Internal.DistrictWords.{rows_in, part_numbers, is_part, owns, AreParts}
+use Rattle.tpcc_storage.specs.Internal.DistrictWords.{rows_in, part_numbers, is_part, owns, AreDistricts}
 use Rattle.tpcc_storage.proofs.Keys.{same_keys, same_if_equal, not_before_itself}
 use Rattle.tpcc_storage.proofs.Place.{found_row, none_before, written_row}
 use Rattle.tpcc_storage.proofs.Halves.{none_found}
@@ -48,7 +48,7 @@ stranger_free key k q asks part own = by (is_part k part) refl
     by true is = refl
     by false is = ap not (none_other key k q asks part.owner part.rows.items is own)
 
-module _ {T : Type 0} (key : T → List ℕ) (len room : ℕ) (parts : List (DistrictRows T)) (kept : AreParts key len room parts) (k : List ℕ) where
+module _ {T : Type 0} (key : T → List ℕ) (len room : ℕ) (parts : List (DistrictRows T)) (kept : AreDistricts key len room parts) (k : List ℕ) where
   pub strangers : (q : T → Bool) → AsksFor key k q → no_strangers rows_in (is_part k) q parts ≡ true
   strangers q asks = list_all-mono (owns key) (λ part. is_part k part || not (list_any q (rows_in part))) (stranger_free key k q asks) parts kept.own
 

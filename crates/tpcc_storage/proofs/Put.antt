@@ -8,7 +8,7 @@ use Rattle.std.proofs.lemmas.List.Elements.{All-set, All-weaker}
 use Rattle.std.proofs.lemmas.List.Folds.{flat_map-map}
 use Rattle.std.proofs.lemmas.List.Quantifiers.{position-Some}
 use Rattle.std.proofs.lemmas.List.Sums.{sum_by-set}
-use Rattle.tpcc_rows.specs.declared.keys.DistrictKey.{DistrictKey}
+use Rattle.tpcc_rows.specs.declared.tables.keys.DistrictKey.{DistrictKey}
 use Rattle.tpcc_rows.specs.Lists.{by_key, inserted, is_ascending, key_before, updated}
 use Rattle.tpcc_laws.proofs.DeliveryKeys.{list_all-filter}
 use Rattle.tpcc_laws.proofs.Insert.{list_all-inserted}
@@ -16,7 +16,7 @@ use Rattle.tpcc_laws.proofs.List.{ascending_front, list_all-mono}
 use Rattle.tpcc_storage.specs.Internal.DistrictRows.{DistrictRows}
 use Rattle.tpcc_storage.specs.Searches.{is_same_key}
 use Rattle.tpcc_storage.specs.ByDistrict.{district_numbers, is_of}
-use Rattle.tpcc_storage.specs.Internal.DistrictWords.{rows_in, owner_of, part_numbers, is_part, owns, HasRoom, AreParts}
+use Rattle.tpcc_storage.specs.Internal.DistrictWords.{rows_in, owner_of, part_numbers, is_part, owns, HasRoom, AreDistricts}
 use Rattle.tpcc_storage.proofs.Keys.{same_keys, same_if_equal, not_before_itself, one_before, district_decides}
 use Rattle.tpcc_storage.proofs.Flat.{inserted-flat_any}
 use Rattle.tpcc_storage.proofs.Shown.{ascending-shown}
@@ -45,7 +45,7 @@ module _ {T : Type 0} (key : T → List ℕ) (new : T) (k : List ℕ) (same : ta
       }
 
   -- a row put into its part is put among all rows
-  pub rows_inserted : (len room : ℕ) (parts : List (DistrictRows T)) (kept : AreParts key len room parts) (i : ℕ) (part : DistrictRows T) → position (is_part k) parts ≡ Some i → part ≡ get_or parts i part → (changed : DistrictRows T) → changed.rows.items ≡ inserted (by_key key) new part.rows.items → flat_map rows_in (set parts i changed) ≡ inserted (by_key key) new (flat_map rows_in parts)
+  pub rows_inserted : (len room : ℕ) (parts : List (DistrictRows T)) (kept : AreDistricts key len room parts) (i : ℕ) (part : DistrictRows T) → position (is_part k) parts ≡ Some i → part ≡ get_or parts i part → (changed : DistrictRows T) → changed.rows.items ≡ inserted (by_key key) new part.rows.items → flat_map rows_in (set parts i changed) ≡ inserted (by_key key) new (flat_map rows_in parts)
   rows_inserted len room parts kept i part at here changed is =
       let one = one_part key len room parts kept k i part at here in
       ap (flat_map rows_in) (write_is key len room parts kept k i part at here changed)
@@ -81,14 +81,14 @@ ascending_set numbers xs i x d same = ascending-shown numbers (λ n. n) (set xs 
 less_room : {T : Type 0} (room less : ℕ) → less ≤ room → (part : DistrictRows T) → HasRoom room part → HasRoom less part
 less_room room less le part h = omega arith
 
-module _ {T : Type 0} (key : T → List ℕ) (len room : ℕ) (parts : List (DistrictRows T)) (kept : AreParts key len room parts) (i : ℕ) (part changed : DistrictRows T) (here : part ≡ get_or parts i part) (same : changed.owner ≡ part.owner) where
+module _ {T : Type 0} (key : T → List ℕ) (len room : ℕ) (parts : List (DistrictRows T)) (kept : AreDistricts key len room parts) (i : ℕ) (part changed : DistrictRows T) (here : part ≡ get_or parts i part) (same : changed.owner ≡ part.owner) where
   owner_here : changed.owner ≡ (get_or parts i part).owner
   owner_here = same ∙ ap (λ (p : DistrictRows T). p.owner) here
 
   pub owners_kept : map owner_of (set parts i changed) ≡ map owner_of parts
   owners_kept = map-set_same owner_of parts i changed part owner_here
 
-  pub parts_kept : (new_len new_room : ℕ) → new_room ≤ room → new_len + new_room < 2 ^ 64 → new_len ≡ length (flat_map rows_in (set parts i changed)) → owns key changed ≡ true → HasRoom new_room changed → AreParts key new_len new_room (set parts i changed)
+  pub parts_kept : (new_len new_room : ℕ) → new_room ≤ room → new_len + new_room < 2 ^ 64 → new_len ≡ length (flat_map rows_in (set parts i changed)) → owns key changed ≡ true → HasRoom new_room changed → AreDistricts key new_len new_room (set parts i changed)
   parts_kept new_len new_room le fits count own roomy =
       record {
         ascending = ascending_set part_numbers parts i changed part (ap district_numbers owner_here) ∙ kept.ascending;

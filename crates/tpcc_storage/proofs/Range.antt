@@ -4,7 +4,7 @@ use Rattle.std.specs.Prelude.{◌&&◌, position}
 use Rattle.std.specs.List.{list_all, position_or_len}
 use Rattle.std.proofs.lemmas.List.{take_all}
 use Rattle.std.proofs.lemmas.Bool.Decides.{nat_tests}
-use Rattle.tpcc_rows.specs.declared.rows.NewOrderRow.{NewOrderRow}
+use Rattle.tpcc_rows.specs.declared.tables.rows.NewOrderRow.{NewOrderRow}
 use Rattle.tpcc_rows.specs.Lists.{by_key, inserted, is_ascending, key_before}
 use Rattle.tpcc_rows.specs.Tables.{new_order_key}
 use Rattle.tpcc_storage.specs.Searches.{is_same_key}

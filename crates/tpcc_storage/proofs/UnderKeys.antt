@@ -8,7 +8,7 @@ use Rattle.indexmap.specs.IndexMap.{set_value_at}
 use Rattle.tpcc_rows.specs.Lists.{by_key, is_ascending, key_before, updated}
 use Rattle.tpcc_laws.proofs.List.{has_one, updated_absent}
 use Rattle.tpcc_storage.specs.Searches.{is_same_key}
-use Rattle.tpcc_storage.specs.KeyedRows.{AreUnderKeys}
+use Rattle.tpcc_storage.specs.Internal.KeyedRows.{AreUnderKeys}
 use Rattle.tpcc_storage.proofs.Keys.{same_keys, not_before_itself}
 use Rattle.tpcc_storage.proofs.Halves.{all_at, apart_before}
 

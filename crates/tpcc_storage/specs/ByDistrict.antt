@@ -1,9 +1,8 @@
 -- What contracts see of rows that are kept in parts, one for each district.
-use Rattle.std.specs.Prelude.{ℕ, Bool, Option, Some, None, List, [], ◌∷◌, take}
+use Rattle.std.specs.Prelude.{ℕ, Bool, List, [], ◌∷◌, take}
 use Rattle.std.specs.List.{list_any}
-use Rattle.tpcc_rows.specs.declared.keys.DistrictKey.{DistrictKey}
+use Rattle.tpcc_rows.specs.declared.tables.keys.DistrictKey.{DistrictKey}
 use Rattle.tpcc_storage.specs.Searches.{is_same_key}
-use Rattle.tpcc_storage.specs.Internal.DistrictRows.{DistrictRows}
 
 -- the rows of all parts in ascending order of their keys, the districts that have a part, and how many more rows
 -- any of those districts can take with no memory
@@ -22,8 +21,3 @@ is_of k key = is_same_key (take 2 key) (district_numbers k)
 -- the district of a key has a part
 abbrev pub has_owner : List DistrictKey → List ℕ → Bool
 has_owner owners key = list_any (λ k. is_of k key) owners
-
--- the rows of a district's part, where it has one
-unfoldable pub rows_or_none : {T : Type 0} → Option (DistrictRows T) → List T
-rows_or_none None = []
-rows_or_none (Some part) = part.rows.items

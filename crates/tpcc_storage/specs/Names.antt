@@ -1,11 +1,10 @@
 -- 2.5.2.2, 2.6.2.2: the names of customers, in order, and the middle one of those with a last name.
-use Rattle.std.specs.Prelude.{ℕ, ◌+◌, ◌-◌, ◌/◌, ◌==◌, Bool, true, not, ◌&&◌, List, [], ◌∷◌, length, map, filter, Option, option_map, slice_get}
-use Rattle.std.specs.List.{list_all}
+use Rattle.std.specs.Prelude.{ℕ, ◌+◌, ◌-◌, ◌/◌, ◌==◌, Bool, ◌&&◌, List, length, map, filter, Option, option_map, slice_get}
 use Rattle.std.specs.declared.cmp.Ordering.{Ordering}
 use Rattle.std.specs.Ordering.{is_lt, nat_cmp, ordering_then}
 use Rattle.std.specs.Cmp.Lexicographic.{slice_cmp}
 use Rattle.std.specs.Str.{bytes_eq}
-use Rattle.tpcc_rows.specs.declared.rows.CustomerRow.{CustomerRow}
+use Rattle.tpcc_rows.specs.declared.tables.rows.CustomerRow.{CustomerRow}
 use Rattle.tpcc_rows.specs.Lists.{sorted}
 use Rattle.tpcc_storage.specs.declared.names.CustomerName.{CustomerName}
 
@@ -26,11 +25,6 @@ name_of c = record { warehouse = c.warehouse; district = c.district; last = c.la
 -- the names of customers, in order
 abbrev pub names_of : List CustomerRow → List CustomerName
 names_of rows = sorted name_before (map name_of rows)
-
--- no element comes before an earlier one
-abbrev pub is_in_order : {X : Type 0} → (X → X → Bool) → List X → Bool
-is_in_order before [] = true
-is_in_order before (x ∷ xs) = list_all (λ later. not (before later x)) xs && is_in_order before xs
 
 abbrev pub is_named : ℕ → ℕ → List ℕ → CustomerName → Bool
 is_named warehouse district last n = (n.warehouse == warehouse) && (n.district == district) && bytes_eq n.last last

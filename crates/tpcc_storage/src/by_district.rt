@@ -4,8 +4,9 @@ ghost use Rattle.std.specs.List.{list_all};
 ghost use Rattle.std.specs.Option.{option_copied};
 ghost use Rattle.tpcc_rows.specs.Lists.{by_key, is_ascending, inserted, inserted_all, updated};
 ghost use Rattle.tpcc_storage.specs.Searches.{is_same_key};
-ghost use Rattle.tpcc_storage.specs.ByDistrict.{district_numbers, is_of, has_owner, rows_or_none};
-ghost use Rattle.tpcc_rows.specs.declared.keys.DistrictKey.{DistrictKey};
+ghost use Rattle.tpcc_storage.specs.ByDistrict.{district_numbers, is_of, has_owner};
+ghost use Rattle.tpcc_storage.specs.Internal.ByDistrict.{rows_or_none};
+ghost use Rattle.tpcc_rows.specs.declared.tables.keys.DistrictKey.{DistrictKey};
 
 pub(crate) mod district_vecs;
 mod growth;
@@ -24,7 +25,7 @@ use crate::by_district::in_district::InDistrict;
 use crate::search::place_of;
 use growth::grow_all;
 use one_district::OneDistrict;
-use place::open_part;
+use place::open_district;
 use reading::read_run;
 use std::alloc::Global;
 use std::marker::Model;
@@ -160,7 +161,7 @@ impl<T: InDistrict, S: Store<T>> ByDistrict<T, S> {
             return Ok(());
         }
         let alloc = *self.parts.allocator();
-        open_part(&mut self.parts, owner, self.room, alloc)
+        open_district(&mut self.parts, owner, self.room, alloc)
     }
 
     /// Room for so many more rows in each district that has a part.

@@ -5,7 +5,8 @@ ghost use Rattle.std.specs.Option.{option_copied};
 ghost use Rattle.indexmap.specs.IndexMap.{values, spare, index_map_len};
 ghost use Rattle.tpcc_rows.specs.Lists.{by_key, is_ascending, inserted, updated};
 ghost use Rattle.tpcc_storage.specs.Searches.{is_same_key};
-ghost use Rattle.tpcc_storage.specs.KeyedRows.{AddsSome, AreUnderKeys};
+ghost use Rattle.tpcc_storage.specs.KeyedRows.{AddsSome};
+ghost use Rattle.tpcc_storage.specs.Internal.KeyedRows.{AreUnderKeys};
 
 use crate::insertion::place_for;
 use crate::map_row::MapRow;

@@ -3,7 +3,8 @@ ghost use Rattle.std.specs.Prelude.{[], ◌≡◌, ◌≤◌, IfOk, OnOk, OnErr,
 ghost use Rattle.std.specs.List.{prefix_len};
 ghost use Rattle.std.specs.Ordering.{is_lt, is_gt};
 ghost use Rattle.tpcc_rows.specs.Lists.{inserted};
-ghost use Rattle.tpcc_storage.specs.Names.{last_cmp, name_cmp, name_before, name_of, names_of, is_in_order, is_named, middle_id};
+ghost use Rattle.tpcc_storage.specs.Names.{last_cmp, name_cmp, name_before, name_of, names_of, is_named, middle_id};
+ghost use Rattle.tpcc_storage.specs.Internal.Names.{is_in_order};
 
 use std::alloc::Global;
 use std::cmp::Ordering;
@@ -77,7 +78,8 @@ pub struct Names {
 impl Model for Names {
     ghost use Rattle.std.specs.Prelude.{List, ◌≡◌, true};
     ghost use Rattle.tpcc_storage.specs.declared.names.CustomerName.{CustomerName};
-    ghost use Rattle.tpcc_storage.specs.Names.{name_before, is_in_order};
+    ghost use Rattle.tpcc_storage.specs.Names.{name_before};
+    ghost use Rattle.tpcc_storage.specs.Internal.Names.{is_in_order};
 
     ghost Value = { List CustomerName };
 

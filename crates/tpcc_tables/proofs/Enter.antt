@@ -2,13 +2,13 @@
 use Rattle.std.proofs.Common.{◌≡◌, ℕ, ◌+◌, ◌<◌, ◌≤◌, ◌^◌, true, false, List, [], ◌∷◌, length, map, refl, sym, ◌∙◌, subst, arith, Some, None}
 use Rattle.std.specs.Prelude.{◌&&◌, not, find, Bool, Option, is_some, is_none}
 use Rattle.std.specs.List.{list_all, list_any, enumerate_from}
-use Rattle.tpcc_rows.specs.declared.rows.DistrictRow.{DistrictRow}
-use Rattle.tpcc_rows.specs.declared.rows.OrderRow.{OrderRow}
-use Rattle.tpcc_rows.specs.declared.rows.OrderLineRow.{OrderLineRow}
-use Rattle.tpcc_rows.specs.declared.rows.NewOrderRow.{NewOrderRow}
-use Rattle.tpcc_rows.specs.declared.rows.StockRow.{StockRow}
-use Rattle.tpcc_rows.specs.declared.requests.Line.{Line}
-use Rattle.tpcc_rows.specs.declared.requests.Order.{Order}
+use Rattle.tpcc_rows.specs.declared.tables.rows.DistrictRow.{DistrictRow}
+use Rattle.tpcc_rows.specs.declared.tables.rows.OrderRow.{OrderRow}
+use Rattle.tpcc_rows.specs.declared.tables.rows.OrderLineRow.{OrderLineRow}
+use Rattle.tpcc_rows.specs.declared.tables.rows.NewOrderRow.{NewOrderRow}
+use Rattle.tpcc_rows.specs.declared.tables.rows.StockRow.{StockRow}
+use Rattle.tpcc_rows.specs.declared.transactions.requests.Line.{Line}
+use Rattle.tpcc_rows.specs.declared.transactions.requests.Order.{Order}
 use Rattle.tpcc_rows.specs.Ranges.{is_within, is_district_row, is_order_id}
 use Rattle.tpcc_rows.specs.Lists.{updated, inserted, inserted_all, by_key, is_ascending}
 use Rattle.tpcc_rows.specs.Tables.{Rows, is_district, find_district, order_key, order_line_key, new_order_key}
@@ -19,7 +19,7 @@ use Rattle.tpcc_laws.proofs.OrderInRange.{order_in_range}
 use Rattle.tpcc_rows.proofs.Booleans.{split, both_true}
 use Rattle.tpcc_laws.proofs.DeliveryKeeps.{some_of}
 use Rattle.std.proofs.lemmas.Bool.Decides.{nat_tests}
-use Rattle.tpcc_rows.specs.declared.keys.DistrictKey.{DistrictKey}
+use Rattle.tpcc_rows.specs.declared.tables.keys.DistrictKey.{DistrictKey}
 use Rattle.tpcc_storage.specs.ByDistrict.{has_owner}
 use Rattle.tpcc_tables.specs.Internal.Ready.{is_open}
 use Rattle.tpcc_tables.proofs.Ready.{open-found}

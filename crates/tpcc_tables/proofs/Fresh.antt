@@ -1,11 +1,11 @@
 -- The key of a row that can be loaded is no other row's.
 use Rattle.std.proofs.Common.{◌≡◌, Bool, true, false, List, refl, ◌∙◌, Option, Some, None}
 use Rattle.std.specs.Prelude.{find, is_some}
-use Rattle.tpcc_rows.specs.declared.rows.WarehouseRow.{WarehouseRow}
-use Rattle.tpcc_rows.specs.declared.rows.DistrictRow.{DistrictRow}
-use Rattle.tpcc_rows.specs.declared.rows.CustomerRow.{CustomerRow}
-use Rattle.tpcc_rows.specs.declared.rows.ItemRow.{ItemRow}
-use Rattle.tpcc_rows.specs.declared.rows.StockRow.{StockRow}
+use Rattle.tpcc_rows.specs.declared.tables.rows.WarehouseRow.{WarehouseRow}
+use Rattle.tpcc_rows.specs.declared.tables.rows.DistrictRow.{DistrictRow}
+use Rattle.tpcc_rows.specs.declared.tables.rows.CustomerRow.{CustomerRow}
+use Rattle.tpcc_rows.specs.declared.tables.rows.ItemRow.{ItemRow}
+use Rattle.tpcc_rows.specs.declared.tables.rows.StockRow.{StockRow}
 use Rattle.tpcc_rows.specs.Ranges.{is_warehouse_row, is_district_row, is_customer_row, is_item_row, is_stock_row}
 use Rattle.tpcc_rows.specs.Tables.{Rows, warehouse_key, district_key, customer_key, item_key, stock_key, is_warehouse, is_district, is_customer, is_item, is_stock, find_warehouse, find_district, find_customer, find_item, find_stock}
 use Rattle.tpcc_rows.specs.WellKeyed.{has_warehouse, has_district, has_warehouse_and_item}

@@ -2,14 +2,14 @@
 use Rattle.std.proofs.Common.{◌≡◌, ℕ, Bool, true, false, [], ◌∷◌, refl, ap, arith}
 use Rattle.std.specs.Prelude.{◌&&◌, ◌==◌}
 use Rattle.std.proofs.lemmas.Bool.Decides.{nat_tests}
-use Rattle.tpcc_rows.specs.declared.rows.WarehouseRow.{WarehouseRow}
-use Rattle.tpcc_rows.specs.declared.rows.DistrictRow.{DistrictRow}
-use Rattle.tpcc_rows.specs.declared.rows.CustomerRow.{CustomerRow}
-use Rattle.tpcc_rows.specs.declared.rows.OrderRow.{OrderRow}
-use Rattle.tpcc_rows.specs.declared.rows.ItemRow.{ItemRow}
-use Rattle.tpcc_rows.specs.declared.rows.StockRow.{StockRow}
-use Rattle.tpcc_rows.specs.declared.rows.OrderLineRow.{OrderLineRow}
-use Rattle.tpcc_rows.specs.declared.rows.NewOrderRow.{NewOrderRow}
+use Rattle.tpcc_rows.specs.declared.tables.rows.WarehouseRow.{WarehouseRow}
+use Rattle.tpcc_rows.specs.declared.tables.rows.DistrictRow.{DistrictRow}
+use Rattle.tpcc_rows.specs.declared.tables.rows.CustomerRow.{CustomerRow}
+use Rattle.tpcc_rows.specs.declared.tables.rows.OrderRow.{OrderRow}
+use Rattle.tpcc_rows.specs.declared.tables.rows.ItemRow.{ItemRow}
+use Rattle.tpcc_rows.specs.declared.tables.rows.StockRow.{StockRow}
+use Rattle.tpcc_rows.specs.declared.tables.rows.OrderLineRow.{OrderLineRow}
+use Rattle.tpcc_rows.specs.declared.tables.rows.NewOrderRow.{NewOrderRow}
 use Rattle.tpcc_rows.specs.Lists.{key_before}
 use Rattle.tpcc_rows.specs.Tables.{is_warehouse, is_district, is_customer, is_order, is_new_order, is_item, is_stock, warehouse_key, district_key, customer_key, order_key, order_line_key, new_order_key, item_key, stock_key}
 use Rattle.tpcc_storage.proofs.Halves.{is_it}

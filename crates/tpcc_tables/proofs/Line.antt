@@ -4,7 +4,7 @@ use Rattle.std.specs.Prelude.{filter, ◌&&◌, ◌==◌, nat_lt, nat_le, pos}
 use Rattle.std.specs.Option.{option_to_list}
 use Rattle.std.proofs.lemmas.Bool.Decides.{nat_tests}
 use Rattle.std.proofs.lemmas.List.{length-append}
-use Rattle.tpcc_rows.specs.declared.rows.OrderLineRow.{OrderLineRow}
+use Rattle.tpcc_rows.specs.declared.tables.rows.OrderLineRow.{OrderLineRow}
 use Rattle.tpcc_rows.specs.Lists.{key_before}
 use Rattle.tpcc_rows.specs.Ranges.{is_order_line_row, is_order_id, is_district_id, is_warehouse_id, is_item_id, is_within, is_null_or, is_moment, is_amount_within, is_exact_text}
 use Rattle.tpcc_rows.specs.Tables.{Rows, is_line_of, lines_of, order_lines_in, order_line_key}

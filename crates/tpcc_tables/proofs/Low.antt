@@ -4,8 +4,8 @@ use Rattle.std.specs.Prelude.{filter, find, ◌&&◌, ◌==◌, not, ◌||◌, n
 use Rattle.std.specs.List.{list_any}
 use Rattle.std.proofs.Math.Seq.{drop-cons}
 use Rattle.std.proofs.lemmas.Bool.Decides.{nat_tests}
-use Rattle.tpcc_rows.specs.declared.rows.StockRow.{StockRow}
-use Rattle.tpcc_rows.specs.declared.rows.OrderLineRow.{OrderLineRow}
+use Rattle.tpcc_rows.specs.declared.tables.rows.StockRow.{StockRow}
+use Rattle.tpcc_rows.specs.declared.tables.rows.OrderLineRow.{OrderLineRow}
 use Rattle.tpcc_rows.specs.Lists.{key_before, distinct, is_ascending}
 use Rattle.tpcc_rows.specs.Tables.{is_stock, stock_key}
 use Rattle.tpcc_tables.proofs.Filter.{found_passes, any-key}

@@ -4,11 +4,11 @@ use Rattle.std.specs.Prelude.{◌&&◌, find}
 use Rattle.std.proofs.lemmas.List.{take_more}
 use Rattle.std.proofs.lemmas.List.Folds.{list_all-append}
 use Rattle.tpcc_rows.proofs.Booleans.{both_true}
-use Rattle.tpcc_rows.specs.declared.keys.DistrictKey.{DistrictKey}
-use Rattle.tpcc_rows.specs.declared.rows.DistrictRow.{DistrictRow}
-use Rattle.tpcc_rows.specs.declared.rows.OrderRow.{OrderRow}
-use Rattle.tpcc_rows.specs.declared.rows.OrderLineRow.{OrderLineRow}
-use Rattle.tpcc_rows.specs.declared.rows.NewOrderRow.{NewOrderRow}
+use Rattle.tpcc_rows.specs.declared.tables.keys.DistrictKey.{DistrictKey}
+use Rattle.tpcc_rows.specs.declared.tables.rows.DistrictRow.{DistrictRow}
+use Rattle.tpcc_rows.specs.declared.tables.rows.OrderRow.{OrderRow}
+use Rattle.tpcc_rows.specs.declared.tables.rows.OrderLineRow.{OrderLineRow}
+use Rattle.tpcc_rows.specs.declared.tables.rows.NewOrderRow.{NewOrderRow}
 use Rattle.tpcc_rows.specs.Lists.{updated}
 use Rattle.tpcc_rows.specs.Tables.{district_key}
 use Rattle.tpcc_laws.proofs.List.{list_all-mono, key-chosen}

@@ -5,7 +5,7 @@ use Rattle.std.specs.List.{list_all}
 use Rattle.std.specs.Bool.{beq}
 use Rattle.std.proofs.lemmas.Int.{ints}
 use Rattle.tpcc_money.specs.Amounts.{total}
-use Rattle.tpcc_rows.specs.declared.rows.OrderLineRow.{OrderLineRow}
+use Rattle.tpcc_rows.specs.declared.tables.rows.OrderLineRow.{OrderLineRow}
 use Rattle.tpcc_rows.specs.Ranges.{is_order_line_row}
 use Rattle.tpcc_rows.specs.Tables.{Rows, is_line_of, lines_of}
 use Rattle.tpcc_rows.specs.WellKeyed.{IsWellKeyed}

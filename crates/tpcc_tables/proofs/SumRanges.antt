@@ -7,12 +7,12 @@ use Rattle.std.proofs.lemmas.Bool.Decides.{nat_tests}
 use Rattle.std.proofs.lemmas.List.Sums.{sum_by-cons}
 use Rattle.std.proofs.lemmas.List.{length-take}
 use Rattle.tpcc_money.specs.Amounts.{total}
-use Rattle.tpcc_rows.specs.declared.rows.WarehouseRow.{WarehouseRow}
-use Rattle.tpcc_rows.specs.declared.rows.DistrictRow.{DistrictRow}
-use Rattle.tpcc_rows.specs.declared.rows.CustomerRow.{CustomerRow}
-use Rattle.tpcc_rows.specs.declared.rows.HistoryRow.{HistoryRow}
-use Rattle.tpcc_rows.specs.declared.rows.OrderRow.{OrderRow}
-use Rattle.tpcc_rows.specs.declared.rows.OrderLineRow.{OrderLineRow}
+use Rattle.tpcc_rows.specs.declared.tables.rows.WarehouseRow.{WarehouseRow}
+use Rattle.tpcc_rows.specs.declared.tables.rows.DistrictRow.{DistrictRow}
+use Rattle.tpcc_rows.specs.declared.tables.rows.CustomerRow.{CustomerRow}
+use Rattle.tpcc_rows.specs.declared.tables.rows.HistoryRow.{HistoryRow}
+use Rattle.tpcc_rows.specs.declared.tables.rows.OrderRow.{OrderRow}
+use Rattle.tpcc_rows.specs.declared.tables.rows.OrderLineRow.{OrderLineRow}
 use Rattle.tpcc_rows.specs.Lists.{is_ascending, key_before}
 use Rattle.tpcc_rows.specs.Ranges.{is_amount_within, is_within, is_history_row, is_order_row, is_order_line_row, is_order_id, is_district_id, is_warehouse_id, is_customer_id, is_moment, is_null_or, is_carrier, is_text}
 use Rattle.tpcc_rows.specs.Tables.{Rows, warehouse_key, district_key, customer_key, order_key, is_order_of, is_line_of, is_paid_by, lines_of, orders_in, orders_of}
@@ -27,7 +27,7 @@ use Rattle.tpcc_tables.proofs.Filter.{filter-twice}
 use Rattle.tpcc_tables.proofs.Line.{few_lines}
 use Rattle.tpcc_tables.proofs.DeliveryFacts.{line_is_paid}
 use Rattle.tpcc_tables.specs.declared.tables.Tables.TheInside.{Inside}
-use Rattle.tpcc_tables.specs.Internal.View.{rows_of, IsHeld}
+use Rattle.tpcc_tables.specs.Internal.View.{rows_of, AreTables}
 use Rattle.tpcc_tables.proofs.Sum.{in_order, each_value}
 use Rattle.tpcc_tables.proofs.Rising.{rising, rising_count, order_rises, in_district}
 use Rattle.tpcc_rows.specs.declared.limits.TheConstants.{GREATEST_LINE_AMOUNT, GREATEST_ORDER}
@@ -188,5 +188,5 @@ can_grow rows s h are =
     }
 
 -- the sums of tables
-pub held_grow : (t : Inside) → IsHeld t → CanGrow t.sums
+pub held_grow : (t : Inside) → AreTables t → CanGrow t.sums
 held_grow t h = can_grow (rows_of t) t.sums (summable (rows_of t) h.well_keyed (omega (arith, t.histories.ok, t.histories.small))) h.sums

@@ -3,3 +3,4 @@ pub mod Ready
 pub mod Sums
 pub mod Supplies
 pub mod View
+pub mod Writes

@@ -1,11 +1,11 @@
 -- The rows of a table by their places, from 0.
 use Rattle.std.specs.Prelude.{ℕ, length, Option, option_map, slice_get}
-use Rattle.tpcc_rows.specs.declared.row.Row.{Row}
-use Rattle.tpcc_rows.specs.declared.row.Row.TheVariants as row
-use Rattle.tpcc_rows.specs.declared.row.RowRef.{RowRef}
-use Rattle.tpcc_rows.specs.declared.row.RowRef.TheVariants as lent
-use Rattle.tpcc_rows.specs.declared.row.Table.{Table}
-use Rattle.tpcc_rows.specs.declared.row.Table.TheVariants as table
+use Rattle.tpcc_rows.specs.declared.tables.row.Row.{Row}
+use Rattle.tpcc_rows.specs.declared.tables.row.Row.TheVariants as row
+use Rattle.tpcc_rows.specs.declared.tables.row.RowRef.{RowRef}
+use Rattle.tpcc_rows.specs.declared.tables.row.RowRef.TheVariants as lent
+use Rattle.tpcc_rows.specs.declared.tables.row.Table.{Table}
+use Rattle.tpcc_rows.specs.declared.tables.row.Table.TheVariants as table
 use Rattle.tpcc_rows.specs.Tables.{Rows}
 
 -- how many rows a table has

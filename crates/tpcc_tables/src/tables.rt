@@ -2,7 +2,7 @@
 ghost use Rattle.std.specs.Prelude.{◌≡◌, ◌<◌, ◌≤◌, ◌+◌, ◌-◌, ◌&&◌, OnOk, OnErr, IsOk, [], ◌∷◌, ◌++◌, nat_le, nat_lt, length, map, filter};
 ghost use Rattle.std.specs.Option.{option_copied};
 ghost use Rattle.tpcc_rows.specs.Tables.{find_warehouse, find_district, find_customer, find_order, find_new_order, find_item, find_stock, lines_of, order_lines_in};
-ghost use Rattle.tpcc_rows.specs.declared.requests.Who.TheVariants.{Name};
+ghost use Rattle.tpcc_rows.specs.declared.transactions.requests.Who.TheVariants.{Name};
 ghost use Rattle.tpcc_rows.specs.ChosenCustomer.{chosen_customer};
 ghost use Rattle.tpcc_rows.specs.WellKeyed.{IsWellKeyed};
 ghost use Rattle.tpcc_rows.specs.Delivery.{oldest_new_order, order_amount};
@@ -16,9 +16,10 @@ mod positions;
 mod totals;
 mod writes;
 
-use crate::copies::copy_lines;
+use crate::changes::delivery;
+use crate::lookups::copies::copy_lines;
+use crate::lookups::{districts, find, levels};
 use crate::sums::Sums;
-use crate::{delivery, districts, find, levels};
 use std::alloc::Global;
 use std::marker::Model;
 use tpcc_money::Cents;
@@ -84,15 +85,15 @@ impl Drop for Tables {
 }
 
 impl Model for Tables {
-    ghost use Rattle.tpcc_tables.specs.Held.{Held};
+    ghost use Rattle.tpcc_tables.specs.TablesView.{TablesView};
 
-    ghost Value = { Held };
+    ghost Value = { TablesView };
 
-    ghost use Rattle.tpcc_tables.specs.Internal.View.{held, IsHeld};
+    ghost use Rattle.tpcc_tables.specs.Internal.View.{tables_view, AreTables};
 
-    ghost view = { held };
+    ghost view = { tables_view };
 
-    ghost invariant = { IsHeld };
+    ghost invariant = { AreTables };
 }
 
 impl Tables {

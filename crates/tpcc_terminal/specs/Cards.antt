@@ -7,14 +7,14 @@ use Rattle.tpcc_draws.specs.declared.cards.Card.{Card}
 use Rattle.tpcc_draws.specs.declared.cards.Card.TheVariants as cards
 use Rattle.tpcc_rows.specs.LastName.{last_name}
 use Rattle.tpcc_rows.specs.Layout.{Scale}
-use Rattle.tpcc_rows.specs.declared.keys.DistrictKey.{DistrictKey}
-use Rattle.tpcc_rows.specs.declared.requests.Line.{Line}
-use Rattle.tpcc_rows.specs.declared.requests.Order.{Order}
-use Rattle.tpcc_rows.specs.declared.requests.Payment.{Payment}
-use Rattle.tpcc_rows.specs.declared.requests.Who.{Who}
-use Rattle.tpcc_rows.specs.declared.requests.Who.TheVariants as who
-use Rattle.tpcc_rows.specs.declared.requests.Request.{Request}
-use Rattle.tpcc_rows.specs.declared.requests.Request.TheVariants as requests
+use Rattle.tpcc_rows.specs.declared.tables.keys.DistrictKey.{DistrictKey}
+use Rattle.tpcc_rows.specs.declared.transactions.requests.Line.{Line}
+use Rattle.tpcc_rows.specs.declared.transactions.requests.Order.{Order}
+use Rattle.tpcc_rows.specs.declared.transactions.requests.Payment.{Payment}
+use Rattle.tpcc_rows.specs.declared.transactions.requests.Who.{Who}
+use Rattle.tpcc_rows.specs.declared.transactions.requests.Who.TheVariants as who
+use Rattle.tpcc_rows.specs.declared.transactions.requests.Request.{Request}
+use Rattle.tpcc_rows.specs.declared.transactions.requests.Request.TheVariants as requests
 use Rattle.tpcc_rows.specs.declared.limits.TheConstants.{LEAST_PAYMENT, GREATEST_PAYMENT}
 use Rattle.tpcc_terminal.specs.declared.home.Home.{Home}
 use Rattle.tpcc_terminal.specs.declared.drafts.DrawnCustomer.{DrawnCustomer}

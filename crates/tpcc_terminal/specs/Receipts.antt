@@ -1,9 +1,9 @@
 -- Receipts, and how they stand in a journal.
 use Rattle.std.specs.Prelude.{ℕ, ◌≡◌, ◌-◌, List, [], ◌∷◌, All, Option, Some, None, Result, Ok, Err, slice_get}
-use Rattle.tpcc_rows.specs.declared.entry.Entry.{Entry}
-use Rattle.tpcc_rows.specs.declared.requests.Request.{Request}
-use Rattle.tpcc_rows.specs.declared.replies.Reply.{Reply}
-use Rattle.tpcc_rows.specs.declared.refusals.Refusal.{Refusal}
+use Rattle.tpcc_rows.specs.declared.transactions.entry.Entry.{Entry}
+use Rattle.tpcc_rows.specs.declared.transactions.requests.Request.{Request}
+use Rattle.tpcc_rows.specs.declared.transactions.replies.Reply.{Reply}
+use Rattle.tpcc_rows.specs.declared.transactions.refusals.Refusal.{Refusal}
 use Rattle.tpcc_book.specs.Purses.{PurseView}
 use Rattle.tpcc_book.specs.AnswerView.{AnswerView}
 use Rattle.tpcc_terminal.specs.declared.receipts.Receipt.{Receipt}

@@ -7,7 +7,7 @@ use Rattle.tpcc_draws.specs.Cards.{deck}
 use Rattle.tpcc_draws.specs.declared.cards.Card.{Card}
 use Rattle.tpcc_draws.specs.declared.cards.Card.TheVariants as cards
 use Rattle.tpcc_rows.specs.Layout.{Scale}
-use Rattle.tpcc_rows.specs.declared.requests.Request.{Request}
+use Rattle.tpcc_rows.specs.declared.transactions.requests.Request.{Request}
 use Rattle.tpcc_terminal.specs.declared.home.Home.{Home}
 use Rattle.tpcc_terminal.specs.declared.drafts.Draft.{Draft}
 use Rattle.tpcc_terminal.specs.declared.receipts.Receipt.{Receipt}
@@ -15,7 +15,7 @@ use Rattle.tpcc_terminal.specs.Cards.{home_of, drawn_draft, request_of}
 
 -- the number and the scale, the draws of the next card, the cards behind it in the deck, the generator of the
 -- stream, and the receipts
-pub record Station : Type 0 where
+pub record TerminalView : Type 0 where
   pub number : ℕ
   pub scale : Scale
   pub draft : Draft
@@ -52,18 +52,18 @@ drawn_ahead home held s =
     let draft = drawn_draft home deal.0 deal.2 in
     record { draft = draft.0; cards = deal.1; answers = draft.1 }
 
-abbrev pub ahead_of : Station → Ahead
+abbrev pub ahead_of : TerminalView → Ahead
 ahead_of t = record { draft = t.draft; cards = t.cards; answers = answers t.generator }
 
 -- a terminal's stream is that of its number in table 10
-pub record IsStarted (number : ℕ) (scale : Scale) (seed : ℕ) (t : Station) : Type 0 where
+pub record IsStarted (number : ℕ) (scale : Scale) (seed : ℕ) (t : TerminalView) : Type 0 where
   pub number_is : t.number ≡ number
   pub scale_is : t.scale ≡ scale
   pub ahead : ahead_of t ≡ drawn_ahead (home_of number scale) [] (stream_at seed 10 number)
   pub none : t.receipts ≡ []
 
 -- the request of the next card, and the card behind it drawn in its turn
-pub record IsAsked (old : Station) (moment : ℕ) (request : Request) (new : Station) : Type 0 where
+pub record IsAsked (old : TerminalView) (moment : ℕ) (request : Request) (new : TerminalView) : Type 0 where
   pub request_is : request ≡ request_of (home_of old.number old.scale) moment old.draft
   pub number : new.number ≡ old.number
   pub scale : new.scale ≡ old.scale

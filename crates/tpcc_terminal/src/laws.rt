@@ -1,8 +1,8 @@
 //! What receipts are good for, each law as the contract of a function with nothing to do.
 ghost use Rattle.std.specs.Prelude.{◌≡◌, ◌++◌, List};
 ghost use mathlib.Core.List.{IsPrefix};
-ghost use Rattle.tpcc_rows.specs.declared.entry.Entry.{Entry};
-ghost use Rattle.tpcc_rows.specs.declared.requests.Request.{Request};
+ghost use Rattle.tpcc_rows.specs.declared.transactions.entry.Entry.{Entry};
+ghost use Rattle.tpcc_rows.specs.declared.transactions.requests.Request.{Request};
 ghost use Rattle.tpcc_book.specs.Past.{Past};
 ghost use Rattle.tpcc_book.specs.Purses.{PurseView};
 ghost use Rattle.tpcc_book.specs.Serve.{IsServed};

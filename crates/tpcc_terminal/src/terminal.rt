@@ -38,9 +38,9 @@ pub struct Terminal {
 
 impl Model for Terminal {
     ghost use Rattle.std.specs.Prelude.{◌≤◌};
-    ghost use Rattle.tpcc_terminal.specs.Terminals.{Station};
+    ghost use Rattle.tpcc_terminal.specs.Terminals.{TerminalView};
 
-    ghost Value = { Station };
+    ghost Value = { TerminalView };
 
     ghost view = { λ t. record {
       number = t.number;

@@ -1,8 +1,8 @@
 -- The words of a new order, each read alone.
 use Rattle.std.proofs.Common.{◌≡◌, refl, ap, sym, ℕ, ◌-◌, ◌≤◌, List, [], ◌∷◌, length, map, get_or, take, drop, Some, None, arith}
 use Rattle.std.proofs.lemmas.List.{take_rest}
-use Rattle.tpcc_rows.specs.declared.requests.Line.{Line}
-use Rattle.tpcc_rows.specs.declared.requests.Request.TheVariants.{NewOrder}
+use Rattle.tpcc_rows.specs.declared.transactions.requests.Line.{Line}
+use Rattle.tpcc_rows.specs.declared.transactions.requests.Request.TheVariants.{NewOrder}
 use Rattle.tpcc_text.specs.Script.{number_of, moment_of, order_lines_of, order_of}
 
 -- a list of four or more, by its places

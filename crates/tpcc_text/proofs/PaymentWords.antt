@@ -1,7 +1,7 @@
 -- The seven words of a payment, each read alone.
 use Rattle.std.proofs.Common.{◌≡◌, refl, ℕ, ◌≤◌, ◌<◌, ℤ, List, [], ◌∷◌, length, map, get_or, Some, None, arith}
-use Rattle.tpcc_rows.specs.declared.requests.Who.{Who}
-use Rattle.tpcc_rows.specs.declared.requests.Request.TheVariants.{Payment}
+use Rattle.tpcc_rows.specs.declared.transactions.requests.Who.{Who}
+use Rattle.tpcc_rows.specs.declared.transactions.requests.Request.TheVariants.{Payment}
 use Rattle.tpcc_text.specs.Script.{number_of, moment_of, cents_of, customer_of, payment_of}
 
 -- a list of seven, by its places

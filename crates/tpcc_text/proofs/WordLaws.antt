@@ -8,9 +8,9 @@ use Rattle.std.proofs.lemmas.List.Folds.{list_all-append}
 use Rattle.std.proofs.lemmas.Bool.Decides.{nat_tests}
 use Rattle.tpcc_money.specs.Numerals.{is_digit}
 use Rattle.tpcc_money.specs.Texts.{amount_text}
-use Rattle.tpcc_rows.specs.declared.requests.Who.{Who}
-use Rattle.tpcc_rows.specs.declared.requests.Who.TheVariants.{Number, Name}
-use Rattle.tpcc_rows.specs.declared.requests.Line.{Line}
+use Rattle.tpcc_rows.specs.declared.transactions.requests.Who.{Who}
+use Rattle.tpcc_rows.specs.declared.transactions.requests.Who.TheVariants.{Number, Name}
+use Rattle.tpcc_rows.specs.declared.transactions.requests.Line.{Line}
 use Rattle.tpcc_rows.proofs.Booleans.{split, both_true}
 use Rattle.tpcc_laws.proofs.List.{list_all-mono}
 use Rattle.tpcc_text.specs.RequestLines.{customer_word, order_line_word}

@@ -1,17 +1,17 @@
 -- A request as a line of a script says it: words with one space between them, ended by a line feed.
 use Rattle.std.specs.Prelude.{ℕ, List, [], ◌∷◌, ◌++◌, flat_map, map, codes, decimal}
 use Rattle.tpcc_money.specs.Texts.{amount_text}
-use Rattle.tpcc_rows.specs.declared.requests.Who.{Who}
-use Rattle.tpcc_rows.specs.declared.requests.Who.TheVariants.{Number, Name}
-use Rattle.tpcc_rows.specs.declared.requests.Line.{Line}
-use Rattle.tpcc_rows.specs.declared.requests.Order.{Order}
-use Rattle.tpcc_rows.specs.declared.requests.Payment.{Payment}
-use Rattle.tpcc_rows.specs.declared.requests.StatusQuery.{StatusQuery}
-use Rattle.tpcc_rows.specs.declared.requests.StockQuery.{StockQuery}
-use Rattle.tpcc_rows.specs.declared.requests.Ticket.{Ticket}
-use Rattle.tpcc_rows.specs.declared.requests.Request.{Request}
-use Rattle.tpcc_rows.specs.declared.requests.Request.TheVariants as ask
-use Rattle.tpcc_rows.specs.declared.entry.Entry.{Entry}
+use Rattle.tpcc_rows.specs.declared.transactions.requests.Who.{Who}
+use Rattle.tpcc_rows.specs.declared.transactions.requests.Who.TheVariants.{Number, Name}
+use Rattle.tpcc_rows.specs.declared.transactions.requests.Line.{Line}
+use Rattle.tpcc_rows.specs.declared.transactions.requests.Order.{Order}
+use Rattle.tpcc_rows.specs.declared.transactions.requests.Payment.{Payment}
+use Rattle.tpcc_rows.specs.declared.transactions.requests.StatusQuery.{StatusQuery}
+use Rattle.tpcc_rows.specs.declared.transactions.requests.StockQuery.{StockQuery}
+use Rattle.tpcc_rows.specs.declared.transactions.requests.Ticket.{Ticket}
+use Rattle.tpcc_rows.specs.declared.transactions.requests.Request.{Request}
+use Rattle.tpcc_rows.specs.declared.transactions.requests.Request.TheVariants as ask
+use Rattle.tpcc_rows.specs.declared.transactions.entry.Entry.{Entry}
 use Rattle.tpcc_text.specs.Screens.{line}
 
 -- a customer by C_ID or by C_LAST

@@ -3,11 +3,11 @@ use Rattle.tpcc_money.specs.declared.parse.TheConstants.{GREATEST_AMOUNT}
 use Rattle.tpcc_money.specs.declared.moment.TheConstants.Moment.{LAST_SECOND}
 use Rattle.std.specs.Prelude.{ℕ, Bool, ◌&&◌, nat_le, length, ℤ, pos, negsuc, true, false}
 use Rattle.std.specs.List.{list_all}
-use Rattle.tpcc_rows.specs.declared.requests.Who.{Who}
-use Rattle.tpcc_rows.specs.declared.requests.Who.TheVariants.{Number, Name}
-use Rattle.tpcc_rows.specs.declared.requests.Line.{Line}
-use Rattle.tpcc_rows.specs.declared.requests.Request.{Request}
-use Rattle.tpcc_rows.specs.declared.requests.Request.TheVariants as ask
+use Rattle.tpcc_rows.specs.declared.transactions.requests.Who.{Who}
+use Rattle.tpcc_rows.specs.declared.transactions.requests.Who.TheVariants.{Number, Name}
+use Rattle.tpcc_rows.specs.declared.transactions.requests.Line.{Line}
+use Rattle.tpcc_rows.specs.declared.transactions.requests.Request.{Request}
+use Rattle.tpcc_rows.specs.declared.transactions.requests.Request.TheVariants as ask
 use Rattle.tpcc_text.specs.Script.{is_last_name}
 
 abbrev pub is_number : ℕ → Bool

@@ -1,29 +1,29 @@
 -- The screens: lines ended by a line feed, fields divided by one space, named as in the standard.
 use Rattle.std.specs.Prelude.{ℕ, ◌+◌, List, [], ◌∷◌, ◌++◌, flat_map, Option, Some, None, codes, decimal, Result, Ok, Err}
 use Rattle.tpcc_money.specs.Texts.{amount_text, rate_text, moment_text}
-use Rattle.tpcc_rows.specs.declared.rows.Address.{Address}
-use Rattle.tpcc_rows.specs.declared.requests.Ticket.{Ticket}
-use Rattle.tpcc_rows.specs.declared.refusals.Field.{Field}
-use Rattle.tpcc_rows.specs.declared.refusals.Field.TheVariants as field
-use Rattle.tpcc_rows.specs.declared.refusals.Refusal.{Refusal}
-use Rattle.tpcc_rows.specs.declared.refusals.Refusal.TheVariants as refused
-use Rattle.tpcc_rows.specs.declared.replies.Brand.{Brand}
-use Rattle.tpcc_rows.specs.declared.replies.Brand.TheVariants.{Original, Generic}
-use Rattle.tpcc_rows.specs.declared.replies.EnteredLine.{EnteredLine}
-use Rattle.tpcc_rows.specs.declared.replies.AcceptedOrder.{AcceptedOrder}
-use Rattle.tpcc_rows.specs.declared.replies.RolledBackOrder.{RolledBackOrder}
-use Rattle.tpcc_rows.specs.declared.replies.Entered.{Entered}
-use Rattle.tpcc_rows.specs.declared.replies.Entered.TheVariants.{Accepted, RolledBack}
-use Rattle.tpcc_rows.specs.declared.replies.Paid.{Paid}
-use Rattle.tpcc_rows.specs.declared.replies.StatusLine.{StatusLine}
-use Rattle.tpcc_rows.specs.declared.replies.LastOrder.{LastOrder}
-use Rattle.tpcc_rows.specs.declared.replies.Status.{Status}
-use Rattle.tpcc_rows.specs.declared.replies.Level.{Level}
-use Rattle.tpcc_rows.specs.declared.replies.Delivery.{Delivery}
-use Rattle.tpcc_rows.specs.declared.replies.Delivery.TheVariants.{District, NoneQueued}
-use Rattle.tpcc_rows.specs.declared.replies.Delivered.{Delivered}
-use Rattle.tpcc_rows.specs.declared.replies.Reply.{Reply}
-use Rattle.tpcc_rows.specs.declared.replies.Reply.TheVariants as tell
+use Rattle.tpcc_rows.specs.declared.tables.rows.Address.{Address}
+use Rattle.tpcc_rows.specs.declared.transactions.requests.Ticket.{Ticket}
+use Rattle.tpcc_rows.specs.declared.transactions.refusals.Field.{Field}
+use Rattle.tpcc_rows.specs.declared.transactions.refusals.Field.TheVariants as field
+use Rattle.tpcc_rows.specs.declared.transactions.refusals.Refusal.{Refusal}
+use Rattle.tpcc_rows.specs.declared.transactions.refusals.Refusal.TheVariants as refused
+use Rattle.tpcc_rows.specs.declared.transactions.replies.Brand.{Brand}
+use Rattle.tpcc_rows.specs.declared.transactions.replies.Brand.TheVariants.{Original, Generic}
+use Rattle.tpcc_rows.specs.declared.transactions.replies.EnteredLine.{EnteredLine}
+use Rattle.tpcc_rows.specs.declared.transactions.replies.AcceptedOrder.{AcceptedOrder}
+use Rattle.tpcc_rows.specs.declared.transactions.replies.RolledBackOrder.{RolledBackOrder}
+use Rattle.tpcc_rows.specs.declared.transactions.replies.Entered.{Entered}
+use Rattle.tpcc_rows.specs.declared.transactions.replies.Entered.TheVariants.{Accepted, RolledBack}
+use Rattle.tpcc_rows.specs.declared.transactions.replies.Paid.{Paid}
+use Rattle.tpcc_rows.specs.declared.transactions.replies.StatusLine.{StatusLine}
+use Rattle.tpcc_rows.specs.declared.transactions.replies.LastOrder.{LastOrder}
+use Rattle.tpcc_rows.specs.declared.transactions.replies.Status.{Status}
+use Rattle.tpcc_rows.specs.declared.transactions.replies.Level.{Level}
+use Rattle.tpcc_rows.specs.declared.transactions.replies.Delivery.{Delivery}
+use Rattle.tpcc_rows.specs.declared.transactions.replies.Delivery.TheVariants.{District, NoneQueued}
+use Rattle.tpcc_rows.specs.declared.transactions.replies.Delivered.{Delivered}
+use Rattle.tpcc_rows.specs.declared.transactions.replies.Reply.{Reply}
+use Rattle.tpcc_rows.specs.declared.transactions.replies.Reply.TheVariants as tell
 use Rattle.tpcc_rows.specs.Conditions.{Broken}
 
 -- a word and further words, with one space before each of them, and a line feed

@@ -10,7 +10,7 @@ use Rattle.rand_core.specs.Stream.{Stream}
 use Rattle.tpcc_draws.specs.Draws.{a_string, between, nurand, stream_at}
 use Rattle.tpcc_draws.specs.declared.cards.Card.{Card}
 use Rattle.tpcc_draws.specs.declared.cards.Card.TheVariants as cards
-use Rattle.tpcc_rows.specs.declared.rows.CustomerRow.{CustomerRow}
+use Rattle.tpcc_rows.specs.declared.tables.rows.CustomerRow.{CustomerRow}
 use Rattle.tpcc_rows.specs.LastName.{syllable, syllables, last_name}
 use Rattle.tpcc_rows.specs.Layout.{Scale, RowRules, laid_out, one_each}
 use Rattle.tpcc_rows.specs.Opening.{plain_rows, plain_rules}

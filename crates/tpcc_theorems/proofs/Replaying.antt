@@ -5,12 +5,12 @@ use Rattle.std.specs.List.{list_all}
 use Rattle.std.specs.Option.{option_or}
 use Rattle.std.proofs.lemmas.List.{map-append}
 use Rattle.std.proofs.lemmas.Bool.Decides.{nat_tests}
-use Rattle.tpcc_rows.specs.declared.entry.Entry.{Entry}
-use Rattle.tpcc_rows.specs.declared.requests.Order.{Order}
-use Rattle.tpcc_rows.specs.declared.requests.Payment.{Payment}
-use Rattle.tpcc_rows.specs.declared.requests.Request.{Request}
-use Rattle.tpcc_rows.specs.declared.requests.Request.TheVariants as ask
-use Rattle.tpcc_rows.specs.declared.refusals.Refusal.TheVariants as refused
+use Rattle.tpcc_rows.specs.declared.transactions.entry.Entry.{Entry}
+use Rattle.tpcc_rows.specs.declared.transactions.requests.Order.{Order}
+use Rattle.tpcc_rows.specs.declared.transactions.requests.Payment.{Payment}
+use Rattle.tpcc_rows.specs.declared.transactions.requests.Request.{Request}
+use Rattle.tpcc_rows.specs.declared.transactions.requests.Request.TheVariants as ask
+use Rattle.tpcc_rows.specs.declared.transactions.refusals.Refusal.TheVariants as refused
 use Rattle.tpcc_rows.specs.NewOrder.{order_refusal_by_input, order_refusal, order_input_tests}
 use Rattle.tpcc_rows.specs.Payment.{payment_refusal, payment_tests}
 use Rattle.tpcc_rows.specs.Tables.{Rows, State}

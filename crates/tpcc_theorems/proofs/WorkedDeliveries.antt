@@ -1,14 +1,14 @@
 -- Deliveries from the small opening, computed.
 use Rattle.std.proofs.Common.{◌≡◌, refl, ℕ, List, [], ◌∷◌, ◌++◌, suc}
 use Rattle.std.specs.Prelude.{pos, neg_ℤ, Some, None, Option, map, filter, not}
-use Rattle.tpcc_rows.specs.declared.requests.Ticket.{Ticket}
-use Rattle.tpcc_rows.specs.declared.requests.Request.{Request}
-use Rattle.tpcc_rows.specs.declared.refusals.Refusal.TheVariants.{Carrier, QueueFull, NoWarehouse, Count}
-use Rattle.tpcc_rows.specs.declared.refusals.Field.TheVariants.{DeliveryCount}
-use Rattle.tpcc_rows.specs.declared.replies.Delivery.TheVariants.{District, NoneQueued}
-use Rattle.tpcc_rows.specs.declared.replies.Delivered.{Delivered}
-use Rattle.tpcc_rows.specs.declared.entry.Entry.{Entry}
-use Rattle.tpcc_rows.specs.declared.replies.Reply.TheVariants as tell
+use Rattle.tpcc_rows.specs.declared.transactions.requests.Ticket.{Ticket}
+use Rattle.tpcc_rows.specs.declared.transactions.requests.Request.{Request}
+use Rattle.tpcc_rows.specs.declared.transactions.refusals.Refusal.TheVariants.{Carrier, QueueFull, NoWarehouse, Count}
+use Rattle.tpcc_rows.specs.declared.transactions.refusals.Field.TheVariants.{DeliveryCount}
+use Rattle.tpcc_rows.specs.declared.transactions.replies.Delivery.TheVariants.{District, NoneQueued}
+use Rattle.tpcc_rows.specs.declared.transactions.replies.Delivered.{Delivered}
+use Rattle.tpcc_rows.specs.declared.transactions.entry.Entry.{Entry}
+use Rattle.tpcc_rows.specs.declared.transactions.replies.Reply.TheVariants as tell
 use Rattle.tpcc_rows.specs.Lists.{updated}
 use Rattle.tpcc_rows.specs.Tables.{State, is_customer, is_new_order, customer_at, order_at, lines_of}
 use Rattle.tpcc_rows.specs.Conditions.{first_broken}

@@ -1,10 +1,10 @@
 -- Order-Status and Stock-Level on the small opening, computed.
 use Rattle.std.proofs.Common.{◌≡◌, refl, ℕ, [], ◌∷◌}
 use Rattle.std.specs.Prelude.{pos, neg_ℤ, Some, None, codes}
-use Rattle.tpcc_rows.specs.declared.requests.Who.TheVariants.{Number, Name}
-use Rattle.tpcc_rows.specs.declared.refusals.Refusal.TheVariants.{NoDistrict, NoCustomer, Threshold}
-use Rattle.tpcc_rows.specs.declared.replies.StatusLine.{StatusLine}
-use Rattle.tpcc_rows.specs.declared.replies.Reply.TheVariants as tell
+use Rattle.tpcc_rows.specs.declared.transactions.requests.Who.TheVariants.{Number, Name}
+use Rattle.tpcc_rows.specs.declared.transactions.refusals.Refusal.TheVariants.{NoDistrict, NoCustomer, Threshold}
+use Rattle.tpcc_rows.specs.declared.transactions.replies.StatusLine.{StatusLine}
+use Rattle.tpcc_rows.specs.declared.transactions.replies.Reply.TheVariants as tell
 use Rattle.tpcc_rows.specs.Tables.{Rows}
 use Rattle.tpcc_rows.specs.Opening.{plain_rows}
 use Rattle.tpcc_rows.specs.Lookups.{low_stock, status_reply}

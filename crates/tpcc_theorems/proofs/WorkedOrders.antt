@@ -2,16 +2,16 @@
 use Rattle.std.proofs.Common.{◌≡◌, refl, ℕ, List, [], ◌∷◌, ◌++◌}
 use Rattle.std.specs.Prelude.{pos, Some, None, codes, map}
 use Rattle.tpcc_money.specs.Amounts.{total}
-use Rattle.tpcc_rows.specs.declared.requests.Request.{Request}
-use Rattle.tpcc_rows.specs.declared.refusals.Refusal.TheVariants.{LineCount, Quantity, NoSupply, OrderNumbers, Count, Total}
-use Rattle.tpcc_rows.specs.declared.refusals.Field.TheVariants.{StockOrders, StockYtd}
-use Rattle.tpcc_rows.specs.declared.replies.Brand.TheVariants.{Original, Generic}
-use Rattle.tpcc_rows.specs.declared.replies.EnteredLine.{EnteredLine}
-use Rattle.tpcc_rows.specs.declared.replies.Entered.TheVariants.{Accepted, RolledBack}
-use Rattle.tpcc_rows.specs.declared.replies.Reply.{Reply}
-use Rattle.tpcc_rows.specs.declared.replies.Reply.TheVariants as tell
-use Rattle.tpcc_rows.specs.declared.rows.StockRow.{StockRow}
-use Rattle.tpcc_rows.specs.declared.rows.DistrictRow.{DistrictRow}
+use Rattle.tpcc_rows.specs.declared.transactions.requests.Request.{Request}
+use Rattle.tpcc_rows.specs.declared.transactions.refusals.Refusal.TheVariants.{LineCount, Quantity, NoSupply, OrderNumbers, Count, Total}
+use Rattle.tpcc_rows.specs.declared.transactions.refusals.Field.TheVariants.{StockOrders, StockYtd}
+use Rattle.tpcc_rows.specs.declared.transactions.replies.Brand.TheVariants.{Original, Generic}
+use Rattle.tpcc_rows.specs.declared.transactions.replies.EnteredLine.{EnteredLine}
+use Rattle.tpcc_rows.specs.declared.transactions.replies.Entered.TheVariants.{Accepted, RolledBack}
+use Rattle.tpcc_rows.specs.declared.transactions.replies.Reply.{Reply}
+use Rattle.tpcc_rows.specs.declared.transactions.replies.Reply.TheVariants as tell
+use Rattle.tpcc_rows.specs.declared.tables.rows.StockRow.{StockRow}
+use Rattle.tpcc_rows.specs.declared.tables.rows.DistrictRow.{DistrictRow}
 use Rattle.tpcc_rows.specs.Lists.{updated}
 use Rattle.tpcc_rows.specs.Tables.{State, is_stock, is_district, stock_at, lines_of}
 use Rattle.tpcc_rows.specs.Conditions.{first_broken}

@@ -5,16 +5,16 @@ use Rattle.std.specs.List.{range_with_len}
 use Rattle.tpcc_rows.specs.ChosenCustomer.{chosen_customer, customers_named}
 use Rattle.tpcc_rows.specs.Conditions.{first_broken}
 use Rattle.std.specs.List.{concat}
-use Rattle.tpcc_rows.specs.declared.requests.Who.TheVariants.{Number, Name}
-use Rattle.tpcc_rows.specs.declared.requests.Request.{Request}
-use Rattle.tpcc_rows.specs.declared.refusals.Refusal.TheVariants.{Amount, NoCustomer, NoWarehouse, Count, Total}
-use Rattle.tpcc_rows.specs.declared.refusals.Field.TheVariants.{PaymentCount, DistrictYtd, Balance, YtdPayment}
-use Rattle.tpcc_rows.specs.declared.rows.CustomerRow.{CustomerRow}
-use Rattle.tpcc_rows.specs.declared.rows.DistrictRow.{DistrictRow}
-use Rattle.tpcc_rows.specs.declared.entry.Entry.{Entry}
+use Rattle.tpcc_rows.specs.declared.transactions.requests.Who.TheVariants.{Number, Name}
+use Rattle.tpcc_rows.specs.declared.transactions.requests.Request.{Request}
+use Rattle.tpcc_rows.specs.declared.transactions.refusals.Refusal.TheVariants.{Amount, NoCustomer, NoWarehouse, Count, Total}
+use Rattle.tpcc_rows.specs.declared.transactions.refusals.Field.TheVariants.{PaymentCount, DistrictYtd, Balance, YtdPayment}
+use Rattle.tpcc_rows.specs.declared.tables.rows.CustomerRow.{CustomerRow}
+use Rattle.tpcc_rows.specs.declared.tables.rows.DistrictRow.{DistrictRow}
+use Rattle.tpcc_rows.specs.declared.transactions.entry.Entry.{Entry}
 use Rattle.tpcc_rows.specs.Lists.{updated}
 use Rattle.tpcc_rows.specs.Replay.{replay, IsFaithful, paid_by_entries, rise}
-use Rattle.tpcc_rows.specs.declared.replies.Reply.TheVariants as tell
+use Rattle.tpcc_rows.specs.declared.transactions.replies.Reply.TheVariants as tell
 use Rattle.tpcc_rows.specs.Tables.{State, is_customer, is_district, warehouse_at, district_at, customer_at}
 use Rattle.tpcc_rows.specs.Opening.{plain_address, plain_customer}
 use Rattle.tpcc_rows.specs.Turn.{refusal, state_after, reply_to}

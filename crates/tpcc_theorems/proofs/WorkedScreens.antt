@@ -3,9 +3,9 @@ use Rattle.std.proofs.Common.{◌≡◌, refl, ℕ, List, [], ◌∷◌, ◌++�
 use Rattle.std.specs.Prelude.{pos, Some, codes, flat_map, take}
 use Rattle.std.specs.Fmt.{digits}
 use Rattle.tpcc_money.specs.Texts.{year_and_day, month_and_day, moment_text}
-use Rattle.tpcc_rows.specs.declared.requests.Who.TheVariants.{Number}
-use Rattle.tpcc_rows.specs.declared.refusals.Refusal.TheVariants as refused
-use Rattle.tpcc_rows.specs.declared.refusals.Field.TheVariants.{StockOrders, StockYtd}
+use Rattle.tpcc_rows.specs.declared.transactions.requests.Who.TheVariants.{Number}
+use Rattle.tpcc_rows.specs.declared.transactions.refusals.Refusal.TheVariants as refused
+use Rattle.tpcc_rows.specs.declared.transactions.refusals.Field.TheVariants.{StockOrders, StockYtd}
 use Rattle.tpcc_rows.specs.Conditions.{first_broken}
 use Rattle.tpcc_rows.specs.Turn.{state_after, reply_to}
 use Rattle.tpcc_theorems.proofs.Small.{all_definitions, opening, pays, orders, line, asks_status, asks_stock, queues, delivers, after_all, times}

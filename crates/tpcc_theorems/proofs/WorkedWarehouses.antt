@@ -2,8 +2,8 @@
 use Rattle.std.proofs.Common.{◌≡◌, refl, [], ◌∷◌}
 use Rattle.std.specs.Prelude.{pos, neg_ℤ, None, false}
 use Rattle.tpcc_money.specs.Amounts.{total}
-use Rattle.tpcc_rows.specs.declared.requests.Request.{Request}
-use Rattle.tpcc_rows.specs.declared.requests.Who.TheVariants.{Number}
+use Rattle.tpcc_rows.specs.declared.transactions.requests.Request.{Request}
+use Rattle.tpcc_rows.specs.declared.transactions.requests.Who.TheVariants.{Number}
 use Rattle.tpcc_rows.specs.Tables.{Rows, State, warehouse_at, district_at, customer_at, order_at, stock_at, lines_of}
 use Rattle.tpcc_rows.specs.Conditions.{first_broken}
 use Rattle.tpcc_rows.specs.Opening.{plain_rows}

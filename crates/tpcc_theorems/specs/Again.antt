@@ -2,8 +2,8 @@
 use Rattle.std.specs.Prelude.{◌≡◌, ◌⊎◌, ⊤, ℕ, ◌≤◌, true, List, ◌∷◌, ◌++◌, length, map, Option, None, Result, Ok, Err}
 use Rattle.std.specs.Io.KnownBytes.{Appends}
 use Rattle.std.specs.List.{list_all}
-use Rattle.tpcc_rows.specs.declared.requests.Request.{Request}
-use Rattle.tpcc_rows.specs.declared.refusals.Refusal.TheVariants as refused
+use Rattle.tpcc_rows.specs.declared.transactions.requests.Request.{Request}
+use Rattle.tpcc_rows.specs.declared.transactions.refusals.Refusal.TheVariants as refused
 use Rattle.tpcc_book.specs.Past.{Past, IsKept}
 use Rattle.tpcc_text.specs.RequestLines.{journal_lines}
 use Rattle.tpcc_text.specs.Screens.{refused_screen}

@@ -3,8 +3,8 @@ ghost use Rattle.std.specs.Prelude.{◌≡◌, ◌∷◌, ◌≤◌, ℕ, List, 
 ghost use Rattle.std.specs.List.{list_all};
 ghost use Rattle.rand_core.specs.Stream.{Stream};
 ghost use Rattle.tpcc_draws.specs.declared.cards.Card.{Card};
-ghost use Rattle.tpcc_rows.specs.declared.entry.Entry.{Entry};
-ghost use Rattle.tpcc_rows.specs.declared.requests.Request.{Request};
+ghost use Rattle.tpcc_rows.specs.declared.transactions.entry.Entry.{Entry};
+ghost use Rattle.tpcc_rows.specs.declared.transactions.requests.Request.{Request};
 ghost use Rattle.tpcc_book.specs.Past.{Past};
 ghost use Rattle.tpcc_population.specs.declared.opening.Opening.{Opening};
 ghost use Rattle.tpcc_population.specs.Opening.{opening_rows};

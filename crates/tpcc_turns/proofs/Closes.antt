@@ -7,17 +7,18 @@ use mathlib.Core.Option.{some, some-injective, Option as Home}
 use lib.ListN.{get_elem?}
 use Rattle.atomic_table.specs.Table.{State, Final, Seen}
 use Rattle.atomic_table.proofs.Lists.{one_turn}
-use Rattle.tpcc_rows.specs.declared.entry.Entry.{Entry}
+use Rattle.tpcc_rows.specs.declared.transactions.entry.Entry.{Entry}
 use Rattle.tpcc_population.specs.declared.opening.Opening.{Opening}
 use Rattle.tpcc_book.specs.Past.{Past}
 use Rattle.tpcc_turns.specs.Seats.{SeatedView, purses_of}
 use Rattle.tpcc_book.specs.Serve.{rooms_of}
-use Rattle.tpcc_book.specs.Purses.{PoolView, all_parts}
-use Rattle.tpcc_turns.specs.Closing.{TellsBook, IsLeft, IsAudited, IsGathered}
+use Rattle.tpcc_book.specs.Purses.{PoolView, all_shares}
+use Rattle.tpcc_turns.specs.Closing.{IsLeft, IsGathered}
+use Rattle.tpcc_turns.specs.Internal.Closing.{TellsBook, IsAudited}
 use Rattle.tpcc_book.specs.Internal.Pooling.{AreAll}
 use Rattle.tpcc_turns.specs.Internal.Gathering.{HasSeen, AllBegin, HasJoined}
 use Rattle.tpcc_turns.specs.Knows.{Knows, Idle}
-use Rattle.tpcc_turns.specs.TurnRule.{out_of, Stands, AtHome, Away, FollowsTurnRule}
+use Rattle.tpcc_turns.specs.Internal.TurnRule.{out_of, Stands, AtHome, Away, FollowsTurnRule}
 use Rattle.tpcc_turns.proofs.Seats.{total_le}
 use Rattle.tpcc_turns.proofs.Shares.{none_out}
 
@@ -113,7 +114,7 @@ no_book : (book : Past) → None ≡ Some book → ⊥
 no_book book e = cc e
 
 -- with every part in one idle seat there is a book
-pub is_there : (start : Opening) (id : ℕ) (v : Knows) (words : List ℕ) (slots : List (Option Past)) (told : Option Past) → Last start id v words slots → TellsBook words slots told → v.stage ≡ Idle → v.parts ≡ all_parts → told ≡ None → ⊥
+pub is_there : (start : Opening) (id : ℕ) (v : Knows) (words : List ℕ) (slots : List (Option Past)) (told : Option Past) → Last start id v words slots → TellsBook words slots told → v.stage ≡ Idle → v.parts ≡ all_shares → told ≡ None → ⊥
 is_there start id v words slots told last t idle all none =
     let s = last.0 in
     let h : FollowsTurnRule start s = last.1.0 in
@@ -135,7 +136,7 @@ module _ (start : Opening) (purses : List SeatedView) (pool : PoolView) (told : 
   is_left None book l e = absurd (no_book book e)
   is_left (Some x) book l e = subst (IsLeft start purses) (some_of x book e) l
 
-  pub gathers : (r : Ended) → IfOk r (λ x. (pool.parts ≡ all_parts) × (told ≡ Some x.0)) → IfOk r (λ x. IsAudited pool x.0 x.1 x.2) → IfOk r (λ x. IsGathered start purses x.0 x.1 x.2)
+  pub gathers : (r : Ended) → IfOk r (λ x. (pool.parts ≡ all_shares) × (told ≡ Some x.0)) → IfOk r (λ x. IsAudited pool x.0 x.1 x.2) → IfOk r (λ x. IsGathered start purses x.0 x.1 x.2)
   gathers (Ok x) all audited =
       record {
         left = is_left told x.0 left all.1;
@@ -154,10 +155,10 @@ module _ (start : Opening) (purses : List SeatedView) (pool : PoolView) (told : 
   not_ok : (e : Option Past) → IsOk {T = Past × ℕ × ℤ} (Err e) → ⊥
   not_ok e ok = cc ok
 
-  pub all_where_ok : (r : Ended) → IfOk r (λ x. (pool.parts ≡ all_parts) × (told ≡ Some x.0)) → IsOk r → rooms_of (purses_of purses) ≡ all_parts
+  pub all_where_ok : (r : Ended) → IfOk r (λ x. (pool.parts ≡ all_shares) × (told ≡ Some x.0)) → IsOk r → rooms_of (purses_of purses) ≡ all_shares
   all_where_ok (Ok x) all ok = all_rooms ∙ all.0
   all_where_ok (Err e) all ok = absurd (not_ok e ok)
 
-  pub ok_where_all : (r : Ended) → IfErr r (λ e. pool.parts ≡ all_parts → told ≡ None) → (pool.parts ≡ all_parts → told ≡ None → ⊥) → rooms_of (purses_of purses) ≡ all_parts → IsOk r
+  pub ok_where_all : (r : Ended) → IfErr r (λ e. pool.parts ≡ all_shares → told ≡ None) → (pool.parts ≡ all_shares → told ≡ None → ⊥) → rooms_of (purses_of purses) ≡ all_shares → IsOk r
   ok_where_all (Ok x) few there all = refl
   ok_where_all (Err e) few there all = let parts = sym all_rooms ∙ all in absurd (there parts (few parts))

@@ -6,10 +6,11 @@ use mathlib.Core.Option.{some, some-injective}
 use lib.ListN.{get_elem?}
 use Rattle.atomic_table.specs.Table.{State, Step, keeps, Allows}
 use Rattle.atomic_table.proofs.Lists.{set_else}
-use Rattle.tpcc_rows.specs.declared.entry.Entry.{Entry}
+use Rattle.tpcc_rows.specs.declared.transactions.entry.Entry.{Entry}
 use Rattle.tpcc_book.specs.Past.{Past}
 use Rattle.tpcc_turns.specs.Knows.{Knows, Idle, Out, Holds}
-use Rattle.tpcc_turns.specs.TurnRule.{knows, out_of, IsSeated, AtHome, Away, FollowsTurnRule, DrawStep}
+use Rattle.tpcc_turns.specs.Knows.{knows}
+use Rattle.tpcc_turns.specs.Internal.TurnRule.{out_of, IsSeated, AtHome, Away, FollowsTurnRule, DrawStep}
 use Rattle.tpcc_turns.proofs.Seats.{total_set, each_set, apart_set, ticket_below, seated_more_drawn}
 use Rattle.tpcc_population.specs.declared.opening.Opening.{Opening}
 

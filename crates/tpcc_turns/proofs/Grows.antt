@@ -5,10 +5,11 @@ use mathlib.Core.Option.{some}
 use mathlib.Core.List.{IsPrefix}
 use lib.ListN.{get_elem?}
 use Rattle.atomic_table.specs.Table.{State, Step, keeps, Allows}
-use Rattle.tpcc_rows.specs.declared.entry.Entry.{Entry}
+use Rattle.tpcc_rows.specs.declared.transactions.entry.Entry.{Entry}
 use Rattle.tpcc_book.specs.Past.{Past}
 use Rattle.tpcc_turns.specs.Knows.{Knows, Stage, Idle, Out, Holds}
-use Rattle.tpcc_turns.specs.TurnRule.{knows, out_of, HasTicket, Stands, IsSeated, FollowsTurnRule, GrowStep}
+use Rattle.tpcc_turns.specs.Knows.{knows}
+use Rattle.tpcc_turns.specs.Internal.TurnRule.{out_of, HasTicket, Stands, IsSeated, FollowsTurnRule, GrowStep}
 use Rattle.tpcc_turns.proofs.Seats.{total_set, each_set, apart_set, set_same, prefix_self, prefix_trans, heard_on}
 use Rattle.tpcc_turns.proofs.Ends.{holder, some_same, is_away}
 use Rattle.tpcc_population.specs.declared.opening.Opening.{Opening}

@@ -2,9 +2,10 @@
 use Rattle.std.proofs.Common.{◌≡◌, ◌∙◌, suc, List, [], ◌∷◌, ◌++◌, refl, sym, ap, subst, arith}
 use Rattle.std.proofs.lemmas.List.Elements.{All-same, All-push}
 use mathlib.Core.List.{IsPrefix, map-append}
-use Rattle.tpcc_rows.specs.declared.entry.Entry.{Entry}
+use Rattle.tpcc_rows.specs.declared.transactions.entry.Entry.{Entry}
 use Rattle.tpcc_book.specs.Purses.{PoolView, pool_of, pool_with}
-use Rattle.tpcc_turns.specs.Seats.{SeatedView, view_of, purses_of}
+use Rattle.tpcc_turns.specs.Seats.{SeatedView, purses_of}
+use Rattle.tpcc_turns.specs.Internal.Seats.{view_of}
 use Rattle.tpcc_turns.specs.Internal.Gathering.{HasSeen, AllBegin, HasJoined}
 use Rattle.tpcc_turns.specs.Internal.Shares.{both_of, heard_of}
 use Rattle.tpcc_turns.specs.Knows.{Knows}

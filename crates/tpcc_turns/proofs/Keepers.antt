@@ -5,16 +5,18 @@ use mathlib.Core.Option.{some}
 use mathlib.Core.List.{IsPrefix}
 use lib.ListN.{get_elem?}
 use Rattle.atomic_table.specs.Table.{Me, rest}
-use Rattle.tpcc_rows.specs.declared.entry.Entry.{Entry}
-use Rattle.tpcc_rows.specs.declared.requests.Request.{Request}
+use Rattle.tpcc_rows.specs.declared.transactions.entry.Entry.{Entry}
+use Rattle.tpcc_rows.specs.declared.transactions.requests.Request.{Request}
 use Rattle.tpcc_rows.specs.Replay.{count_of}
 use Rattle.tpcc_book.specs.Past.{Past, IsKept}
 use Rattle.tpcc_book.specs.Purses.{PurseView}
 use Rattle.tpcc_book.specs.AnswerView.{AnswerView, answer_with}
 use Rattle.tpcc_book.specs.Serve.{IsServed}
-use Rattle.tpcc_turns.specs.Seats.{SeatedView, view_of, number_of, turn_holder, IsTurned}
+use Rattle.tpcc_turns.specs.Seats.{SeatedView, IsTurned}
+use Rattle.tpcc_turns.specs.Internal.Seats.{view_of, number_of, turn_holder}
 use Rattle.tpcc_turns.specs.Internal.Shares.{heard_of, both_of, back_of}
-use Rattle.tpcc_turns.specs.TurnRule.{knows, IsHeard, HasGrown}
+use Rattle.tpcc_turns.specs.Knows.{knows}
+use Rattle.tpcc_turns.specs.Internal.TurnRule.{IsHeard, HasGrown}
 use Rattle.tpcc_turns.specs.Internal.TurnSteps.{CanGive, CanShow, CanGrow, HasShown}
 use Rattle.tpcc_turns.specs.Knows.{Knows, Holds}
 use Rattle.tpcc_turns.proofs.Seats.{prefix_self}

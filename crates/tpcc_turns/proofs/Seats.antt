@@ -6,13 +6,13 @@ use mathlib.Core.Option.{some, some-ne-none, some-injective}
 use mathlib.Core.List.{IsPrefix}
 use lib.ListN.{get_elem?}
 use Rattle.atomic_table.proofs.Lists.{at_set}
-use Rattle.tpcc_rows.specs.declared.entry.Entry.{Entry}
+use Rattle.tpcc_rows.specs.declared.transactions.entry.Entry.{Entry}
 use Rattle.tpcc_turns.specs.Knows.{Knows, Heard, Stage, Idle, Out, Holds}
-use Rattle.tpcc_turns.specs.TurnRule.{total, HasTicket, Stands, IsHeard, IsSeated}
+use Rattle.tpcc_turns.specs.Internal.TurnRule.{sum_over, HasTicket, Stands, IsHeard, IsSeated}
 use Rattle.tpcc_population.specs.declared.opening.Opening.{Opening}
 
--- the total after a change of one seat
-pub total_set : (f : Knows → ℕ) (views : List Knows) (j : ℕ) (v w : Knows) → get_elem? views j ≡ some v → total f (set views j w) + f v ≡ total f views + f w
+-- the sum_over after a change of one seat
+pub total_set : (f : Knows → ℕ) (views : List Knows) (j : ℕ) (v w : Knows) → get_elem? views j ≡ some v → sum_over f (set views j w) + f v ≡ sum_over f views + f w
 total_set f [] j v w e = absurd (some-ne-none v (sym e))
 total_set f (x ∷ xs) zero v w e =
     let same : x ≡ v = some-injective x v e in omega (arith, ap f same)
@@ -64,7 +64,7 @@ set_same (x ∷ xs) zero v w e = refl
 set_same (x ∷ xs) (suc j) v w e = set_same xs j v w e
 
 -- no more tickets are out than there are parts
-pub total_le : (f g : Knows → ℕ) (views : List Knows) → ((j : ℕ) (v : Knows) → get_elem? views j ≡ some v → f v ≤ g v) → total f views ≤ total g views
+pub total_le : (f g : Knows → ℕ) (views : List Knows) → ((j : ℕ) (v : Knows) → get_elem? views j ≡ some v → f v ≤ g v) → sum_over f views ≤ sum_over g views
 total_le f g [] h = omega arith
 total_le f g (x ∷ xs) h = omega (arith, h 0 x refl, total_le f g xs (λ j v e. h (suc j) v e))
 

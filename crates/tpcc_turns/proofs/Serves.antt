@@ -4,16 +4,18 @@ use Rattle.std.specs.Prelude.{Option, None}
 use Rattle.std.proofs.Math.Nat.{mod-add-mod}
 use mathlib.Core.List.{IsPrefix}
 use Rattle.atomic_table.specs.Table.{Me, rest}
-use Rattle.tpcc_rows.specs.declared.entry.Entry.{Entry}
+use Rattle.tpcc_rows.specs.declared.transactions.entry.Entry.{Entry}
 use Rattle.tpcc_book.specs.Past.{Past}
 use Rattle.tpcc_turns.specs.Knows.{Knows, Idle, Holds}
-use Rattle.tpcc_turns.specs.TurnRule.{knows, HasBook}
+use Rattle.tpcc_turns.specs.Knows.{knows}
+use Rattle.tpcc_turns.specs.Internal.TurnRule.{HasBook}
 use Rattle.tpcc_turns.specs.Internal.TurnSteps.{HasDrawn, HasTaken, CanGive, CanEnd}
-use Rattle.tpcc_turns.specs.Seats.{SeatedView, view_of, IsTurned}
+use Rattle.tpcc_turns.specs.Seats.{SeatedView, IsTurned}
+use Rattle.tpcc_turns.specs.Internal.Seats.{view_of}
 use Rattle.std.specs.Prelude.{Result}
-use Rattle.tpcc_rows.specs.declared.requests.Request.{Request}
-use Rattle.tpcc_rows.specs.declared.replies.Reply.{Reply}
-use Rattle.tpcc_rows.specs.declared.refusals.Refusal.{Refusal}
+use Rattle.tpcc_rows.specs.declared.transactions.requests.Request.{Request}
+use Rattle.tpcc_rows.specs.declared.transactions.replies.Reply.{Reply}
+use Rattle.tpcc_rows.specs.declared.transactions.refusals.Refusal.{Refusal}
 use Rattle.tpcc_book.specs.Purses.{PurseView}
 use Rattle.tpcc_book.specs.AnswerView.{AnswerView, answer_with}
 use Rattle.tpcc_book.specs.Serve.{IsServed, purse_after}

@@ -6,11 +6,12 @@ use mathlib.Core.Option.{some, some-ne-none, some-injective, Option as Home}
 use lib.ListN.{get_elem?}
 use Rattle.atomic_table.specs.Table.{State, Splits, Joins}
 use Rattle.atomic_table.proofs.Lists.{at_snoc, at_longer, set_else}
-use Rattle.tpcc_rows.specs.declared.entry.Entry.{Entry}
+use Rattle.tpcc_rows.specs.declared.transactions.entry.Entry.{Entry}
 use Rattle.tpcc_book.specs.Past.{Past}
-use Rattle.tpcc_book.specs.Purses.{all_parts}
+use Rattle.tpcc_book.specs.Purses.{all_shares}
 use Rattle.tpcc_turns.specs.Knows.{Knows, Stage, Heard, Idle, Out, Holds}
-use Rattle.tpcc_turns.specs.TurnRule.{knows, out_of, total, HasTicket, IsHeard, IsSeated, AtHome, Away, FollowsTurnRule, no_opening}
+use Rattle.tpcc_turns.specs.Knows.{knows}
+use Rattle.tpcc_turns.specs.Internal.TurnRule.{out_of, sum_over, HasTicket, IsHeard, IsSeated, AtHome, Away, FollowsTurnRule, no_opening}
 use Rattle.tpcc_turns.specs.Internal.Shares.{kept_of, given_of, heard_of, both_of, nobody, last_parts, freed_of, back_of}
 use Rattle.tpcc_turns.proofs.Seats.{total_set, total_le, each_set, apart_set, set_same}
 use Rattle.tpcc_population.specs.declared.opening.Opening.{Opening}
@@ -79,7 +80,7 @@ seated_more start log served drawn homes views w h idle fits =
           h.book;
     }
 
-total_more : (f : Knows → ℕ) (views : List Knows) (w : Knows) → total f (views ++ w ∷ []) ≡ total f views + f w
+total_more : (f : Knows → ℕ) (views : List Knows) (w : Knows) → sum_over f (views ++ w ∷ []) ≡ sum_over f views + f w
 total_more f [] w = omega arith
 total_more f (x ∷ xs) w = omega (arith, total_more f xs w)
 
@@ -170,7 +171,7 @@ frees start id v has few s h at =
     }
 
 -- once every part is in one idle seat no ticket is out
-pub none_out : (start : Opening) (s : State (Option Past) Knows) (id : ℕ) (v : Knows) (h : FollowsTurnRule start s) → get_elem? s.views id ≡ some v → v.stage ≡ Idle → v.parts ≡ all_parts → h.drawn ≡ h.served
+pub none_out : (start : Opening) (s : State (Option Past) Knows) (id : ℕ) (v : Knows) (h : FollowsTurnRule start s) → get_elem? s.views id ≡ some v → v.stage ≡ Idle → v.parts ≡ all_shares → h.drawn ≡ h.served
 none_out start s id v h at idle all =
     let none = knows no_opening [] 0 Idle [] in
     let out = λ (u : Knows). out_of u.stage in

@@ -3,11 +3,11 @@ use Rattle.std.proofs.Common.{◌≡◌, ℕ, zero, suc, List, [], ◌∷◌, re
 use mathlib.Core.Option.{some, some-ne-none, some-injective}
 use lib.ListN.{get_elem?}
 use Rattle.atomic_table.specs.Table.{opening}
-use Rattle.tpcc_rows.specs.declared.entry.Entry.{Entry}
+use Rattle.tpcc_rows.specs.declared.transactions.entry.Entry.{Entry}
 use Rattle.tpcc_book.specs.Past.{Past, opening_past}
 use Rattle.std.specs.Prelude.{Option}
 use Rattle.tpcc_turns.specs.Knows.{Knows, Idle, Holds}
-use Rattle.tpcc_turns.specs.TurnRule.{first, HasTicket, IsSeated, FollowsTurnRule}
+use Rattle.tpcc_turns.specs.Internal.TurnRule.{first, HasTicket, IsSeated, FollowsTurnRule}
 use Rattle.tpcc_population.specs.declared.opening.Opening.{Opening}
 
 pub starts : (start : Opening) (book : Past) → book.opening ≡ start → book.entries ≡ [] → FollowsTurnRule start (opening (0 ∷ 0 ∷ []) (Some book ∷ []) (first start))

@@ -1,36 +1,15 @@
 -- What is known of the book when the turns end.
-use Rattle.std.specs.Prelude.{ℕ, ℤ, ◌≡◌, ◌==◌, List, length, All, Option, None, if◌then◌else◌}
-use mathlib.Core.Option.{some}
+use Rattle.std.specs.Prelude.{ℕ, ℤ, ◌≡◌, List, length, All}
 use mathlib.Core.List.{IsPrefix}
-use lib.ListN.{get_elem?}
 use Rattle.tpcc_population.specs.declared.opening.Opening.{Opening}
 use Rattle.tpcc_book.specs.Past.{Past, IsKept, rise_of}
-use Rattle.tpcc_book.specs.Purses.{PoolView}
 use Rattle.tpcc_book.specs.Serve.{entries_of, paid_of}
 use Rattle.tpcc_turns.specs.Seats.{SeatedView, purses_of}
-
--- the slot is told where the two words agree
-pub record TellsBook {B : Type 0} (words : List ℕ) (slots : List (Option B)) (told : Option B) : Type 0 where
-  pub drawn : ℕ
-  pub served : ℕ
-  pub slot : Option B
-  pub drawn_is : get_elem? words 0 ≡ some drawn
-  pub served_is : get_elem? words 1 ≡ some served
-  pub slot_is : get_elem? slots 0 ≡ some slot
-  pub told_is : told ≡ (if drawn == served then slot else None)
 
 -- the book of these turns, whose journal begins with all that each purse had seen
 pub record IsLeft (start : Opening) (purses : List SeatedView) (book : Past) : Type 0 where
   pub opening : book.opening ≡ start
   pub begins : All (λ p. IsPrefix p.front book.entries) purses
-
--- what is pooled are the book's two totals
-pub record IsAudited (pool : PoolView) (book : Past) (entries : ℕ) (paid : ℤ) : Type 0 where
-  pub kept : IsKept book
-  pub entries_are : entries ≡ pool.entries
-  pub entries_counted : entries ≡ length book.entries
-  pub paid_is : paid ≡ pool.paid
-  pub paid_rose : paid ≡ rise_of book
 
 -- once every purse is there: their entries are the journal's, and their payments are the rise of W_YTD
 pub record IsGathered (start : Opening) (purses : List SeatedView) (book : Past) (entries : ℕ) (paid : ℤ) : Type 0 where

@@ -1,6 +1,6 @@
 -- What a seat at the turns knows.
 use Rattle.std.specs.Prelude.{ℕ, List}
-use Rattle.tpcc_rows.specs.declared.entry.Entry.{Entry}
+use Rattle.tpcc_rows.specs.declared.transactions.entry.Entry.{Entry}
 use Rattle.tpcc_population.specs.declared.opening.Opening.{Opening}
 
 -- where a seat stands: it has no ticket; or it drew this ticket, counted from 0 without end, and waits; or it is served at this
@@ -25,3 +25,8 @@ pub record Knows : Type 0 where
   pub parts : ℕ
   pub stage : Stage
   pub told : List Heard
+
+-- the same, field by field
+abbrev pub knows : Opening → List Entry → ℕ → Stage → List Heard → Knows
+knows start front parts stage told =
+    record { start = start; front = front; parts = parts; stage = stage; told = told }

@@ -57,7 +57,7 @@ impl<N: Naming, T: Seating> Drop for Turns<N, T> {
 
 impl<N: Naming, T: Seating> Model for Turns<N, T> {
     ghost use Rattle.tpcc_population.specs.declared.opening.Opening.{Opening};
-    ghost use Rattle.tpcc_turns.specs.Seats.{IsTurnTable};
+    ghost use Rattle.tpcc_turns.specs.Internal.Seats.{IsTurnTable};
 
     ghost Value = { Opening };
 

@@ -1,13 +1,13 @@
 -- What a prepared request is: finishing it takes no memory and can't fail.
 use Rattle.std.specs.Prelude.{ℕ, ◌≡◌, ◌<◌, List, Option, Some, None, Result, Ok, Err, unwrap_or, true}
 use Rattle.std.specs.Option.{option_or}
-use Rattle.tpcc_rows.specs.declared.entry.Entry.{Entry}
-use Rattle.tpcc_rows.specs.declared.refusals.Refusal.{Refusal}
-use Rattle.tpcc_rows.specs.declared.requests.Request.{Request}
-use Rattle.tpcc_rows.specs.declared.requests.Request.TheVariants as ask
+use Rattle.tpcc_rows.specs.declared.transactions.entry.Entry.{Entry}
+use Rattle.tpcc_rows.specs.declared.transactions.refusals.Refusal.{Refusal}
+use Rattle.tpcc_rows.specs.declared.transactions.requests.Request.{Request}
+use Rattle.tpcc_rows.specs.declared.transactions.requests.Request.TheVariants as ask
 use Rattle.tpcc_rows.specs.Ranges.{is_carrier}
 use Rattle.tpcc_rows.specs.Tables.{State}
-use Rattle.tpcc_tables.specs.Held.{Held}
+use Rattle.tpcc_tables.specs.TablesView.{TablesView}
 use Rattle.tpcc_delivery.specs.QueueView.{QueueView}
 use Rattle.tpcc_rows.specs.Lookups.{stock_reply}
 use Rattle.tpcc_rows.specs.Turn.{refusal}
@@ -35,10 +35,10 @@ pub record Rooms : Type 0 where
   pub ticket : ℕ
 
 -- the state of the tables and the queue, and the rooms in them
-abbrev pub state_of : Held → QueueView → State
+abbrev pub state_of : TablesView → QueueView → State
 state_of tables queue = record { rows = tables.rows; queue = queue.tickets }
 
-abbrev pub room_in : Held → QueueView → Rooms
+abbrev pub room_in : TablesView → QueueView → Rooms
 room_in tables queue = record { order = tables.order_room; payment = tables.payment_room; ticket = queue.room }
 
 -- the room that it needs

@@ -1,6 +1,6 @@
 //! The shares of purses, put together.
 ghost use Rattle.std.specs.Prelude.{◌≡◌, ◌<◌, ◌≤◌, ◌*◌, ◌^◌, pos};
-ghost use Rattle.tpcc_book.specs.Purses.{all_parts, pool_of, pool_with};
+ghost use Rattle.tpcc_book.specs.Purses.{all_shares, pool_of, pool_with};
 
 use crate::naming::{Entries, Naming, PaidCents};
 use crate::purse::Purse;
@@ -29,7 +29,7 @@ pub struct Pool<N: Naming> {
     ghost entry_amount: { entry_share.amount ≡ entries },
     ghost cent_amount: { cent_share.amount ≡ cents },
     /// No more parts than a book has, of which none has more than a purse can have.
-    ghost few: { parts ≤ all_parts },
+    ghost few: { parts ≤ all_shares },
     ghost entries_small: { entries ≤ parts * 2 ^ 64 },
     ghost cents_small: { cents ≤ parts * 2 ^ 64 },
 }
@@ -97,7 +97,7 @@ impl<N: Naming> Pool<N> {
         entries: &mut LedgerBook<Entries<N>>,
         cents: &mut LedgerBook<PaidCents<N>>,
     ) -> (u64, Cents)
-        requires all { self.parts ≡ all_parts }
+        requires all { self.parts ≡ all_shares }
         requires entries { entries.old.total < 2 ^ 63 }
         requires cents { cents.old.total < 2 ^ 63 }
         ensures entries { (entries.new.total ≡ entries.old.total) × (result.0 ≡ self.entries)

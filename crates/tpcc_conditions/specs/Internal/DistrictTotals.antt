@@ -1,6 +1,6 @@
 -- 3.3.2.1: D_YTD of the districts of a warehouse.
 use Rattle.std.specs.Prelude.{ℕ, ◌==◌, ℤ, pos, if◌then◌else◌, Option, Some, None}
-use Rattle.tpcc_rows.specs.declared.rows.DistrictRow.{DistrictRow}
+use Rattle.tpcc_rows.specs.declared.tables.rows.DistrictRow.{DistrictRow}
 
 -- of a row of the warehouse, 0 of another one
 abbrev pub total_in : ℕ → DistrictRow → ℤ

@@ -6,8 +6,8 @@ use Rattle.tpcc_core.specs.declared.mailbox.Hand.TheVariants as hand
 use Rattle.tpcc_core.specs.declared.mailbox.Mailbox.TheVariants as box
 use Rattle.tpcc_core.specs.declared.mailbox.Letter.{Letter}
 use Rattle.tpcc_core.specs.Seats.{SeatNow}
-use Rattle.tpcc_core.specs.SeatSteps.{IsTakenFrom}
-use Rattle.tpcc_core.specs.Hands.{IsGiven}
+use Rattle.tpcc_core.specs.Internal.SeatSteps.{IsTakenFrom}
+use Rattle.tpcc_core.specs.Internal.Hands.{IsGiven}
 
 -- the letter of a posted mailbox is in a hand
 pub record IsHanded {P : Type 0} (seat : SeatNow P) (held : Hand P) (server terminal : ℕ) (after : SeatNow P) (holds : Hand P) : Type 0 where

@@ -3,7 +3,7 @@ use Rattle.std.specs.Prelude.{◌≡◌, ℕ, ◌-◌, true, map, min, vec_len, 
 use Rattle.std.specs.List.{list_all}
 use Rattle.tpcc_rows.specs.Replay.{count_of}
 use Rattle.tpcc_journal.specs.declared.journal.Journal.TheInside.{Inside}
-use Rattle.tpcc_journal.specs.Kept.{entry_in, is_in}
+use Rattle.tpcc_journal.specs.Internal.Kept.{entry_in, is_in}
 use Rattle.tpcc_journal.specs.Log.{Log}
 use Rattle.tpcc_journal.specs.Internal.Tallies.{tally_of}
 

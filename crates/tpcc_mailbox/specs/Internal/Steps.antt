@@ -4,10 +4,11 @@ use prog.Atomic.{either}
 use Rattle.std.specs.Prelude.{◌≡◌, ◌≢◌, ℕ, Bool, true, nat_eq, List, [], ◌∷◌, ◌++◌, ◌==◌, Option, Some, None}
 use Rattle.atomic_table.specs.Table.{Me, Step, step, rest, Allows}
 use Rattle.atomic_table.specs.declared.shared.Seat.{Seat}
-use Rattle.tpcc_mailbox.specs.declared.rule.Mail.{Mail}
-use Rattle.tpcc_mailbox.specs.declared.rule.Mail.TheVariants.{Letter, Reply}
+use Rattle.tpcc_mailbox.specs.declared.words.rule.Mail.{Mail}
+use Rattle.tpcc_mailbox.specs.declared.words.rule.Mail.TheVariants.{Letter, Reply}
 use Rattle.tpcc_mailbox.specs.Views.{Fresh, Free, Sent, Role, Client, Server, Holder, View}
-use Rattle.tpcc_mailbox.specs.Rule.{view_with, spent, word_of, Ruled}
+use Rattle.tpcc_mailbox.specs.Rule.{view_with}
+use Rattle.tpcc_mailbox.specs.Internal.Rule.{spent, word_of, FollowsRule}
 
 -- what a seat knows and which slots it has in hand
 abbrev pub SeatState : Type 0 → Type 0 → Type 0
@@ -65,8 +66,8 @@ module _ {J A : Type 0} where
 
 -- a seat may make this step on the word of a mailbox
 abbrev pub MayStep : {J A : Type 0} → (J → A → Type 0) → (WordStep J A → SeatState J A → ℕ → SeatState J A → Type 0) → ℕ → Seat (Option (Mail J A)) (View J) → ℕ → ℕ → ℕ → Type 0
-MayStep fits then slots s k old new = Allows (Ruled fits) slots s.id s.me (word_of k) (λ n. either (n == old) new n) (then (step slots (word_of k) old new none) s.me)
+MayStep fits then slots s k old new = Allows (FollowsRule fits) slots s.id s.me (word_of k) (λ n. either (n == old) new n) (then (step slots (word_of k) old new none) s.me)
 
 -- the seat may give the slot in hand back by a load of the first word, and has no other
 abbrev pub MayReturn : {J A : Type 0} → (J → A → Type 0) → ℕ → Seat (Option (Mail J A)) (View J) → Type 0
-MayReturn fits slots s = Allows (Ruled fits) slots s.id s.me 0 (λ n. n) (ReturnStep (step slots 0 0 0 none) s.me) × (rest s.me.1 ≡ [])
+MayReturn fits slots s = Allows (FollowsRule fits) slots s.id s.me 0 (λ n. n) (ReturnStep (step slots 0 0 0 none) s.me) × (rest s.me.1 ≡ [])

@@ -1,12 +1,12 @@
 -- What the lines of an order leave of a STOCK row, and what is known of its lines.
 use Rattle.std.specs.Prelude.{◌≡◌, ◌≤◌, ◌+◌, ◌-◌, ◌*◌, nat_le, ◌==◌, ◌&&◌, ℕ, Bool, true, List, length, is_some, if◌then◌else◌}
 use Rattle.std.specs.List.{list_all}
-use Rattle.tpcc_rows.specs.declared.rows.StockRow.{StockRow}
-use Rattle.tpcc_rows.specs.declared.requests.Line.{Line}
+use Rattle.tpcc_rows.specs.declared.tables.rows.StockRow.{StockRow}
+use Rattle.tpcc_rows.specs.declared.transactions.requests.Line.{Line}
 use Rattle.tpcc_rows.specs.Ranges.{is_within, greatest_count, greatest_stock_ytd}
 use Rattle.tpcc_rows.specs.Tables.{Rows, find_item, find_stock}
 use Rattle.tpcc_rows.specs.NewOrder.{quantity_after}
-use Rattle.tpcc_new_order.specs.declared.supply.StockNumbers.{StockNumbers}
+use Rattle.tpcc_new_order.specs.declared.writing.supply.StockNumbers.{StockNumbers}
 
 -- the columns of a STOCK row that an order changes
 abbrev pub numbers_of : StockRow → StockNumbers

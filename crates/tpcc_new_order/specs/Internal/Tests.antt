@@ -1,18 +1,18 @@
 -- What tells that an order is refused, test by test.
 use Rattle.std.specs.Prelude.{◌≡◌, ◌==◌, ◌||◌, Bool, not, ℕ, List, [], ◌∷◌, length, is_none, Some, None, nat_lt}
 use Rattle.std.specs.List.{list_any}
-use Rattle.tpcc_rows.specs.declared.rows.StockRow.{StockRow}
-use Rattle.tpcc_rows.specs.declared.requests.Line.{Line}
-use Rattle.tpcc_rows.specs.declared.requests.Order.{Order}
-use Rattle.tpcc_rows.specs.declared.refusals.Refusal.{Refusal}
-use Rattle.tpcc_rows.specs.declared.refusals.Refusal.TheVariants.{LineCount, Quantity, NoSupply, OrderNumbers, Count, Total}
-use Rattle.tpcc_rows.specs.declared.refusals.Field.TheVariants.{StockOrders, RemoteOrders, StockYtd}
+use Rattle.tpcc_rows.specs.declared.tables.rows.StockRow.{StockRow}
+use Rattle.tpcc_rows.specs.declared.transactions.requests.Line.{Line}
+use Rattle.tpcc_rows.specs.declared.transactions.requests.Order.{Order}
+use Rattle.tpcc_rows.specs.declared.transactions.refusals.Refusal.{Refusal}
+use Rattle.tpcc_rows.specs.declared.transactions.refusals.Refusal.TheVariants.{LineCount, Quantity, NoSupply, OrderNumbers, Count, Total}
+use Rattle.tpcc_rows.specs.declared.transactions.refusals.Field.TheVariants.{StockOrders, RemoteOrders, StockYtd}
 use Rattle.tpcc_rows.specs.Ranges.{is_within, is_count, greatest_order, greatest_stock_ytd}
 use Rattle.tpcc_rows.specs.Tables.{Rows, find_warehouse, find_district, find_customer}
 use Rattle.tpcc_rows.specs.NewOrder.{order_refusal_by_input}
-use Rattle.tpcc_new_order.specs.declared.order_rows.OrderRows.{OrderRows}
-use Rattle.tpcc_new_order.specs.declared.ranges.Overruns.{Overruns}
-use Rattle.tpcc_new_order.specs.declared.supply.StockNumbers.{StockNumbers}
+use Rattle.tpcc_new_order.specs.declared.reading.order_rows.OrderRows.{OrderRows}
+use Rattle.tpcc_new_order.specs.declared.reading.ranges.Overruns.{Overruns}
+use Rattle.tpcc_new_order.specs.declared.writing.supply.StockNumbers.{StockNumbers}
 
 -- the tests of an order's lines
 unfoldable pub line_tests : Rows → List Line → List (Bool × Refusal)

@@ -3,7 +3,7 @@ use Rattle.std.specs.Prelude.{ℕ, List, ◌≡◌, ◌≤◌, ◌-◌, ◌++◌
 use Rattle.std.specs.List.{list_all}
 use Rattle.std.proofs.Common.{arith, ap, ◌∙◌, sym, take-append-drop, length-take-le}
 use Rattle.tpcc_rows.specs.Printable.{is_printable}
-use Rattle.tpcc_rows.specs.declared.text.Text.TheInside.{Inside}
+use Rattle.tpcc_rows.specs.declared.values.text.Text.TheInside.{Inside}
 
 -- the bytes that are used
 abbrev pub used_bytes : {N : ℕ} → Inside N → List ℕ

@@ -1,7 +1,7 @@
 -- Which fault a run is to end with.
 use Rattle.std.specs.Prelude.{◌≡◌, ◌⊎◌, Option, Some, None}
-use Rattle.tpcc_run.specs.declared.threads.asking.OperatorBack.{OperatorBack}
-use Rattle.tpcc_run.specs.declared.threads.asking.OperatorBack.TheVariants.{All, Short, Missing}
+use Rattle.tpcc_run.specs.declared.threads.operator_work.OperatorBack.{OperatorBack}
+use Rattle.tpcc_run.specs.declared.threads.operator_work.OperatorBack.TheVariants.{All, Short, Missing}
 use Rattle.tpcc_run.specs.declared.threads.fault.RunFault.{RunFault}
 use Rattle.tpcc_run.specs.declared.threads.fault.RunFault.TheVariants as faults
 

@@ -5,7 +5,7 @@ use Rattle.tpcc_rows.specs.Layout.{Scale}
 use Rattle.tpcc_run.specs.declared.plan.Plan.{Plan}
 use Rattle.tpcc_turns.specs.Seats.{SeatedView, keeper_of}
 use Rattle.tpcc_terminal.specs.declared.receipts.Receipt.{Receipt}
-use Rattle.tpcc_run.specs.Posts.{Post}
+use Rattle.tpcc_run.specs.OperatorView.{OperatorView}
 use Rattle.tpcc_run.specs.Purses.{split_off}
 use Rattle.tpcc_run.specs.Working.{HasWorked, HasRun}
 use Rattle.tpcc_run.specs.Returned.{HasKept, returned_of, without_receipts}
@@ -34,7 +34,7 @@ pub record HaveStarted (scale : Scale) (plan : Plan) (numbers : List ℕ) (promi
   pub promised : All (IsPromised Cards scale plan) promises
 
 -- each promise was kept by the terminal at its place
-abbrev pub AreKept : List ComesBack → List Post → Type 0
+abbrev pub AreKept : List ComesBack → List OperatorView → Type 0
 AreKept [] [] = ⊤
 AreKept [] (post ∷ posts) = ⊥
 AreKept (promise ∷ promises) [] = ⊥
@@ -42,13 +42,13 @@ AreKept (promise ∷ promises) (post ∷ posts) = HasWorked promise.duty promise
 
 -- the terminals that had promised this were joined, and kept behind what was there
 pub record HaveJoined (promises : List ComesBack) (purses : List SeatedView) (receipts : List (Vec Receipt Global)) (new_purses : List SeatedView) (new_receipts : List (Vec Receipt Global)) : Type 0 where
-  pub posts : List Post
+  pub posts : List OperatorView
   pub are_kept : AreKept promises posts
   pub kept : HasKept (map returned_of posts) purses receipts new_purses new_receipts
 
 -- so was the delivery runner, which then asked for the rest
 pub record HasJoinedRunner (promise : ComesBack) (purses : List SeatedView) (receipts : List (Vec Receipt Global)) (new_purses : List SeatedView) (new_receipts : List (Vec Receipt Global)) : Type 0 where
-  pub post : Post
+  pub post : OperatorView
   pub run : HasRun promise.scale promise.plan promise.number post
   pub kept : HasKept (returned_of post ∷ []) purses receipts new_purses new_receipts
 

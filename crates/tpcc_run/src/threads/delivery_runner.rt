@@ -6,10 +6,10 @@ ghost use Rattle.tpcc_run.specs.Internal.Started.{HasJoinedRunner, IsPromised};
 ghost use Rattle.tpcc_run.specs.declared.threads.duty.Duty.TheVariants.{Deliveries};
 
 use crate::threads::RunThreads;
-use crate::threads::asking::OperatorBack;
 use crate::threads::duty::Duty;
 use crate::threads::fault::RunFault;
 use crate::threads::job_turns::JobTurns;
+use crate::threads::operator_work::OperatorBack;
 use crate::threads::promises::TerminalHandle;
 use crate::threads::results::ThreadResults;
 use std::alloc::{AllocError, Global};

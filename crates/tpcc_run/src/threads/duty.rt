@@ -1,6 +1,7 @@
 //! What an operator asks next.
 ghost use Rattle.std.specs.Prelude.{◌≡◌, IfOk, true};
-ghost use Rattle.tpcc_run.specs.Asking.{IsEndless, IsNext};
+ghost use Rattle.tpcc_run.specs.Asking.{IsNext};
+ghost use Rattle.tpcc_run.specs.Internal.Asking.{IsEndless};
 
 use tpcc_money::Moment;
 use tpcc_rows::{NoMemory, Request};

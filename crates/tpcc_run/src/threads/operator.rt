@@ -40,9 +40,9 @@ impl<'s, N: Naming, T: Seating, C> Drop for Operator<'s, N, T, C> {
 
 impl<'s, N: Naming, T: Seating, C> Model for Operator<'s, N, T, C> {
     ghost use Rattle.tpcc_terminal.specs.Receipts.{AllStand};
-    ghost use Rattle.tpcc_run.specs.Posts.{Post};
+    ghost use Rattle.tpcc_run.specs.OperatorView.{OperatorView};
 
-    ghost Value = { Post };
+    ghost Value = { OperatorView };
 
     ghost view = { λ o. record { purse = o.purse; station = o.terminal } };
 

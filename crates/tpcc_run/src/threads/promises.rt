@@ -1,11 +1,11 @@
 //! What the threads of a run promise of what they give back.
 ghost use Rattle.std.specs.Prelude.{◌≡◌};
 ghost use Rattle.tpcc_turns.specs.Seats.{keeper_of};
-ghost use Rattle.tpcc_run.specs.Working.{HasComeBack};
+ghost use Rattle.tpcc_run.specs.Internal.Working.{HasComeBack};
 
 use crate::plan::Plan;
-use crate::threads::asking::OperatorBack;
 use crate::threads::duty::Duty;
+use crate::threads::operator_work::OperatorBack;
 use std::snapshot::Snapshot;
 use std::thread::{Promise, PromisedHandle};
 use tpcc_book::Naming;

@@ -3,12 +3,13 @@ ghost use Rattle.std.specs.Prelude.{◌≡◌, ◌<◌, ◌≤◌, ◌⊎◌, �
 ghost use Rattle.tpcc_terminal.specs.Receipts.{AllStand};
 ghost use Rattle.tpcc_audit.specs.Settlement.{AllSeen, all_receipts};
 ghost use Rattle.tpcc_run.specs.Internal.Faults.{HasNoted, noted};
-ghost use Rattle.tpcc_run.specs.Returned.{HasKept, HasKeptBack, returned_of};
+ghost use Rattle.tpcc_run.specs.Returned.{HasKept, returned_of};
+ghost use Rattle.tpcc_run.specs.Internal.Returned.{HasKeptBack};
 ghost use Rattle.tpcc_run.specs.declared.threads.fault.RunFault.TheVariants.{NoMemory};
 
-use crate::threads::asking::OperatorBack;
 use crate::threads::fault::RunFault;
 use crate::threads::operator::Operator;
+use crate::threads::operator_work::OperatorBack;
 use std::alloc::Global;
 use tpcc_book::Naming;
 use tpcc_terminal::Receipt;

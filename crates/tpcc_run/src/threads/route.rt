@@ -80,7 +80,7 @@ impl<'s, N: Naming, T: Seating, C: OneTurn> Route<'s, N, T, C> {
 }
 
 impl<'s, N: Naming, T: Seating, C: OneTurn> MailboxRoute<'s, N, T, C> {
-    // Posts the job, and waits for its answer.
+    // OperatorView the job, and waits for its answer.
     fn ask<R: Wait>(
         self,
         rt: &R,

@@ -9,10 +9,10 @@ ghost use Rattle.tpcc_run.specs.Internal.Started.{HasAdded, HaveJoined, HaveStar
 ghost use Rattle.tpcc_run.specs.Working.{HasWorked};
 
 use crate::threads::RunThreads;
-use crate::threads::asking::OperatorBack;
 use crate::threads::duty::Duty;
 use crate::threads::job_turns::JobTurns;
 use crate::threads::operator::Operator;
+use crate::threads::operator_work::OperatorBack;
 use crate::threads::promises::{ComesBack, TerminalHandle};
 use crate::threads::results::ThreadResults;
 use crate::threads::route::Route;

@@ -3,7 +3,8 @@ ghost use Rattle.std.specs.Prelude.{◌≡◌, ◌+◌, ◌-◌, ◌≤◌, ◌^
 ghost use Rattle.std.specs.Io.KnownBytes.{Appends};
 ghost use Rattle.csv.specs.Writing.{default_writer, row_text};
 ghost use Rattle.tpcc_show.specs.Columns as columns;
-ghost use Rattle.tpcc_show.specs.Dump.{dump_text, records_from, records_text, rows_of};
+ghost use Rattle.tpcc_show.specs.Dump.{dump_text, records_text, rows_of};
+ghost use Rattle.tpcc_show.specs.Internal.Dump.{records_from};
 ghost use Rattle.tpcc_show.specs.Internal.Output.{HasTakenText};
 ghost use Rattle.tpcc_text.specs.Prefix.{AppendsPrefix, PassesBytes};
 ghost use Rattle.tpcc_show.specs.Records.{record_of};

@@ -1,7 +1,7 @@
 -- The parts of the districts, and what always holds of them.
 use Rattle.std.specs.Prelude.{◌≡◌, ℕ, ◌+◌, ◌<◌, ◌≤◌, ◌^◌, Bool, true, List, [], All, flat_map, length, map, take, drop}
 use Rattle.std.specs.List.{list_all, AllWithin}
-use Rattle.tpcc_rows.specs.declared.keys.DistrictKey.{DistrictKey}
+use Rattle.tpcc_rows.specs.declared.tables.keys.DistrictKey.{DistrictKey}
 use Rattle.tpcc_rows.specs.Lists.{by_key, is_ascending, inserted, key_before}
 use Rattle.tpcc_storage.specs.Internal.DistrictRows.{DistrictRows}
 use Rattle.tpcc_storage.specs.Searches.{is_same_key}
@@ -46,7 +46,7 @@ pub record IsOpened {T : Type 0} (owner : DistrictKey) (room : ℕ) (old new : L
   pub put : new ≡ inserted (by_key part_numbers) part old
 
 -- so many rows in all, and room for so many more in each part
-pub record AreParts {T : Type 0} (key : T → List ℕ) (len room : ℕ) (parts : List (DistrictRows T)) : Type 0 where
+pub record AreDistricts {T : Type 0} (key : T → List ℕ) (len room : ℕ) (parts : List (DistrictRows T)) : Type 0 where
   pub ascending : is_ascending part_numbers parts ≡ true
   pub own : list_all (owns key) parts ≡ true
   pub counted : len ≡ length (flat_map rows_in parts)

@@ -2,7 +2,8 @@
 use Rattle.std.specs.Prelude.{ℕ, List}
 use Rattle.indexmap.specs.IndexMap.{values, spare}
 use Rattle.tpcc_storage.specs.declared.keyed_rows.KeyedRows.TheInside.{Inside}
-use Rattle.tpcc_storage.specs.KeyedRows.{RowsView, AreUnderKeys}
+use Rattle.tpcc_storage.specs.KeyedRows.{RowsView}
+use Rattle.tpcc_storage.specs.Internal.KeyedRows.{AreUnderKeys}
 
 abbrev pub view_of_rows : {T K : Type 0} → Inside T K → RowsView T
 view_of_rows t = record { items = values t.rows; spare = spare t.rows }

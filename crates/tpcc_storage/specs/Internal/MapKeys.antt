@@ -1,16 +1,16 @@
 -- Keys of the tables are equal where their numbers are.
 use Rattle.std.proofs.Common.{◌≡◌, [], ◌∷◌, arith}
 use Rattle.std.proofs.lemmas.Bool.Decides.{nat_tests}
-use Rattle.tpcc_rows.specs.declared.keys.WarehouseKey.{WarehouseKey}
-use Rattle.tpcc_rows.specs.declared.keys.DistrictKey.{DistrictKey}
-use Rattle.tpcc_rows.specs.declared.keys.CustomerKey.{CustomerKey}
-use Rattle.tpcc_rows.specs.declared.keys.ItemKey.{ItemKey}
-use Rattle.tpcc_rows.specs.declared.keys.StockKey.{StockKey}
-use Rattle.tpcc_rows.specs.contracts.keys.WarehouseKeyPartialEq.TheImpl as warehouse
-use Rattle.tpcc_rows.specs.contracts.keys.DistrictKeyPartialEq.TheImpl as district
-use Rattle.tpcc_rows.specs.contracts.keys.CustomerKeyPartialEq.TheImpl as customer
-use Rattle.tpcc_rows.specs.contracts.keys.ItemKeyPartialEq.TheImpl as item
-use Rattle.tpcc_rows.specs.contracts.keys.StockKeyPartialEq.TheImpl as stock
+use Rattle.tpcc_rows.specs.declared.tables.keys.WarehouseKey.{WarehouseKey}
+use Rattle.tpcc_rows.specs.declared.tables.keys.DistrictKey.{DistrictKey}
+use Rattle.tpcc_rows.specs.declared.tables.keys.CustomerKey.{CustomerKey}
+use Rattle.tpcc_rows.specs.declared.tables.keys.ItemKey.{ItemKey}
+use Rattle.tpcc_rows.specs.declared.tables.keys.StockKey.{StockKey}
+use Rattle.tpcc_rows.specs.contracts.tables.keys.WarehouseKeyPartialEq.TheImpl as warehouse
+use Rattle.tpcc_rows.specs.contracts.tables.keys.DistrictKeyPartialEq.TheImpl as district
+use Rattle.tpcc_rows.specs.contracts.tables.keys.CustomerKeyPartialEq.TheImpl as customer
+use Rattle.tpcc_rows.specs.contracts.tables.keys.ItemKeyPartialEq.TheImpl as item
+use Rattle.tpcc_rows.specs.contracts.tables.keys.StockKeyPartialEq.TheImpl as stock
 use Rattle.tpcc_storage.specs.Searches.{is_same_key}
 
 pub same_warehouse : (sought k : WarehouseKey) → warehouse.eq-value.it sought k ≡ is_same_key (k.warehouse ∷ []) (sought.warehouse ∷ [])

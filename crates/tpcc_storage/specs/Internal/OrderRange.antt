@@ -1,6 +1,6 @@
 -- Orders that wait, numbered one after another.
 use Rattle.std.specs.Prelude.{ℕ, zero, suc, ◌+◌, List, [], ◌∷◌}
-use Rattle.tpcc_rows.specs.declared.rows.NewOrderRow.{NewOrderRow}
+use Rattle.tpcc_rows.specs.declared.tables.rows.NewOrderRow.{NewOrderRow}
 
 -- the row so many numbers later
 abbrev pub later : NewOrderRow → ℕ → NewOrderRow

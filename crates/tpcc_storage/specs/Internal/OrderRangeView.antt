@@ -1,6 +1,6 @@
 -- How a range of orders that wait is seen, and what always holds of it.
 use Rattle.std.specs.Prelude.{◌-◌, ◌≤◌, List}
-use Rattle.tpcc_rows.specs.declared.rows.NewOrderRow.{NewOrderRow}
+use Rattle.tpcc_rows.specs.declared.tables.rows.NewOrderRow.{NewOrderRow}
 use Rattle.tpcc_storage.specs.declared.by_district.range.OrderRange.TheInside.{Inside}
 use Rattle.tpcc_storage.specs.Internal.OrderRange.{range}
 

@@ -1,6 +1,6 @@
 -- How the orders that wait in a district are seen, and what always holds of them.
 use Rattle.std.specs.Prelude.{◌≡◌, ◌<◌, ◌≤◌, ◌++◌, [], length, vec_capacity}
-use Rattle.tpcc_rows.specs.declared.rows.NewOrderRow.{NewOrderRow}
+use Rattle.tpcc_rows.specs.declared.tables.rows.NewOrderRow.{NewOrderRow}
 use Rattle.tpcc_storage.specs.declared.by_district.pending.PendingRows.TheInside.{Inside}
 use Rattle.tpcc_storage.specs.KeptRows.{KeptRows}
 

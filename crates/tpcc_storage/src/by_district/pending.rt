@@ -22,7 +22,7 @@ pub struct PendingRows {
 pub type PendingOrders = ByDistrict<NewOrderRow, PendingRows>;
 
 impl Model for PendingRows {
-    ghost use Rattle.tpcc_rows.specs.declared.rows.NewOrderRow.{NewOrderRow};
+    ghost use Rattle.tpcc_rows.specs.declared.tables.rows.NewOrderRow.{NewOrderRow};
     ghost use Rattle.tpcc_storage.specs.KeptRows.{KeptRows};
 
     ghost Value = { KeptRows NewOrderRow };

@@ -50,7 +50,7 @@ impl<T: InDistrict, S: Store<T>> SortedRow for OneDistrict<T, S> {
 }
 
 /// A part for a district that has none, with room for so many rows.
-pub fn open_part<T: InDistrict, S: Store<T>>(
+pub fn open_district<T: InDistrict, S: Store<T>>(
     parts: &mut Vec<OneDistrict<T, S>>,
     owner: DistrictKey,
     room: usize,

@@ -20,7 +20,7 @@ pub struct OrderRange {
 
 impl Model for OrderRange {
     ghost use Rattle.std.specs.Prelude.{List};
-    ghost use Rattle.tpcc_rows.specs.declared.rows.NewOrderRow.{NewOrderRow};
+    ghost use Rattle.tpcc_rows.specs.declared.tables.rows.NewOrderRow.{NewOrderRow};
 
     ghost Value = { List NewOrderRow };
 

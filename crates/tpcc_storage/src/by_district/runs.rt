@@ -2,7 +2,7 @@
 ghost use Rattle.std.specs.Prelude.{[], ◌∷◌, ◌≡◌, ◌≤◌, filter, length, map, not, true, Some};
 ghost use Rattle.std.specs.List.{prefix_len};
 ghost use Rattle.tpcc_rows.specs.Lists.{is_ascending, key_before, updated};
-ghost use Rattle.tpcc_rows.specs.declared.rows.OrderLineRow.{OrderLineRow};
+ghost use Rattle.tpcc_rows.specs.declared.tables.rows.OrderLineRow.{OrderLineRow};
 ghost use Rattle.tpcc_rows.specs.Tables.{is_line_of, order_line_key};
 ghost use Rattle.tpcc_storage.specs.Runs.{is_line_between};
 

@@ -3,8 +3,8 @@ use Rattle.tpcc_rows.specs.declared.limits.TheConstants.{GREATEST_ORDER}
 use Rattle.std.specs.Prelude.{◌≡◌, ℕ, ◌+◌, ◌*◌, ◌^◌, nat_le, ℤ, pos, ◌+ℤ◌, Bool, true, List, [], ◌∷◌, map, sum_by, take, Some, None}
 use Rattle.std.specs.List.{list_all}
 use Rattle.tpcc_money.specs.Amounts.{total}
-use Rattle.tpcc_rows.specs.declared.rows.HistoryRow.{HistoryRow}
-use Rattle.tpcc_rows.specs.declared.rows.OrderRow.{OrderRow}
+use Rattle.tpcc_rows.specs.declared.tables.rows.HistoryRow.{HistoryRow}
+use Rattle.tpcc_rows.specs.declared.tables.rows.OrderRow.{OrderRow}
 use Rattle.tpcc_rows.specs.Lists.{updated, is_ascending, larger}
 use Rattle.tpcc_rows.specs.Ranges.{is_amount_within}
 use Rattle.tpcc_rows.specs.Tables.{Rows, paid_into_warehouse, paid_into_district, paid_by, orders_in, orders_of}

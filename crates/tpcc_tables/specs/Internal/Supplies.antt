@@ -1,7 +1,7 @@
 -- STOCK rows while the lines of one order are taken from them.
 use Rattle.std.specs.Prelude.{ℕ, ◌+◌, ◌*◌, ◌<◌, ◌≤◌, ◌^◌, ◌==◌, ◌&&◌, Bool, nat_le}
-use Rattle.tpcc_rows.specs.declared.rows.StockRow.{StockRow}
-use Rattle.tpcc_rows.specs.declared.requests.Line.{Line}
+use Rattle.tpcc_rows.specs.declared.tables.rows.StockRow.{StockRow}
+use Rattle.tpcc_rows.specs.declared.transactions.requests.Line.{Line}
 use Rattle.tpcc_rows.specs.Ranges.{is_within, greatest_count, greatest_stock_ytd}
 
 -- the STOCK row of a line

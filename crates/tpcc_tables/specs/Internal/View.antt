@@ -4,7 +4,7 @@ use Rattle.tpcc_rows.specs.Tables.{Rows}
 use Rattle.tpcc_rows.specs.WellKeyed.{IsWellKeyed}
 use Rattle.tpcc_storage.specs.Names.{names_of}
 use Rattle.tpcc_tables.specs.declared.tables.Tables.TheInside.{Inside}
-use Rattle.tpcc_tables.specs.Held.{Held}
+use Rattle.tpcc_tables.specs.TablesView.{TablesView}
 use Rattle.tpcc_tables.specs.Internal.Ready.{IsReady}
 use Rattle.tpcc_tables.specs.Internal.Sums.{AreSums}
 
@@ -22,11 +22,11 @@ rows_of t =
       stocks = t.stocks.items;
     }
 
-abbrev pub held : Inside → Held
-held t = record { rows = rows_of t; order_room = t.order_room; payment_room = t.payment_room }
+abbrev pub tables_view : Inside → TablesView
+tables_view t = record { rows = rows_of t; order_room = t.order_room; payment_room = t.payment_room }
 
 -- the rows are well-keyed, the sums are theirs, and each room that was promised is there
-pub record IsHeld (t : Inside) : Type 0 where
+pub record AreTables (t : Inside) : Type 0 where
   pub well_keyed : IsWellKeyed (rows_of t)
   pub names : t.names ≡ names_of t.customers.items
   pub sums : AreSums (rows_of t) t.sums

@@ -6,7 +6,7 @@ ghost use Rattle.tpcc_tables.specs.Internal.Sums.{AreSums, first_rows, no_wareho
 
 use super::Sums;
 use super::entry::{CustomerSums, DistrictSums, WarehouseSums};
-use crate::delivery;
+use crate::changes::delivery;
 use crate::lists::Lists;
 use std::alloc::Global;
 use tpcc_rows::{CustomerRow, DistrictRow, NoMemory, OrderRow, WarehouseRow};

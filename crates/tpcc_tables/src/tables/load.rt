@@ -4,7 +4,7 @@ ghost use Rattle.std.specs.Option.{option_or};
 ghost use Rattle.tpcc_tables.specs.Loads as loads;
 
 use super::Tables;
-use crate::delivery;
+use crate::changes::delivery;
 use crate::faults::{self, LoadFault};
 use crate::sums::entry::{CustomerSums, DistrictSums, WarehouseSums};
 use tpcc_money::Cents;

@@ -7,8 +7,8 @@ ghost use Rattle.tpcc_rows.specs.Conditions.{delivered_amount};
 ghost use Rattle.tpcc_tables.specs.Internal.Sums.{warehouse_sums, district_sums, customer_sums};
 
 use super::Tables;
-use crate::district_counts::DistrictCounts;
-use crate::districts;
+use crate::lookups::district_counts::DistrictCounts;
+use crate::lookups::districts;
 use crate::sums::entry::{CustomerSums, DistrictSums, WarehouseSums};
 use crate::sums::found;
 

@@ -5,8 +5,9 @@ ghost use Rattle.tpcc_rows.specs.Ranges.{is_carrier};
 ghost use Rattle.tpcc_tables.specs.Writes.{with_payment, IsPayment, with_entered_order, IsOrder};
 
 use super::Tables;
-use crate::order_number::raise_next_order;
-use crate::{delivery, payment, rooms, supply};
+use crate::changes::order_number::raise_next_order;
+use crate::changes::{delivery, payment, supply};
+use crate::rooms;
 use tpcc_money::{Cents, Moment};
 use tpcc_rows::{HistoryRow, NewOrderRow, NoMemory, OrderLineRow, OrderRow, Text, recall};
 

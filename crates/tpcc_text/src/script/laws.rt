@@ -1,8 +1,8 @@
 //! The laws of lines that are written from requests, each as the contract of a function with nothing to do.
 ghost use Rattle.std.specs.Prelude.{◌≡◌, ◌∷◌, ◌≤◌, List, [], None, length, map, true};
 ghost use Rattle.std.specs.List.{list_all};
-ghost use Rattle.tpcc_rows.specs.declared.entry.Entry.{Entry};
-ghost use Rattle.tpcc_rows.specs.declared.requests.Request.{Request};
+ghost use Rattle.tpcc_rows.specs.declared.transactions.entry.Entry.{Entry};
+ghost use Rattle.tpcc_rows.specs.declared.transactions.requests.Request.{Request};
 ghost use Rattle.tpcc_text.specs.RequestLines.{journal_lines, request_line};
 ghost use Rattle.tpcc_text.specs.declared.script.call.Call.TheVariants.{Ask};
 ghost use Rattle.tpcc_text.specs.declared.script.limits.TheConstants.{MOST_LINES};

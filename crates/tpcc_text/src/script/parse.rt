@@ -1,7 +1,7 @@
 //! What a line says.
 ghost use Rattle.std.specs.Prelude.{◌≡◌, map, IfOk, Option, option_map};
 ghost use Rattle.tpcc_text.specs.Internal.Reading.{Gives};
-ghost use Rattle.tpcc_rows.specs.declared.requests.Request.{Request};
+ghost use Rattle.tpcc_rows.specs.declared.transactions.requests.Request.{Request};
 ghost use Rattle.tpcc_text.specs.declared.script.call.Call.TheVariants.{Ask};
 ghost use Rattle.tpcc_text.specs.Script as script;
 ghost use Rattle.tpcc_text.specs.Script.{call_of, call_of_words, order_of, order_line_of, order_line_of_parts, order_lines_of, payment_of, status_of, stock_of, delivery_of, deliver_of};

@@ -3,7 +3,7 @@ use Rattle.std.specs.Prelude.{ℕ, ◌≡◌, ◌<◌, List, All}
 use mathlib.Core.Option.{some}
 use mathlib.Core.List.{IsPrefix}
 use lib.ListN.{get_elem?}
-use Rattle.tpcc_rows.specs.declared.entry.Entry.{Entry}
+use Rattle.tpcc_rows.specs.declared.transactions.entry.Entry.{Entry}
 use Rattle.tpcc_book.specs.Internal.Pooling.{AreAll}
 use Rattle.tpcc_book.specs.Purses.{PoolView}
 use Rattle.tpcc_turns.specs.Seats.{SeatedView, purses_of}

@@ -1,7 +1,8 @@
 -- How a view is cut in two, and two are put together.
 use Rattle.std.specs.Prelude.{ℕ, ◌+◌, ◌-◌, List, [], ◌∷◌, ◌++◌}
 use Rattle.tpcc_turns.specs.Knows.{Knows, Heard, Idle}
-use Rattle.tpcc_turns.specs.TurnRule.{knows, no_opening}
+use Rattle.tpcc_turns.specs.Knows.{knows}
+use Rattle.tpcc_turns.specs.Internal.TurnRule.{no_opening}
 
 abbrev pub kept_of : Knows → Knows
 kept_of v = knows v.start v.front (v.parts - 1) v.stage v.told

@@ -2,10 +2,12 @@
 ghost use Rattle.std.specs.Prelude.{◌≡◌, ◌+◌, ◌<◌, ◌↔◌, [], IsOk, IfOk, IfErr, IfSome, IfNone, None, Some};
 ghost use Rattle.std.specs.Slots.{slots_items, slots_len, IsFull};
 ghost use Rattle.tpcc_turns.specs.Knows.{Idle};
-ghost use Rattle.tpcc_turns.specs.Closing.{TellsBook, IsLeft, IsGathered, IsAudited};
+ghost use Rattle.tpcc_turns.specs.Closing.{IsLeft, IsGathered};
+ghost use Rattle.tpcc_turns.specs.Internal.Closing.{TellsBook, IsAudited};
 ghost use Rattle.tpcc_turns.specs.Internal.Gathering.{HasJoined};
-ghost use Rattle.tpcc_book.specs.Purses.{all_parts, pool_with};
-ghost use Rattle.tpcc_turns.specs.Seats.{purses_of, view_of};
+ghost use Rattle.tpcc_book.specs.Purses.{all_shares, pool_with};
+ghost use Rattle.tpcc_turns.specs.Seats.{purses_of};
+ghost use Rattle.tpcc_turns.specs.Internal.Seats.{view_of};
 ghost use Rattle.tpcc_book.specs.Serve.{rooms_of};
 ghost use Rattle.tpcc_turns.specs.Internal.Shares.{both_of};
 
@@ -16,7 +18,7 @@ use crate::turns::seated::{SeatedPurse, Seating};
 use crate::turns::steps::{Board, BoardSeat};
 use atomic_table::{Closed, Join};
 use std::alloc::Global;
-use tpcc_book::{ALL_PARTS, Book, Naming, Pool};
+use tpcc_book::{ALL_SHARES, Book, Naming, Pool};
 use tpcc_money::Cents;
 
 /// One seat takes in what another knows.
@@ -39,7 +41,7 @@ impl<N: Naming, T: Seating> Turns<N, T> {
         self,
         purses: Vec<SeatedPurse<N, T>>,
     ) -> Result<(Book<N>, u64, Cents), Option<Book<N>>>
-        ensures exactly { IsOk result ↔ (rooms_of (purses_of purses.items) ≡ all_parts) }
+        ensures exactly { IsOk result ↔ (rooms_of (purses_of purses.items) ≡ all_shares) }
         ensures gathered { IfOk result (λ r. IsGathered self purses.items r.0 r.1 r.2) }
         ensures left { IfErr result (λ book. IfSome book (IsLeft self purses.items)) }
     {
@@ -133,11 +135,11 @@ fn audit_book<N: Naming>(
     pool: Pool<N>,
 ) -> Result<(Book<N>, u64, Cents), Option<Book<N>>>
     ensures missing { IfErr result (λ left. left ≡ book) }
-    ensures few { IfErr result (λ left. pool.parts ≡ all_parts → book ≡ None) }
-    ensures all { IfOk result (λ r. (pool.parts ≡ all_parts) × (book ≡ Some r.0)) }
+    ensures few { IfErr result (λ left. pool.parts ≡ all_shares → book ≡ None) }
+    ensures all { IfOk result (λ r. (pool.parts ≡ all_shares) × (book ≡ Some r.0)) }
     ensures audited { IfOk result (λ r. IsAudited pool r.0 r.1 r.2) }
 {
-    if pool.parts() != ALL_PARTS {
+    if pool.parts() != ALL_SHARES {
         return Err(book);
     }
     let Some(mut book) = book else {

@@ -32,7 +32,8 @@ pub struct HeldTurn<N: Naming, T: Seating> {
 
 impl<N: Naming, T: Seating> Model for HeldTurn<N, T> {
     ghost use Rattle.std.specs.Prelude.{◌+◌};
-    ghost use Rattle.tpcc_turns.specs.Seats.{IsHeldTurn, SeatedView};
+    ghost use Rattle.tpcc_turns.specs.Seats.{SeatedView};
+    ghost use Rattle.tpcc_turns.specs.Internal.Seats.{IsHeldTurn};
 
     ghost Value = { SeatedView };
 

@@ -15,7 +15,7 @@ pub struct TurnRule<N> {
 }
 
 impl<N: Naming> TableRule<Option<BoxedBook<N>>, Knows, Opening> for TurnRule<N> {
-    ghost use Rattle.tpcc_turns.specs.TurnRule.{FollowsTurnRule, first};
+    ghost use Rattle.tpcc_turns.specs.Internal.TurnRule.{FollowsTurnRule, first};
 
     ghost holds = { FollowsTurnRule };
 
@@ -26,7 +26,7 @@ impl<N: Naming> TableRule<Option<BoxedBook<N>>, Knows, Opening> for TurnRule<N> 
 pub struct Draw;
 
 impl<N: Naming> Play<Option<BoxedBook<N>>, Knows> for Draw {
-    ghost use Rattle.tpcc_turns.specs.TurnRule.{DrawStep};
+    ghost use Rattle.tpcc_turns.specs.Internal.TurnRule.{DrawStep};
 
     ghost then = { DrawStep };
 }
@@ -35,7 +35,7 @@ impl<N: Naming> Play<Option<BoxedBook<N>>, Knows> for Draw {
 pub struct Look;
 
 impl<N: Naming> Play<Option<BoxedBook<N>>, Knows> for Look {
-    ghost use Rattle.tpcc_turns.specs.TurnRule.{LookStep};
+    ghost use Rattle.tpcc_turns.specs.Internal.TurnRule.{LookStep};
 
     ghost then = { LookStep };
 }
@@ -44,7 +44,7 @@ impl<N: Naming> Play<Option<BoxedBook<N>>, Knows> for Look {
 pub struct Grow;
 
 impl<N: Naming> Play<Option<BoxedBook<N>>, Knows> for Grow {
-    ghost use Rattle.tpcc_turns.specs.TurnRule.{GrowStep};
+    ghost use Rattle.tpcc_turns.specs.Internal.TurnRule.{GrowStep};
 
     ghost then = { GrowStep };
 }
@@ -53,7 +53,7 @@ impl<N: Naming> Play<Option<BoxedBook<N>>, Knows> for Grow {
 pub struct End;
 
 impl<N: Naming> Play<Option<BoxedBook<N>>, Knows> for End {
-    ghost use Rattle.tpcc_turns.specs.TurnRule.{EndStep};
+    ghost use Rattle.tpcc_turns.specs.Internal.TurnRule.{EndStep};
 
     ghost then = { EndStep };
 }

@@ -1,8 +1,9 @@
 //! Purses with a seat at the turns.
 ghost use Rattle.std.specs.Prelude.{◌≡◌, ◌+◌, ◌<◌, [], ◌∷◌, pos};
 ghost use Rattle.tpcc_turns.specs.Knows.{Idle};
-ghost use Rattle.tpcc_turns.specs.TurnRule.{knows};
-ghost use Rattle.tpcc_turns.specs.Seats.{CanSeat, seated_at, view_of};
+ghost use Rattle.tpcc_turns.specs.Knows.{knows};
+ghost use Rattle.tpcc_turns.specs.Seats.{CanSeat, seated_at};
+ghost use Rattle.tpcc_turns.specs.Internal.Seats.{view_of};
 
 use crate::turns::boxed_book::BoxedBook;
 use crate::turns::knows::Knows;
@@ -52,8 +53,9 @@ impl<N: Naming, T: Seating> Drop for SeatedPurse<N, T> {
 impl<N: Naming, T: Seating> Model for SeatedPurse<N, T> {
     ghost use Rattle.std.specs.Prelude.{◌≡◌, ◌+◌, [], ◌∷◌};
     ghost use Rattle.tpcc_turns.specs.Knows.{Idle};
-    ghost use Rattle.tpcc_turns.specs.TurnRule.{knows};
-    ghost use Rattle.tpcc_turns.specs.Seats.{SeatedView, start_of, front_of};
+    ghost use Rattle.tpcc_turns.specs.Knows.{knows};
+    ghost use Rattle.tpcc_turns.specs.Seats.{SeatedView};
+    ghost use Rattle.tpcc_turns.specs.Internal.Seats.{start_of, front_of};
 
     ghost Value = { SeatedView };
 

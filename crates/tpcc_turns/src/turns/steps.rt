@@ -2,10 +2,11 @@
 ghost use Rattle.std.specs.Prelude.{◌≡◌, ◌<◌, ℕ, List, [], ◌∷◌, Option, Some};
 ghost use Rattle.atomic_table.specs.Table.{rest};
 ghost use Rattle.tpcc_turns.specs.Knows.{Idle, Out, Holds};
-ghost use Rattle.tpcc_turns.specs.TurnRule.{knows, HasBook, HasGrown};
+ghost use Rattle.tpcc_turns.specs.Knows.{knows};
+ghost use Rattle.tpcc_turns.specs.Internal.TurnRule.{HasBook, HasGrown};
 ghost use Rattle.tpcc_turns.specs.Internal.TurnSteps.{HasDrawn, Awaits, HasTaken, CanGive, CanEnd, CanShow, CanGrow, HasShown};
 ghost use Rattle.tpcc_turns.specs.Internal.Shares.{both_of, last_parts, freed_of, back_of};
-ghost use Rattle.tpcc_rows.specs.declared.entry.Entry.{Entry};
+ghost use Rattle.tpcc_rows.specs.declared.transactions.entry.Entry.{Entry};
 ghost use Rattle.tpcc_book.specs.Past.{Past};
 
 use crate::pause::Pause;

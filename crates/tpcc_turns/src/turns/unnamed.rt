@@ -28,7 +28,8 @@ pub struct UnnamedTurns<N: Naming> {
 }
 
 impl<N: Naming> Model for UnnamedTurns<N> {
-    ghost use Rattle.tpcc_turns.specs.Seats.{IsUnnamed, UnnamedView};
+    ghost use Rattle.tpcc_turns.specs.Seats.{UnnamedView};
+    ghost use Rattle.tpcc_turns.specs.Internal.Seats.{IsUnnamed};
 
     ghost Value = { UnnamedView };
 

@@ -2,7 +2,7 @@ use Rattle.std.proofs.Common.{◌≡◌, ap, sym, ◌∙◌, arith}
 use Rattle.std.specs.Prelude.{option_map}
 use Rattle.tpcc_tables.specs.Positions.{count_of}
 use Rattle.tpcc_conditions.specs.Broken.{as_model}
-use Rattle.tpcc_conditions.specs.First.{first_to}
+use Rattle.tpcc_conditions.specs.Internal.First.{first_to}
 use Rattle.tpcc_conditions.proofs.First.{no_row, fails_here, keeps_here, all_are}
 use Rattle.tpcc_conditions.proofs.condition.test.Goals as goal
 

@@ -1,5 +1,5 @@
 use Rattle.std.proofs.Common.{◌≡◌, None}
-use Rattle.tpcc_conditions.specs.First.{first_to}
+use Rattle.tpcc_conditions.specs.Internal.First.{first_to}
 use Rattle.tpcc_conditions.proofs.condition.test.Given as goal
 
 abbrev pub invariant-loop-position : goal.invariant-loop-position

@@ -1,6 +1,6 @@
 use Rattle.std.proofs.Common.{◌≡◌, sym, ◌∙◌, arith}
 use Rattle.std.specs.Prelude.{is_some}
-use Rattle.tpcc_rows.specs.declared.rows.ItemRow.{ItemRow}
+use Rattle.tpcc_rows.specs.declared.tables.rows.ItemRow.{ItemRow}
 use Rattle.tpcc_rows.specs.Tables.{find_stock}
 use Rattle.tpcc_conditions.proofs.StockedRows.{some_fails, all_more, all_items}
 use Rattle.tpcc_conditions.proofs.stocked.has_each_item.Goals as goal

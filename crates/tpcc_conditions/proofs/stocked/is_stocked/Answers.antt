@@ -1,5 +1,5 @@
 use Rattle.std.proofs.Common.{◌≡◌, sym, ◌∙◌, arith}
-use Rattle.tpcc_rows.specs.declared.rows.WarehouseRow.{WarehouseRow}
+use Rattle.tpcc_rows.specs.declared.tables.rows.WarehouseRow.{WarehouseRow}
 use Rattle.tpcc_conditions.specs.Stocked.{has_items}
 use Rattle.tpcc_conditions.proofs.StockedRows.{some_fails, all_more, all_warehouses}
 use Rattle.tpcc_conditions.proofs.stocked.is_stocked.Goals as goal

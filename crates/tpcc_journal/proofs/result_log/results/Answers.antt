@@ -1,6 +1,6 @@
 use Rattle.std.proofs.Common.{◌≡◌, ◌∙◌, ◌++◌, ◌/◌, List, length, sym, ap, arith}
 use Rattle.std.specs.Option.{option_to_list}
-use Rattle.tpcc_rows.specs.declared.replies.DistrictDelivery.{DistrictDelivery}
+use Rattle.tpcc_rows.specs.declared.transactions.replies.DistrictDelivery.{DistrictDelivery}
 use Rattle.tpcc_rows.specs.Replay.{district_deliveries, results_of}
 use Rattle.tpcc_journal.proofs.Log.{lines_of, one_more_line}
 use Rattle.tpcc_journal.proofs.result_log.results.Goals as goal

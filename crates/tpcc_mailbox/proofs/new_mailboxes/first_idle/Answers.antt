@@ -1,5 +1,5 @@
 use Rattle.std.proofs.Common.{rules, ap, ◌∙◌}
-use Rattle.tpcc_mailbox.specs.Rule.{opener_after, next_client}
+use Rattle.tpcc_mailbox.specs.Internal.Rule.{opener_after, next_client}
 use Rattle.tpcc_mailbox.proofs.Keeps.{first_collects, is_seat_with}
 use Rattle.tpcc_mailbox.proofs.Splits.{deals}
 use Rattle.tpcc_mailbox.proofs.new_mailboxes.first_idle.Goals as goal

@@ -1,7 +1,7 @@
 use Rattle.std.proofs.Common.{◌∙◌, sym, ap, List}
 use Rattle.std.specs.Prelude.{is_none}
 use Rattle.std.specs.List.{list_any}
-use Rattle.tpcc_rows.specs.declared.requests.Line.{Line}
+use Rattle.tpcc_rows.specs.declared.transactions.requests.Line.{Line}
 use Rattle.tpcc_rows.specs.Tables.{find_item}
 use Rattle.tpcc_new_order.proofs.Preparations.{servable}
 use Rattle.tpcc_new_order.proofs.transaction.judge.Goals as goal

@@ -1,7 +1,8 @@
 use Rattle.std.proofs.Common.{◌++◌}
 use Rattle.tpcc_text.specs.Prefix.{AppendsPrefix}
 use Rattle.tpcc_text.proofs.BlockSteps.{at_fault}
-use Rattle.tpcc_program.specs.Requests.{asked_next, request_lines}
+use Rattle.tpcc_program.specs.Requests.{request_lines}
+use Rattle.tpcc_program.specs.Internal.Requests.{asked_next}
 use Rattle.tpcc_program.proofs.NextRequests.{is_cut}
 use Rattle.tpcc_program.proofs.requests.put_cards.Goals as goal
 

@@ -1,7 +1,7 @@
 use Rattle.std.proofs.Common.{◌++◌}
 use Rattle.tpcc_text.specs.Prefix.{AppendsPrefix}
 use Rattle.tpcc_text.proofs.BlockSteps.{at_fault, none_part}
-use Rattle.tpcc_program.specs.Requests.{next_line}
+use Rattle.tpcc_program.specs.Internal.Requests.{next_line}
 use Rattle.tpcc_program.proofs.requests.put_next.Goals as goal
 
 pub returns-in_err-request-clause-part : goal.returns-in_err-request-clause-part

@@ -1,6 +1,6 @@
 use Rattle.std.proofs.Common.{◌∙◌, ◌++◌, sym, ap}
 use Rattle.std.specs.Prelude.{flat_map, option_map}
-use Rattle.tpcc_journal.specs.Kept.{entry_of}
+use Rattle.tpcc_journal.specs.EntryRefs.{entry_of}
 use Rattle.tpcc_text.specs.Prefix.{AppendsPrefix}
 use Rattle.tpcc_text.proofs.BlockSteps.{at_fault}
 use Rattle.tpcc_show.proofs.Putting.{put_next, cut_next}

@@ -1,7 +1,7 @@
 use Rattle.std.proofs.Common.{codes, ◌++◌}
 use Rattle.tpcc_text.specs.Prefix.{AppendsPrefix}
 use Rattle.tpcc_text.proofs.BlockSteps.{at_fault, cut_first}
-use Rattle.tpcc_show.specs.Shown.{heading, named_line}
+use Rattle.tpcc_show.specs.Internal.Shown.{heading, named_line}
 use Rattle.tpcc_text.proofs.BlockSteps.{both, both_cut}
 use Rattle.tpcc_show.proofs.showing.put_heading.Goals as goal
 

@@ -1,6 +1,6 @@
 use Rattle.std.proofs.Common.{◌≡◌, ◌++◌, take}
 use Rattle.indexmap.specs.IndexMap.{values}
-use Rattle.tpcc_storage.specs.KeyedRows.{AreUnderKeys}
+use Rattle.tpcc_storage.specs.Internal.KeyedRows.{AreUnderKeys}
 use Rattle.tpcc_storage.proofs.keyed_rows.push_all.Given as goal
 
 abbrev pub invariant-loop-row : goal.invariant-loop-row

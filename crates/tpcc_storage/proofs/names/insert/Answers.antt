@@ -2,7 +2,8 @@ use Rattle.std.proofs.Common.{◌∙◌, ap, not, insert, arith}
 use Rattle.std.specs.List.{prefix_len}
 use Rattle.std.proofs.lemmas.List.Sums.{prefix_len-le-length}
 use Rattle.tpcc_laws.proofs.Body.{insert_is_inserted}
-use Rattle.tpcc_storage.specs.Names.{name_before, is_in_order}
+use Rattle.tpcc_storage.specs.Names.{name_before}
+use Rattle.tpcc_storage.specs.Internal.Names.{is_in_order}
 use Rattle.tpcc_storage.proofs.Order.{in_order-inserted}
 use Rattle.tpcc_storage.proofs.Name.{name_order}
 use Rattle.tpcc_storage.proofs.names.insert.Goals as goal

@@ -2,7 +2,7 @@ use Rattle.std.proofs.Common.{rules, refl}
 use Rattle.std.proofs.Common.{◌≡◌, ℕ, ◌<◌}
 use denote.Ref.{MutBor}
 use denote.Param.Members.{Called}
-use Rattle.tpcc_rows.specs.declared.requests.Request.{Request}
+use Rattle.tpcc_rows.specs.declared.transactions.requests.Request.{Request}
 use Rattle.tpcc_book.specs.declared.register.outcome.Turned.{Turned}
 use Rattle.tpcc_book.specs.Past.{Past}
 use Rattle.tpcc_book.specs.Turn.{IsTurn}

@@ -1,6 +1,6 @@
 use Rattle.std.proofs.Common.{◌∙◌, ◌++◌, ◌∷◌, [], ap}
-use Rattle.tpcc_rows.specs.declared.entry.Entry.{Entry}
-use Rattle.tpcc_rows.specs.declared.replies.Reply.{Reply}
+use Rattle.tpcc_rows.specs.declared.transactions.entry.Entry.{Entry}
+use Rattle.tpcc_rows.specs.declared.transactions.replies.Reply.{Reply}
 use Rattle.tpcc_book.proofs.register.ready.commit.Goals as goal
 
 pub returns-clause-entries : goal.returns-clause-entries

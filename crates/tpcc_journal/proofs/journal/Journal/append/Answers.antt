@@ -3,7 +3,7 @@ use Rattle.std.specs.Prelude.{◌==◌, if◌then◌else◌}
 use Rattle.std.specs.List.{list_all}
 use Rattle.tpcc_rows.specs.Replay.{count_of}
 use Rattle.tpcc_journal.specs.declared.stored.StoredEntry.{StoredEntry}
-use Rattle.tpcc_journal.specs.Kept.{entry_in, is_in}
+use Rattle.tpcc_journal.specs.Internal.Kept.{entry_in, is_in}
 use Rattle.tpcc_journal.specs.Log.{Log}
 use Rattle.tpcc_journal.proofs.Shelves.{entries_more, there_more, count_more}
 use Rattle.tpcc_journal.proofs.journal.Journal.append.Goals as goal

@@ -1,7 +1,7 @@
 use Rattle.std.proofs.Common.{◌≡◌, ◌∙◌, sym, ap, refl, Some}
 use Rattle.std.specs.Prelude.{slice_get, option_map}
 use Rattle.std.proofs.lemmas.Option.{slice_get_read, slice_get-map}
-use Rattle.tpcc_journal.specs.Kept.{entry_in}
+use Rattle.tpcc_journal.specs.Internal.Kept.{entry_in}
 use Rattle.tpcc_journal.specs.Log.{Log}
 use Rattle.tpcc_journal.proofs.journal.Journal.entry.Goals as goal
 

@@ -1,7 +1,7 @@
 use Rattle.std.proofs.Common.{◌≡◌, length, ap, arith, rules}
 use Rattle.std.specs.Prelude.{vec_len}
 use Rattle.std.proofs.lemmas.List.{length-map}
-use Rattle.tpcc_journal.specs.Kept.{entry_in}
+use Rattle.tpcc_journal.specs.Internal.Kept.{entry_in}
 use Rattle.tpcc_journal.specs.Log.{Log}
 use Rattle.tpcc_journal.proofs.journal.Journal.len.Goals as goal
 

@@ -1,7 +1,7 @@
 use Rattle.std.proofs.Common.{rules, ◌≡◌, ◌∙◌, ◌++◌, ◌∷◌, [], ap, sym}
-use Rattle.tpcc_rows.specs.declared.replies.Reply.TheVariants as tell
-use Rattle.tpcc_rows.specs.declared.replies.Entered.TheVariants as entered
-use Rattle.tpcc_journal.specs.Kept.{Shelf}
+use Rattle.tpcc_rows.specs.declared.transactions.replies.Reply.TheVariants as tell
+use Rattle.tpcc_rows.specs.declared.transactions.replies.Entered.TheVariants as entered
+use Rattle.tpcc_journal.specs.Internal.Kept.{Shelf}
 use Rattle.tpcc_journal.proofs.Shelves.{begins_longer, begins_same, keeps, last_reply}
 use Rattle.tpcc_journal.proofs.stored.Replies.keep.Goals as goal
 

@@ -2,10 +2,10 @@ use Rattle.std.proofs.Common.{◌≡◌, ◌∙◌, ◌<◌, sym, ap, true, leng
 use Rattle.std.specs.Prelude.{nat_lt, unwrap_or, option_map}
 use Rattle.std.proofs.lemmas.Bool.Decides.{nat_tests}
 use Rattle.std.proofs.lemmas.Option.{slice_get-get_or}
-use Rattle.tpcc_rows.specs.declared.replies.Reply.TheVariants as tell
-use Rattle.tpcc_rows.specs.declared.replies.Delivery.TheVariants.{NoneQueued}
+use Rattle.tpcc_rows.specs.declared.transactions.replies.Reply.TheVariants as tell
+use Rattle.tpcc_rows.specs.declared.transactions.replies.Delivery.TheVariants.{NoneQueued}
 use Rattle.tpcc_journal.specs.declared.stored.StoredReply.TheVariants as kept
-use Rattle.tpcc_journal.specs.Kept.{Shelf, is_in, reply_in}
+use Rattle.tpcc_journal.specs.Internal.Kept.{Shelf, is_in, reply_in}
 use Rattle.tpcc_journal.proofs.stored.Replies.reply.Goals as goal
 
 pub returns-in-Paid : goal.returns-in-Paid

@@ -1,6 +1,6 @@
 use Rattle.std.proofs.Common.{rules, sym, ap, subst, ◌∙◌, ◌∷◌, Some}
 use Rattle.atomic_table.specs.Table.{rest}
-use Rattle.tpcc_mailbox.specs.declared.rule.Mail.TheVariants.{Reply}
+use Rattle.tpcc_mailbox.specs.declared.words.rule.Mail.TheVariants.{Reply}
 use Rattle.tpcc_mailbox.proofs.Keeps.{collects, reply_or, slot_is_exchanged, is_seat_with}
 use Rattle.tpcc_mailbox.proofs.table.Mailboxes.collect.Goals as goal
 

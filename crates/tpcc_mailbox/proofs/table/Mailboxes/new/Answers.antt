@@ -1,5 +1,6 @@
 use Rattle.std.proofs.Common.{rules, ◌≡◌, ◌≤◌, ap, ◌∙◌, sym, subst}
-use Rattle.tpcc_mailbox.specs.Rule.{splits_of, hand_of, first_server, hand_bound, hand_in}
+use Rattle.tpcc_mailbox.specs.Rule.{splits_of, hand_of, hand_bound, hand_in}
+use Rattle.tpcc_mailbox.specs.Internal.Rule.{first_server}
 use Rattle.tpcc_mailbox.proofs.Sorting.{all_to}
 use Rattle.tpcc_mailbox.proofs.Keeps.{seated_server}
 use Rattle.tpcc_mailbox.proofs.Splits.{starts}

@@ -1,7 +1,7 @@
 use Rattle.std.proofs.Common.{rules, refl, sym, ap, ◌∙◌, ◌∷◌, ◌≤◌, subst, Some}
 use Rattle.tpcc_mailbox.specs.Rule.{hand_bound, hand_in, splits_in}
 use Rattle.atomic_table.specs.Table.{rest}
-use Rattle.tpcc_mailbox.specs.declared.rule.Mail.TheVariants.{Letter}
+use Rattle.tpcc_mailbox.specs.declared.words.rule.Mail.TheVariants.{Letter}
 use Rattle.tpcc_mailbox.proofs.Keeps.{takes_letter, letter_or, slot_is_exchanged, free_server, seated_server, seated_holder}
 use Rattle.tpcc_mailbox.proofs.table.Mailboxes.take.Goals as goal
 

@@ -1,7 +1,7 @@
 use Rattle.std.proofs.Common.{◌≡◌, ◌-◌, ℕ, [], ◌∷◌, ◌∙◌, ◌++◌, arith}
 use Rattle.tpcc_rows.specs.Layout.{one_each}
 use Rattle.tpcc_rows.specs.Opening.{plain_order_line}
-use Rattle.tpcc_rows.specs.declared.rows.OrderLineRow.{OrderLineRow}
+use Rattle.tpcc_rows.specs.declared.tables.rows.OrderLineRow.{OrderLineRow}
 use Rattle.tpcc_population.proofs.Each.{each-next_behind}
 use Rattle.tpcc_population.proofs.plain.lines.append_lines.Goals as goal
 

@@ -1,6 +1,6 @@
 use Rattle.std.proofs.Common.{ℕ, [], ◌∷◌, ◌∙◌, ◌++◌, arith}
 use Rattle.tpcc_population.specs.Seeded.{seeded_order_line}
-use Rattle.tpcc_rows.specs.declared.rows.OrderLineRow.{OrderLineRow}
+use Rattle.tpcc_rows.specs.declared.tables.rows.OrderLineRow.{OrderLineRow}
 use Rattle.tpcc_population.proofs.Each.{each-next_behind}
 use Rattle.tpcc_population.proofs.seeded.lines.append_lines.Goals as goal
 

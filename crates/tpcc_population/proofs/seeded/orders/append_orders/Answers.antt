@@ -1,6 +1,6 @@
 use Rattle.std.proofs.Common.{ℕ, [], ◌∷◌, ◌∙◌, ◌++◌, arith}
 use Rattle.tpcc_population.specs.Seeded.{seeded_order}
-use Rattle.tpcc_rows.specs.declared.rows.OrderRow.{OrderRow}
+use Rattle.tpcc_rows.specs.declared.tables.rows.OrderRow.{OrderRow}
 use Rattle.tpcc_population.proofs.Each.{each-next_behind}
 use Rattle.tpcc_population.proofs.seeded.orders.append_orders.Goals as goal
 

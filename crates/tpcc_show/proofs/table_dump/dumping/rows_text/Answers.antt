@@ -1,5 +1,6 @@
 use Rattle.std.proofs.Common.{[]}
-use Rattle.tpcc_show.specs.Dump.{records_text, records_from}
+use Rattle.tpcc_show.specs.Dump.{records_text}
+use Rattle.tpcc_show.specs.Internal.Dump.{records_from}
 use Rattle.tpcc_show.proofs.table_dump.dumping.rows_text.Goals as goal
 
 pub returns : goal.returns

@@ -1,7 +1,8 @@
 use Rattle.std.proofs.Common.{arith, ◌≡◌, ◌++◌, ◌+◌, sym, subst}
 use Rattle.std.specs.Prelude.{None}
 use Rattle.tpcc_tables.specs.Positions.{row_at, lent_row}
-use Rattle.tpcc_show.specs.Dump.{records_text, records_from}
+use Rattle.tpcc_show.specs.Dump.{records_text}
+use Rattle.tpcc_show.specs.Internal.Dump.{records_from}
 use Rattle.tpcc_show.specs.Internal.Output.{HasTakenText}
 use Rattle.tpcc_show.proofs.Row.{one_record, no_record}
 use Rattle.tpcc_show.proofs.table_dump.dumping.take_rows.Goals.{in-Some+in_ok-put_row+in_ok-put, in_default}

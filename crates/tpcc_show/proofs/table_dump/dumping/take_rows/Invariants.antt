@@ -1,5 +1,6 @@
 use Rattle.std.proofs.Common.{◌++◌, ℕ, List}
-use Rattle.tpcc_show.specs.Dump.{records_text, records_from}
+use Rattle.tpcc_show.specs.Dump.{records_text}
+use Rattle.tpcc_show.specs.Internal.Dump.{records_from}
 use Rattle.tpcc_show.specs.Internal.Output.{HasTakenText}
 use Rattle.tpcc_show.proofs.table_dump.dumping.take_rows.Given as goal
 

@@ -3,7 +3,8 @@ use Rattle.std.proofs.Common.{◌∙◌, ap, sym, find}
 use Rattle.std.specs.Option.{option_copied}
 use Rattle.tpcc_rows.specs.Lists.{is_ascending}
 use Rattle.tpcc_storage.specs.Searches.{is_same_key}
-use Rattle.tpcc_storage.specs.ByDistrict.{is_of, rows_or_none}
+use Rattle.tpcc_storage.specs.ByDistrict.{is_of}
+use Rattle.tpcc_storage.specs.Internal.ByDistrict.{rows_or_none}
 use Rattle.tpcc_storage.proofs.Place.{got_there}
 use Rattle.tpcc_storage.proofs.Halves.{unfound}
 use Rattle.tpcc_storage.proofs.Part.{asks_key}

@@ -1,6 +1,6 @@
 use Rattle.std.proofs.Common.{◌∙◌, ap, sym, length}
 use Rattle.std.specs.Option.{option_copied}
-use Rattle.tpcc_storage.specs.ByDistrict.{rows_or_none}
+use Rattle.tpcc_storage.specs.Internal.ByDistrict.{rows_or_none}
 use Rattle.tpcc_storage.proofs.by_district.ByDistrict.len_of.Goals as goal
 
 pub returns-in-Some : goal.returns-in-Some

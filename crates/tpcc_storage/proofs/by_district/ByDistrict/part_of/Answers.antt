@@ -1,7 +1,8 @@
 use Rattle.std.proofs.Common.{◌∙◌, ap, sym, arith, Some, None, filter}
 use Rattle.std.specs.Prelude.{flat_map}
 use Rattle.std.specs.Option.{option_copied}
-use Rattle.tpcc_storage.specs.ByDistrict.{ByDistrictView, district_numbers, is_of, rows_or_none}
+use Rattle.tpcc_storage.specs.ByDistrict.{ByDistrictView, district_numbers, is_of}
+use Rattle.tpcc_storage.specs.Internal.ByDistrict.{rows_or_none}
 use Rattle.tpcc_storage.specs.Internal.DistrictWords.{rows_in, is_part}
 use Rattle.tpcc_storage.proofs.Flat.{no_rows}
 use Rattle.tpcc_storage.proofs.Part.{asks_district, no_row, part_is, part_owns, placed, rows_chosen, whole_part}

@@ -1,7 +1,7 @@
 use Rattle.std.proofs.Common.{ap, ◌∙◌, [], ◌∷◌}
 use Rattle.std.specs.Prelude.{unwrap_or, find}
-use Rattle.tpcc_rows.specs.declared.rows.CustomerRow.{CustomerRow}
-use Rattle.tpcc_tables.specs.Held.{Held}
+use Rattle.tpcc_rows.specs.declared.tables.rows.CustomerRow.{CustomerRow}
+use Rattle.tpcc_tables.specs.TablesView.{TablesView}
 use Rattle.tpcc_tables.specs.Internal.Sums.{customer_sums, customer_sums_key, no_customer_sums, has_key}
 use Rattle.tpcc_tables.specs.Internal.View.{rows_of}
 use Rattle.tpcc_tables.proofs.SumEntries.{customer_found}
@@ -18,4 +18,4 @@ returns c =
     c.of_customer.ensures
     ∙ ap (λ es. unwrap_or (find (has_key customer_sums_key (c.args.warehouse ∷ c.args.district ∷ c.args.customer ∷ [])) es) (no_customer_sums c.args.warehouse c.args.district c.args.customer)) c.as_slice.ensures.value
     ∙ customer_found (rows_of c.self.inside) c.self.invariant.well_keyed.parents c.self.inside.sums c.args.warehouse c.args.district c.args.customer c.self.invariant.sums
-    ∙ ap (λ (t : Held). customer_sums t.rows c.args.warehouse c.args.district c.args.customer) c.self.view_is
+    ∙ ap (λ (t : TablesView). customer_sums t.rows c.args.warehouse c.args.district c.args.customer) c.self.view_is

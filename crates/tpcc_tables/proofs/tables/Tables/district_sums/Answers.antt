@@ -1,7 +1,7 @@
 use Rattle.std.proofs.Common.{ap, ◌∙◌, [], ◌∷◌}
 use Rattle.std.specs.Prelude.{unwrap_or, find}
-use Rattle.tpcc_rows.specs.declared.rows.DistrictRow.{DistrictRow}
-use Rattle.tpcc_tables.specs.Held.{Held}
+use Rattle.tpcc_rows.specs.declared.tables.rows.DistrictRow.{DistrictRow}
+use Rattle.tpcc_tables.specs.TablesView.{TablesView}
 use Rattle.tpcc_tables.specs.Internal.Sums.{district_sums, district_sums_key, no_district_sums, has_key}
 use Rattle.tpcc_tables.specs.Internal.View.{rows_of}
 use Rattle.tpcc_tables.proofs.SumEntries.{district_found}
@@ -18,4 +18,4 @@ returns c =
     c.of_district.ensures
     ∙ ap (λ es. unwrap_or (find (has_key district_sums_key (c.args.warehouse ∷ c.args.district ∷ [])) es) (no_district_sums c.args.warehouse c.args.district)) c.as_slice.ensures.value
     ∙ district_found (rows_of c.self.inside) c.self.invariant.well_keyed.parents c.self.inside.sums c.args.warehouse c.args.district c.self.invariant.sums
-    ∙ ap (λ (t : Held). district_sums t.rows c.args.warehouse c.args.district) c.self.view_is
+    ∙ ap (λ (t : TablesView). district_sums t.rows c.args.warehouse c.args.district) c.self.view_is

@@ -3,7 +3,7 @@ use Rattle.tpcc_rows.specs.Lists.{by_key, inserted}
 use Rattle.tpcc_rows.specs.Tables.{customer_key}
 use Rattle.tpcc_storage.specs.Names.{name_of, name_before}
 use Rattle.tpcc_storage.proofs.NameLaws.{names_loaded}
-use Rattle.tpcc_tables.specs.Held.{Held}
+use Rattle.tpcc_tables.specs.TablesView.{TablesView}
 use Rattle.tpcc_tables.specs.Internal.View.{rows_of}
 use Rattle.tpcc_tables.specs.Loads.{customer_fault}
 use Rattle.tpcc_tables.specs.Internal.Sums.{customer_sums_key}
@@ -15,7 +15,7 @@ use Rattle.tpcc_tables.proofs.tables.Tables.load_customer.Goals as goal
 
 pub invariant_of-self-2 : goal.invariant_of-self-2
 invariant_of-self-2 c =
-    let fault = subst (λ (t : Held). customer_fault t.rows c.args.row ≡ None) (sym c.self.view_is) (sym c.of_customer.ensures ∙ c.in_default.is) in
+    let fault = subst (λ (t : TablesView). customer_fault t.rows c.args.row ≡ None) (sym c.self.view_is) (sym c.of_customer.ensures ∙ c.in_default.is) in
     record {
       well_keyed = rw (c.insert_in_room.ensures, c.reserve_one.ensures.same) (loaded_customer (rows_of c.self.inside) c.args.row fault c.self.invariant.well_keyed);
       names = rw (c.in_default-load.ensures.loaded, c.insert_in_room.ensures, c.reserve_one.ensures.same) (ap (inserted name_before (name_of c.args.row)) c.self.invariant.names ∙ sym (names_loaded (by_key customer_key) c.args.row c.self.inside.customers.items));
@@ -33,7 +33,7 @@ insert_one-requires-clause-keyed c = rw c.reserve.ensures.items (held_grow c.sel
 
 pub insert_in_room-requires-clause-fresh : goal.insert_in_room-requires-clause-fresh
 insert_in_room-requires-clause-fresh c =
-    rw c.reserve_one.ensures.same (fresh_customer (rows_of c.self.inside) c.args.row (subst (λ (t : Held). customer_fault t.rows c.args.row ≡ None) (sym c.self.view_is) (sym c.of_customer.ensures ∙ c.in_default.is)))
+    rw c.reserve_one.ensures.same (fresh_customer (rows_of c.self.inside) c.args.row (subst (λ (t : TablesView). customer_fault t.rows c.args.row ≡ None) (sym c.self.view_is) (sym c.of_customer.ensures ∙ c.in_default.is)))
 
 pub insert_in_room-requires-clause-room : goal.insert_in_room-requires-clause-room
 insert_in_room-requires-clause-room c = search rules

@@ -1,5 +1,5 @@
 use Rattle.std.proofs.Common.{rules, sym, subst, ◌∙◌, ◌≡◌, None}
-use Rattle.tpcc_tables.specs.Held.{Held}
+use Rattle.tpcc_tables.specs.TablesView.{TablesView}
 use Rattle.tpcc_tables.specs.Internal.View.{rows_of}
 use Rattle.tpcc_tables.specs.Loads.{history_fault}
 use Rattle.tpcc_tables.proofs.Load.{loaded_history}
@@ -9,7 +9,7 @@ use Rattle.tpcc_tables.proofs.tables.Tables.load_history.Goals as goal
 
 pub invariant_of-self-2 : goal.invariant_of-self-2
 invariant_of-self-2 c =
-    let fault = subst (λ (t : Held). history_fault t.rows c.args.row ≡ None) (sym c.self.view_is) (sym c.of_history.ensures ∙ c.in_default.is) in
+    let fault = subst (λ (t : TablesView). history_fault t.rows c.args.row ≡ None) (sym c.self.view_is) (sym c.of_history.ensures ∙ c.in_default.is) in
     record {
       well_keyed = rw c.in_default-push.ensures.appended (loaded_history (rows_of c.self.inside) c.args.row fault c.self.invariant.well_keyed);
       names = c.self.invariant.names;

@@ -1,5 +1,5 @@
 use Rattle.std.proofs.Common.{sym, subst, ◌∙◌, ◌≡◌, None}
-use Rattle.tpcc_tables.specs.Held.{Held}
+use Rattle.tpcc_tables.specs.TablesView.{TablesView}
 use Rattle.tpcc_tables.specs.Internal.View.{rows_of}
 use Rattle.tpcc_tables.specs.Loads.{item_fault}
 use Rattle.tpcc_tables.proofs.Fresh.{fresh_item}
@@ -8,7 +8,7 @@ use Rattle.tpcc_tables.proofs.tables.Tables.load_item.Goals as goal
 
 pub invariant_of-self-2 : goal.invariant_of-self-2
 invariant_of-self-2 c =
-    let fault = subst (λ (t : Held). item_fault t.rows c.args.row ≡ None) (sym c.self.view_is) (sym c.of_item.ensures ∙ c.in_default.is) in
+    let fault = subst (λ (t : TablesView). item_fault t.rows c.args.row ≡ None) (sym c.self.view_is) (sym c.of_item.ensures ∙ c.in_default.is) in
     record {
       well_keyed = rw c.in_default-insert.ensures.inserted (loaded_item (rows_of c.self.inside) c.args.row fault c.self.invariant.well_keyed);
       names = c.self.invariant.names;
@@ -23,4 +23,4 @@ invariant_of-self-2 c =
 
 pub insert-requires-clause-fresh : goal.insert-requires-clause-fresh
 insert-requires-clause-fresh c =
-    fresh_item (rows_of c.self.inside) c.args.row (subst (λ (t : Held). item_fault t.rows c.args.row ≡ None) (sym c.self.view_is) (sym c.of_item.ensures ∙ c.in_default.is))
+    fresh_item (rows_of c.self.inside) c.args.row (subst (λ (t : TablesView). item_fault t.rows c.args.row ≡ None) (sym c.self.view_is) (sym c.of_item.ensures ∙ c.in_default.is))

@@ -1,5 +1,5 @@
 use Rattle.std.proofs.Common.{sym, subst, ◌∙◌, ◌≡◌, None, arith}
-use Rattle.tpcc_tables.specs.Held.{Held}
+use Rattle.tpcc_tables.specs.TablesView.{TablesView}
 use Rattle.tpcc_tables.proofs.Ready.{ready-kept, ready-grown}
 use Rattle.tpcc_tables.specs.Internal.View.{rows_of}
 use Rattle.tpcc_tables.specs.Loads.{new_order_fault}
@@ -8,7 +8,7 @@ use Rattle.tpcc_tables.proofs.tables.Tables.load_new_order.Goals as goal
 
 pub invariant_of-self-2 : goal.invariant_of-self-2
 invariant_of-self-2 c =
-    let fault = subst (λ (t : Held). new_order_fault t.rows c.args.row ≡ None) (sym c.self.view_is) (sym c.of_new_order.ensures ∙ c.in_default.is) in
+    let fault = subst (λ (t : TablesView). new_order_fault t.rows c.args.row ≡ None) (sym c.self.view_is) (sym c.of_new_order.ensures ∙ c.in_default.is) in
     record {
       well_keyed = rw c.in_default-load.ensures.loaded (loaded_new_order (rows_of c.self.inside) c.args.row fault c.self.invariant.well_keyed);
       names = c.self.invariant.names;

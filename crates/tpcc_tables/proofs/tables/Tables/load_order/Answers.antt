@@ -1,5 +1,5 @@
 use Rattle.std.proofs.Common.{sym, subst, ◌∙◌, ◌≡◌, None, arith}
-use Rattle.tpcc_tables.specs.Held.{Held}
+use Rattle.tpcc_tables.specs.TablesView.{TablesView}
 use Rattle.tpcc_tables.proofs.Ready.{ready-kept, ready-grown}
 use Rattle.tpcc_tables.specs.Internal.View.{rows_of}
 use Rattle.tpcc_tables.specs.Loads.{order_fault}
@@ -14,7 +14,7 @@ use Rattle.tpcc_tables.proofs.tables.Tables.load_order.Goals as goal
 
 pub invariant_of-self-2 : goal.invariant_of-self-2
 invariant_of-self-2 c =
-    let fault = subst (λ (t : Held). order_fault t.rows c.args.row ≡ None) (sym c.self.view_is) (sym c.of_order.ensures ∙ c.in_default.is) in
+    let fault = subst (λ (t : TablesView). order_fault t.rows c.args.row ≡ None) (sym c.self.view_is) (sym c.of_order.ensures ∙ c.in_default.is) in
     record {
       well_keyed = rw c.in_default-load.ensures.loaded (loaded_order (rows_of c.self.inside) c.args.row fault c.self.invariant.well_keyed);
       names = c.self.invariant.names;
@@ -38,4 +38,4 @@ enter-requires-clause-room c = held_grow c.self.inside c.self.invariant
 
 pub enter-requires-clause-lines : goal.enter-requires-clause-lines
 enter-requires-clause-lines c =
-    order_lines_most c.args.row (order_row_is (rows_of c.self.inside) c.args.row (subst (λ (t : Held). order_fault t.rows c.args.row ≡ None) (sym c.self.view_is) (sym c.of_order.ensures ∙ c.in_default.is)))
+    order_lines_most c.args.row (order_row_is (rows_of c.self.inside) c.args.row (subst (λ (t : TablesView). order_fault t.rows c.args.row ≡ None) (sym c.self.view_is) (sym c.of_order.ensures ∙ c.in_default.is)))

@@ -1,5 +1,5 @@
 use Rattle.std.proofs.Common.{true, sym, subst, ◌∙◌, ◌≡◌, None, arith}
-use Rattle.tpcc_tables.specs.Held.{Held}
+use Rattle.tpcc_tables.specs.TablesView.{TablesView}
 use Rattle.tpcc_tables.proofs.Ready.{ready-kept, ready-grown}
 use Rattle.tpcc_tables.specs.Internal.View.{rows_of}
 use Rattle.tpcc_tables.specs.Loads.{order_line_fault}
@@ -12,7 +12,7 @@ use Rattle.tpcc_tables.proofs.tables.Tables.load_order_line.Goals as goal
 
 pub invariant_of-self-2 : goal.invariant_of-self-2
 invariant_of-self-2 c =
-    let fault = subst (λ (t : Held). order_line_fault t.rows c.args.row ≡ None) (sym c.self.view_is) (sym c.of_order_line.ensures ∙ c.in_default.is) in
+    let fault = subst (λ (t : TablesView). order_line_fault t.rows c.args.row ≡ None) (sym c.self.view_is) (sym c.of_order_line.ensures ∙ c.in_default.is) in
     record {
       well_keyed = rw c.in_default-load.ensures.loaded (loaded_order_line (rows_of c.self.inside) c.args.row fault c.self.invariant.well_keyed);
       names = c.self.invariant.names;
@@ -36,5 +36,5 @@ deliver-requires-clause-room c = held_grow c.self.inside c.self.invariant
 
 pub deliver-requires-clause-amount : goal.deliver-requires-clause-amount
 deliver-requires-clause-amount c =
-    let fault = subst (λ (t : Held). order_line_fault t.rows c.args.row ≡ None) (sym c.self.view_is) (sym c.of_order_line.ensures ∙ c.in_default.is) in
+    let fault = subst (λ (t : TablesView). order_line_fault t.rows c.args.row ≡ None) (sym c.self.view_is) (sym c.of_order_line.ensures ∙ c.in_default.is) in
     line_in_order true c.args.row c.amount_if-delivered.result (order_line_row_is (rows_of c.self.inside) c.args.row fault).0 c.amount_if-delivered.ensures

@@ -1,5 +1,5 @@
 use Rattle.std.proofs.Common.{sym, subst, ◌∙◌, ◌≡◌, None}
-use Rattle.tpcc_tables.specs.Held.{Held}
+use Rattle.tpcc_tables.specs.TablesView.{TablesView}
 use Rattle.tpcc_tables.specs.Internal.View.{rows_of}
 use Rattle.tpcc_tables.specs.Loads.{warehouse_fault}
 use Rattle.tpcc_rows.specs.Lists.{by_key, inserted}
@@ -12,7 +12,7 @@ use Rattle.tpcc_tables.proofs.tables.Tables.load_warehouse.Goals as goal
 
 pub invariant_of-self-2 : goal.invariant_of-self-2
 invariant_of-self-2 c =
-    let fault = subst (λ (t : Held). warehouse_fault t.rows c.args.row ≡ None) (sym c.self.view_is) (sym c.of_warehouse.ensures ∙ c.in_default.is) in
+    let fault = subst (λ (t : TablesView). warehouse_fault t.rows c.args.row ≡ None) (sym c.self.view_is) (sym c.of_warehouse.ensures ∙ c.in_default.is) in
     record {
       well_keyed = rw c.in_default-insert.ensures.inserted (loaded_warehouse (rows_of c.self.inside) c.args.row fault c.self.invariant.well_keyed);
       names = c.self.invariant.names;
@@ -30,4 +30,4 @@ insert_one-requires-clause-keyed c = rw c.reserve.ensures.items (held_grow c.sel
 
 pub insert-requires-clause-fresh : goal.insert-requires-clause-fresh
 insert-requires-clause-fresh c =
-    fresh_warehouse (rows_of c.self.inside) c.args.row (subst (λ (t : Held). warehouse_fault t.rows c.args.row ≡ None) (sym c.self.view_is) (sym c.of_warehouse.ensures ∙ c.in_default.is))
+    fresh_warehouse (rows_of c.self.inside) c.args.row (subst (λ (t : TablesView). warehouse_fault t.rows c.args.row ≡ None) (sym c.self.view_is) (sym c.of_warehouse.ensures ∙ c.in_default.is))

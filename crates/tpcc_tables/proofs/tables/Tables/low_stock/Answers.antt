@@ -5,7 +5,7 @@ use Rattle.tpcc_rows.specs.Lists.{distinct}
 use Rattle.tpcc_rows.specs.Lookups.{is_low}
 use Rattle.tpcc_rows.specs.Tables.{is_stock}
 use Rattle.tpcc_storage.specs.Runs.{is_line_between}
-use Rattle.tpcc_tables.specs.Held.{Held}
+use Rattle.tpcc_tables.specs.TablesView.{TablesView}
 use Rattle.tpcc_tables.specs.Internal.View.{rows_of}
 use Rattle.tpcc_tables.proofs.Line.{between_chosen, few_recent, lines_between}
 use Rattle.tpcc_tables.proofs.tables.Tables.low_stock.Goals as goal
@@ -29,5 +29,5 @@ returns c =
     record {
       count = c.count_short.ensures
           ∙ (λ i. length (filter (λ item. list_any (λ s. is_stock w item s && nat_lt s.quantity c.args.threshold) rows.stocks) (distinct (map (λ l. l.item) (chosen i)))))
-          ∙ ap (λ (t : Held). length (filter (is_low t.rows w c.args.threshold) (distinct (map (λ l. l.item) (lines_between t.rows w d (next - 20) next))))) c.self.view_is;
+          ∙ ap (λ (t : TablesView). length (filter (is_low t.rows w c.args.threshold) (distinct (map (λ l. l.item) (lines_between t.rows w d (next - 20) next))))) c.self.view_is;
     }

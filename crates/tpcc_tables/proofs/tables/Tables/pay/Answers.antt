@@ -1,5 +1,5 @@
 use Rattle.std.proofs.Common.{rules, refl, sym, subst, ◌∙◌}
-use Rattle.tpcc_tables.specs.Held.{Held}
+use Rattle.tpcc_tables.specs.TablesView.{TablesView}
 use Rattle.tpcc_tables.specs.Internal.View.{rows_of}
 use Rattle.tpcc_rows.specs.Tables.{is_district, is_customer}
 use Rattle.tpcc_tables.specs.Writes.{with_payment, IsPayment, richer_district, customer_after_payment}
@@ -13,17 +13,17 @@ use Rattle.tpcc_tables.proofs.tables.Tables.pay.Goals as goal
 
 pub pay_warehouse-requires-clause-fits : goal.pay_warehouse-requires-clause-fits
 pay_warehouse-requires-clause-fits c =
-    let k = subst (λ (t : Held). IsPayment t.rows c.args.history c.args.information) (sym c.self.view_is) c.requires.payment in
+    let k = subst (λ (t : TablesView). IsPayment t.rows c.args.history c.args.information) (sym c.self.view_is) c.requires.payment in
     (payable (rows_of c.self.inside) c.args.history c.args.information c.self.invariant.well_keyed.keyed k).warehouse
 
 pub pay_district-requires-clause-fits : goal.pay_district-requires-clause-fits
 pay_district-requires-clause-fits c =
-    let k = subst (λ (t : Held). IsPayment t.rows c.args.history c.args.information) (sym c.self.view_is) c.requires.payment in
+    let k = subst (λ (t : TablesView). IsPayment t.rows c.args.history c.args.information) (sym c.self.view_is) c.requires.payment in
     (payable (rows_of c.self.inside) c.args.history c.args.information c.self.invariant.well_keyed.keyed k).district
 
 pub pay_customer-requires-clause-fits : goal.pay_customer-requires-clause-fits
 pay_customer-requires-clause-fits c =
-    let k = subst (λ (t : Held). IsPayment t.rows c.args.history c.args.information) (sym c.self.view_is) c.requires.payment in
+    let k = subst (λ (t : TablesView). IsPayment t.rows c.args.history c.args.information) (sym c.self.view_is) c.requires.payment in
     let known = payable (rows_of c.self.inside) c.args.history c.args.information c.self.invariant.well_keyed.keyed k in
     λ customer found. record {
       balance = known.balance customer found;
@@ -34,7 +34,7 @@ pay_customer-requires-clause-fits c =
 pub invariant_of-self : goal.invariant_of-self
 unfolding with_payment
 invariant_of-self c =
-    let k = subst (λ (t : Held). IsPayment t.rows c.args.history c.args.information) (sym c.self.view_is) c.requires.payment in
+    let k = subst (λ (t : TablesView). IsPayment t.rows c.args.history c.args.information) (sym c.self.view_is) c.requires.payment in
     record {
       well_keyed = rw (c.pay_warehouse.ensures, c.pay_district.ensures, c.pay_customer.ensures, c.append_history.ensures) (paid_is_well_keyed (rows_of c.self.inside) c.args.history c.args.information k c.self.invariant.well_keyed);
       names = rw c.pay_customer.ensures (c.self.invariant.names ∙ sym (names_kept (is_customer c.args.history.customer_warehouse c.args.history.customer_district c.args.history.customer) (customer_after_payment c.args.history.amount c.args.information) (λ x. refl) c.self.inside.customers.items));

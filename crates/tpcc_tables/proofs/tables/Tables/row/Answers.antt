@@ -1,8 +1,8 @@
 use Rattle.std.proofs.Common.{◌≡◌, ℕ, ◌<◌, List, length, get_or, ap, refl, sym, Some, option_map}
 use Rattle.std.specs.Prelude.{slice_get}
 use Rattle.std.proofs.lemmas.Option.{slice_get_read}
-use Rattle.tpcc_rows.specs.declared.row.Row.{Row}
-use Rattle.tpcc_rows.specs.declared.row.Row.TheVariants as row
+use Rattle.tpcc_rows.specs.declared.tables.row.Row.{Row}
+use Rattle.tpcc_rows.specs.declared.tables.row.Row.TheVariants as row
 use Rattle.tpcc_tables.specs.Positions.{row_at}
 use Rattle.tpcc_tables.proofs.tables.Tables.row.Goals as goal
 use Rattle.tpcc_tables.proofs.tables.Tables.row.Goals.{in-Warehouse+in_ok-get-in-Warehouse, in-District+in_ok-get-in-District, in-Customer+in_ok-get-in-Customer, in-History+in_ok-get-in-History, in-Order+in_ok-get-in-Order, in-OrderLine+in_ok-get-in-OrderLine, in-NewOrder+in_ok-copy_at-in-NewOrder, in-Item+in_ok-get-in-Item, in-Stock+in_ok-get-in-Stock}

@@ -1,7 +1,7 @@
 use Rattle.std.proofs.Common.{ap, ◌∙◌, [], ◌∷◌}
 use Rattle.std.specs.Prelude.{unwrap_or, find}
-use Rattle.tpcc_rows.specs.declared.rows.WarehouseRow.{WarehouseRow}
-use Rattle.tpcc_tables.specs.Held.{Held}
+use Rattle.tpcc_rows.specs.declared.tables.rows.WarehouseRow.{WarehouseRow}
+use Rattle.tpcc_tables.specs.TablesView.{TablesView}
 use Rattle.tpcc_tables.specs.Internal.Sums.{warehouse_sums, warehouse_sums_key, no_warehouse_sums, has_key}
 use Rattle.tpcc_tables.specs.Internal.View.{rows_of}
 use Rattle.tpcc_tables.proofs.SumEntries.{warehouse_found}
@@ -18,4 +18,4 @@ returns c =
     c.of_warehouse.ensures
     ∙ ap (λ es. unwrap_or (find (has_key warehouse_sums_key (c.args.warehouse ∷ [])) es) (no_warehouse_sums c.args.warehouse)) c.as_slice.ensures.value
     ∙ warehouse_found (rows_of c.self.inside) c.self.invariant.well_keyed.parents c.self.inside.sums c.args.warehouse c.self.invariant.sums
-    ∙ ap (λ (t : Held). warehouse_sums t.rows c.args.warehouse) c.self.view_is
+    ∙ ap (λ (t : TablesView). warehouse_sums t.rows c.args.warehouse) c.self.view_is

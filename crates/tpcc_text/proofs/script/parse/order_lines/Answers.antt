@@ -1,7 +1,7 @@
 use Rattle.std.proofs.Common.{◌≡◌, ◌∙◌, refl, sym, ap, suc, ℕ, ◌+◌, ◌<◌, ◌≤◌, List, [], ◌∷◌, ◌++◌, append_assoc, append-nil, add-one, length, get_or, drop, drop-cons, map, Some, None}
 use Rattle.std.specs.Prelude.{Option, Result, Ok, Err, Bool, false, is_ok, is_err, if◌then◌else◌}
 use Rattle.std.proofs.lemmas.List.{drop_all}
-use Rattle.tpcc_rows.specs.declared.requests.Line.{Line}
+use Rattle.tpcc_rows.specs.declared.transactions.requests.Line.{Line}
 use Rattle.tpcc_text.specs.Internal.Reading.{Fails}
 use Rattle.tpcc_text.specs.Script.{◌>>=◌, order_line_of, order_lines_of}
 use Rattle.tpcc_text.specs.declared.script.fault.ParseFault.{ParseFault}

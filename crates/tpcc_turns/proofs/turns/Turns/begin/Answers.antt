@@ -8,9 +8,10 @@ use Rattle.tpcc_population.specs.declared.opening.Opening.{Opening}
 use Rattle.tpcc_book.specs.Past.{Past}
 use Rattle.tpcc_book.specs.Purses.{PurseView}
 use Rattle.tpcc_turns.specs.Knows.{Knows, Holds}
-use Rattle.tpcc_turns.specs.TurnRule.{knows}
+use Rattle.tpcc_turns.specs.Knows.{knows}
 use Rattle.tpcc_turns.specs.Internal.TurnSteps.{HasTaken}
-use Rattle.tpcc_turns.specs.Seats.{SeatedView, keeper_of, view_of, number_of, IsHeldTurn}
+use Rattle.tpcc_turns.specs.Seats.{SeatedView, keeper_of}
+use Rattle.tpcc_turns.specs.Internal.Seats.{view_of, number_of, IsHeldTurn}
 use Rattle.tpcc_turns.proofs.turns.Turns.begin.Goals as goal
 
 keeper_is : (purse : PurseView) (start : Opening) (p : SeatedView) → purse ≡ p.purse → start ≡ p.start → keeper_of p ≡ record { purse = purse; start = start }

@@ -1,6 +1,6 @@
 use Rattle.std.proofs.Common.{◌≡◌, List, rules, ◌+◌, ap, sym, subst, arith}
 use mathlib.Core.List.{IsPrefix}
-use Rattle.tpcc_rows.specs.declared.entry.Entry.{Entry}
+use Rattle.tpcc_rows.specs.declared.transactions.entry.Entry.{Entry}
 use Rattle.tpcc_book.specs.Past.{Past, IsKept}
 use Rattle.tpcc_turns.specs.Seats.{SeatedView, IsTurned}
 use Rattle.tpcc_book.specs.Serve.{IsServed}

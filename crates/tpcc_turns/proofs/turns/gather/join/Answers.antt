@@ -1,6 +1,6 @@
 use Rattle.std.proofs.Common.{◌≡◌, ◌∙◌, ap, sym, arith}
 use Rattle.tpcc_turns.specs.Knows.{Knows}
-use Rattle.tpcc_turns.specs.Seats.{view_of}
+use Rattle.tpcc_turns.specs.Internal.Seats.{view_of}
 use Rattle.tpcc_turns.proofs.Shares.{joins}
 use Rattle.tpcc_turns.proofs.turns.gather.join.Goals as goal
 

@@ -1,6 +1,6 @@
 use Rattle.std.proofs.Common.{◌∙◌, ap, sym}
 use Rattle.std.specs.Option.{option_copied}
-use Rattle.tpcc_storage.specs.ByDistrict.{rows_or_none}
+use Rattle.tpcc_storage.specs.Internal.ByDistrict.{rows_or_none}
 use Rattle.tpcc_storage.proofs.by_district.district_vecs.DistrictVecs+T.part.Goals as goal
 
 pub returns-in-Some : goal.returns-in-Some

@@ -1,5 +1,5 @@
 use Rattle.std.proofs.Common.{◌∙◌, ap, filter}
-use Rattle.tpcc_rows.specs.declared.keys.DistrictKey.{DistrictKey}
+use Rattle.tpcc_rows.specs.declared.tables.keys.DistrictKey.{DistrictKey}
 use Rattle.tpcc_rows.specs.Lists.{is_ascending}
 use Rattle.tpcc_rows.specs.Tables.{order_line_key}
 use Rattle.tpcc_storage.specs.ByDistrict.{is_of}

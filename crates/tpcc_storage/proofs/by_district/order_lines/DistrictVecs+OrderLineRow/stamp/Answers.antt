@@ -1,6 +1,6 @@
 use Rattle.std.proofs.Common.{◌≡◌, ◌∙◌, ◌∷◌, [], ap, sym, refl, arith, length, List, ℕ, Some, None}
 use Rattle.std.specs.List.{list_any}
-use Rattle.tpcc_rows.specs.declared.rows.OrderLineRow.{OrderLineRow}
+use Rattle.tpcc_rows.specs.declared.tables.rows.OrderLineRow.{OrderLineRow}
 use Rattle.tpcc_rows.specs.Lists.{is_ascending, updated}
 use Rattle.tpcc_rows.specs.Tables.{is_line_of, order_line_key}
 use Rattle.tpcc_laws.proofs.List.{updated_absent}

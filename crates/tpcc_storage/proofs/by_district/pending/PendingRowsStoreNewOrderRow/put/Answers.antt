@@ -1,6 +1,6 @@
 use Rattle.std.proofs.Common.{ap, arith, refl}
 use Rattle.tpcc_storage.specs.KeptRows.{KeptRows}
-use Rattle.tpcc_rows.specs.declared.rows.NewOrderRow.{NewOrderRow}
+use Rattle.tpcc_rows.specs.declared.tables.rows.NewOrderRow.{NewOrderRow}
 use Rattle.tpcc_storage.proofs.Range.{range_put}
 use Rattle.tpcc_storage.proofs.by_district.pending.PendingRowsStoreNewOrderRow.put.Goals as goal
 

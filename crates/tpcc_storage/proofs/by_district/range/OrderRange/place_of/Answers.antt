@@ -1,6 +1,6 @@
 use Rattle.std.proofs.Common.{◌≡◌, ◌∙◌, ◌∷◌, ◌-◌, [], ap, sym, arith, Some, None, slice_get}
 use Rattle.std.specs.Prelude.{position}
-use Rattle.tpcc_rows.specs.declared.rows.NewOrderRow.{NewOrderRow}
+use Rattle.tpcc_rows.specs.declared.tables.rows.NewOrderRow.{NewOrderRow}
 use Rattle.tpcc_rows.specs.Lists.{is_ascending}
 use Rattle.tpcc_rows.specs.Tables.{new_order_key}
 use Rattle.tpcc_storage.specs.Internal.OrderRange.{later}

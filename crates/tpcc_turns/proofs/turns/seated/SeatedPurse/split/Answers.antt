@@ -1,7 +1,8 @@
 use Rattle.std.proofs.Common.{rules, pos, ◌≡◌, ◌+◌, ◌<◌, [], ◌∙◌, ap, sym, arith}
 use Rattle.tpcc_turns.specs.Knows.{Knows, Idle}
-use Rattle.tpcc_turns.specs.TurnRule.{knows}
-use Rattle.tpcc_turns.specs.Seats.{SeatedView, start_of, front_of}
+use Rattle.tpcc_turns.specs.Knows.{knows}
+use Rattle.tpcc_turns.specs.Seats.{SeatedView}
+use Rattle.tpcc_turns.specs.Internal.Seats.{start_of, front_of}
 use Rattle.tpcc_turns.proofs.Shares.{splits, alone}
 use Rattle.tpcc_turns.proofs.turns.seated.SeatedPurse.split.Goals as goal
 

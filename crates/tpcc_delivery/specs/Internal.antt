@@ -1,0 +1,2 @@
+-- What no public contract reaches: words of private contracts, of how values are seen, and of proofs.
+pub mod Runs

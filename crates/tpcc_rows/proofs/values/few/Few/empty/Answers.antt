@@ -1,0 +1,5 @@
+use Rattle.std.proofs.Common.{rules}
+use Rattle.tpcc_rows.proofs.values.few.Few.empty.Goals as goal
+
+pub returns : goal.returns
+returns g c = search rules

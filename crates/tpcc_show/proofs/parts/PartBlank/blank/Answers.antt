@@ -1,5 +1,0 @@
-use Rattle.std.proofs.Common.{rules}
-use Rattle.tpcc_show.proofs.parts.PartBlank.blank.Goals as goal
-
-pub returns : goal.returns
-returns g = search rules

@@ -1,0 +1,15 @@
+use Rattle.std.proofs.Common.{◌∙◌, sym, [], ◌∷◌}
+use Rattle.tpcc_rows.specs.Tables.{is_warehouse, warehouse_key}
+use Rattle.tpcc_tables.specs.Writes.{richer_warehouse}
+use Rattle.tpcc_storage.specs.Searches.{is_same_key}
+use Rattle.tpcc_storage.proofs.Halves.{same_find}
+use Rattle.tpcc_storage.proofs.Change.{same_updated}
+use Rattle.tpcc_tables.proofs.KeyTests.{warehouse_test}
+use Rattle.tpcc_tables.proofs.changes.payment.pay_warehouse.Goals as goal
+
+pub change-requires-clause-fits : goal.change-requires-clause-fits
+change-requires-clause-fits c =
+    λ row found. c.requires.fits row (sym (same_find (λ row. is_same_key (warehouse_key row) (c.args.warehouse ∷ [])) (is_warehouse c.args.warehouse) (warehouse_test c.args.warehouse) c.args.rows.now.items) ∙ found)
+
+pub returns : goal.returns
+returns c = c.change.ensures ∙ same_updated (λ row. is_same_key (warehouse_key row) (c.args.warehouse ∷ [])) (is_warehouse c.args.warehouse) (richer_warehouse c.args.amount) (warehouse_test c.args.warehouse) c.args.rows.now.items

@@ -1,8 +1,0 @@
-use Rattle.std.proofs.Common.{◌≡◌, take, length}
-use Rattle.tpcc_tables.proofs.copies.copy_lines.Given as goal
-
-abbrev pub invariant-loop-line : goal.invariant-loop-line
-invariant-loop-line l = record {
-  rows : l.rows ≡ take l.line-index l.lines;
-  count : length l.rows ≡ l.line-index;
-}

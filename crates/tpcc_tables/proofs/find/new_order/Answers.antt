@@ -1,9 +1,0 @@
-use Rattle.std.proofs.Common.{◌∙◌, [], ◌∷◌}
-use Rattle.tpcc_rows.specs.Tables.{is_new_order, new_order_key}
-use Rattle.tpcc_storage.specs.Searches.{is_same_key}
-use Rattle.tpcc_storage.proofs.Halves.{same_find}
-use Rattle.tpcc_tables.proofs.KeyTests.{new_order_test}
-use Rattle.tpcc_tables.proofs.find.new_order.Goals as goal
-
-pub returns : goal.returns
-returns c = c.find_copy.ensures ∙ same_find (λ row. is_same_key (new_order_key row) (c.args.warehouse ∷ c.args.district ∷ c.args.order ∷ [])) (is_new_order c.args.warehouse c.args.district c.args.order) (new_order_test c.args.warehouse c.args.district c.args.order) c.args.rows.now.rows

@@ -1,0 +1,9 @@
+use Rattle.std.proofs.Common.{◌∙◌}
+use Rattle.tpcc_rows.specs.Tables.{order_key}
+use Rattle.tpcc_storage.specs.ByDistrict.{is_of}
+use Rattle.tpcc_storage.proofs.Change.{same_filter}
+use Rattle.tpcc_tables.proofs.Rising.{in_district, order_is_of}
+use Rattle.tpcc_tables.proofs.lookups.districts.orders.Goals as goal
+
+pub returns : goal.returns
+returns c = c.part.ensures ∙ same_filter (λ o. is_of (record { warehouse = c.args.warehouse; district = c.args.district }) (order_key o)) (in_district c.args.warehouse c.args.district) (order_is_of c.args.warehouse c.args.district) c.args.rows.now.rows
