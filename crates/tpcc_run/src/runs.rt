@@ -12,7 +12,7 @@ use crate::threads::RunThreads;
 use crate::threads::fault::RunFault;
 use std::alloc::{AllocError, Global};
 use std::io::Write;
-use std::marker::{Brand, PhantomData};
+use std::marker::Brand;
 use std::sync::Wait;
 use std::thread::Threads;
 use tpcc_book::{Blanks, Naming};
@@ -146,7 +146,6 @@ impl<
             rt: self.rt,
             alloc: self.alloc,
             turns: &turns,
-            of: PhantomData,
             make: self.make,
             scale,
             plan: self.plan,

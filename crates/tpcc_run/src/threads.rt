@@ -11,7 +11,6 @@ ghost use Rattle.tpcc_run.specs.declared.plan.TheConstants.{MOST_SERVERS};
 mod delivery_runner;
 mod duty;
 pub(crate) mod fault;
-mod job_turns;
 mod operator;
 mod operator_work;
 mod operators;
@@ -19,17 +18,16 @@ mod promises;
 pub(crate) mod results;
 mod route;
 mod routes;
+mod server_task;
 mod server_threads;
 mod terminal_threads;
 
 use crate::plan::{Plan, Service};
-use crate::threads::job_turns::JobTurns;
 use crate::threads::results::ThreadResults;
 use crate::threads::route::Route;
 use crate::threads::routes::{by_mailboxes, by_turns};
 use crate::threads::server_threads::{Servers, join_servers};
 use std::alloc::{AllocError, Global};
-use std::marker::PhantomData;
 use std::sync::Wait;
 use std::thread;
 use std::thread::{Scope, Threads};
@@ -37,20 +35,18 @@ use tpcc_book::Naming;
 use tpcc_mailbox::Mailboxes;
 use tpcc_population::Scale;
 use tpcc_server::{Job, JobAnswer, JobIdle, JobMailboxes, JobServing, OneTurn};
-use tpcc_turns::{SeatedPurse, Seating};
+use tpcc_turns::{SeatedPurse, Seating, Turns};
 
 /// All threads of a run, and what each of them is lent: the turns are those of the run's book, and `make` gives the call of
 /// each request. That it may always be called no ghost field can say of a type parameter, so each method asks for it.
 #[derive(Drop)]
-pub struct RunThreads<'r, N: Naming, T: Seating, Q, F, R> {
+pub struct RunThreads<'r, N: Naming, T: Seating, F, R> {
     /// Threads, clock and waiting.
     pub rt: &'r R,
     /// Where the run takes memory.
     pub alloc: Global,
     /// The turns of the run's book.
-    pub turns: &'r Q,
-    /// Which book and which table these are of, for its type alone.
-    pub of: PhantomData<(N, T)>,
+    pub turns: &'r Turns<N, T>,
     /// Makes the call of each request.
     pub make: &'r F,
     /// The scale of the opening.
@@ -66,10 +62,9 @@ impl<
     N: Naming + Send + Sync,
     T: Seating + Send + Sync,
     C: OneTurn + Send,
-    Q: JobTurns<N, T> + Sync,
     F: Fn(Global) -> Result<C, AllocError> + Sync,
     R: Threads + Wait + Sync,
-> RunThreads<'s, N, T, Q, F, R> {
+> RunThreads<'s, N, T, F, R> {
     /// Starts all threads, waits for their ends, and gives the purses and receipts that came back. Each receipt stands in one of these
     /// purses. The fault, if any: NoMemory where a growth or a thread was refused, else Missing where a purse did not come back.
     pub fn run(&self, first: SeatedPurse<N, T>) -> ThreadResults<N, T>
@@ -167,7 +162,7 @@ impl<
             result.purses.items result.receipts.items }
     {
         let count = self.plan.terminals as usize + 1;
-        let Ok(routes) = by_turns::<N, T, C, Q>(self.alloc, self.turns, count) else {
+        let Ok(routes) = by_turns::<N, T, C>(self.alloc, count) else {
             return ThreadResults::without_memory(self.alloc);
         };
         thread::scope(

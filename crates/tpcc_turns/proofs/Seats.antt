@@ -11,7 +11,7 @@ use Rattle.tpcc_turns.specs.Knows.{Knows, Heard, Stage, Idle, Out, Holds}
 use Rattle.tpcc_turns.specs.Internal.TurnRule.{sum_over, HasTicket, Stands, IsHeard, IsSeated}
 use Rattle.tpcc_population.specs.declared.opening.Opening.{Opening}
 
--- the sum_over after a change of one seat
+-- the sum after a change of one seat
 pub total_set : (f : Knows → ℕ) (views : List Knows) (j : ℕ) (v w : Knows) → get_elem? views j ≡ some v → sum_over f (set views j w) + f v ≡ sum_over f views + f w
 total_set f [] j v w e = absurd (some-ne-none v (sym e))
 total_set f (x ∷ xs) zero v w e =

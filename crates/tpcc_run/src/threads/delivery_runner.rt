@@ -8,7 +8,6 @@ ghost use Rattle.tpcc_run.specs.declared.threads.duty.Duty.TheVariants.{Deliveri
 use crate::threads::RunThreads;
 use crate::threads::duty::Duty;
 use crate::threads::fault::RunFault;
-use crate::threads::job_turns::JobTurns;
 use crate::threads::operator_work::OperatorBack;
 use crate::threads::promises::TerminalHandle;
 use crate::threads::results::ThreadResults;
@@ -24,10 +23,9 @@ impl<
     N: Naming + Send + Sync,
     T: Seating + Send + Sync,
     C: OneTurn + Send,
-    Q: JobTurns<N, T> + Sync,
     F: Fn(Global) -> Result<C, AllocError> + Sync,
     R: Threads + Wait + Sync,
-> RunThreads<'s, N, T, Q, F, R> {
+> RunThreads<'s, N, T, F, R> {
     /// Joins the delivery runner, which then asks for what is still queued; notes where there is none.
     pub(crate) fn join_runner(
         &self,

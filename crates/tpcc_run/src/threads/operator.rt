@@ -5,7 +5,6 @@ ghost use Rattle.tpcc_run.specs.Asking.{HasAnswered, IsNext};
 ghost use Rattle.tpcc_run.specs.Internal.Answered.{IfAnswered};
 
 use crate::threads::duty::{Duty, next_request};
-use crate::threads::job_turns::JobTurns;
 use crate::threads::route::Route;
 use std::marker::Model;
 use std::sync::Wait;
@@ -14,7 +13,7 @@ use tpcc_money::Moment;
 use tpcc_rows::{Delivery, NoMemory, Reply, Request, recall};
 use tpcc_server::{JobAnswer, OneTurn};
 use tpcc_terminal::{Receipt, Terminal, receipts_stand};
-use tpcc_turns::{SeatedPurse, Seating};
+use tpcc_turns::{SeatedPurse, Seating, Turns};
 
 /// Who asks at a terminal. It is seen as its purse and its terminal, whose receipts all stand in the purse's front;
 /// by which route its requests come to the book no contract says.
@@ -106,10 +105,10 @@ impl<'s, N: Naming, T: Seating, C> Operator<'s, N, T, C> {
 
 impl<'s, N: Naming, T: Seating, C: OneTurn> Operator<'s, N, T, C> {
     /// Asks one request, by a call of its own, and keeps its receipt.
-    pub(crate) fn ask_once<Q: JobTurns<N, T>, R: Wait>(
+    pub(crate) fn ask_once<R: Wait>(
         self,
         rt: &R,
-        turns: &Q,
+        turns: &Turns<N, T>,
         request: Request,
         call: C,
     ) -> RequestOutcome<'s, N, T, C>

@@ -4,7 +4,6 @@ ghost use Rattle.tpcc_run.specs.Internal.Answered.{IfAll, IfAnswered};
 
 use crate::threads::RunThreads;
 use crate::threads::duty::Duty;
-use crate::threads::job_turns::JobTurns;
 use crate::threads::operator::{Operator, RequestOutcome};
 use std::alloc::{AllocError, Global};
 use std::sync::Wait;
@@ -28,10 +27,9 @@ impl<
     N: Naming,
     T: Seating,
     C: OneTurn,
-    Q: JobTurns<N, T>,
     F: Fn(Global) -> Result<C, AllocError>,
     R: Wait,
-> RunThreads<'r, N, T, Q, F, R> {
+> RunThreads<'r, N, T, F, R> {
     /// Asks so many requests, each by a call of its own, or up to the duty's end.
     pub(crate) fn ask_all<'s>(
         &self,

@@ -5,7 +5,6 @@ ghost use Rattle.tpcc_run.specs.Returned.{HaveComeBack};
 
 use crate::threads::RunThreads;
 use crate::threads::duty::Duty;
-use crate::threads::job_turns::JobTurns;
 use crate::threads::results::ThreadResults;
 use crate::threads::route::Route;
 use crate::threads::terminal_threads::join_terminals;
@@ -21,10 +20,9 @@ impl<
     N: Naming + Send + Sync,
     T: Seating + Send + Sync,
     C: OneTurn + Send,
-    Q: JobTurns<N, T> + Sync,
     F: Fn(Global) -> Result<C, AllocError> + Sync,
     R: Threads + Wait + Sync,
-> RunThreads<'s, N, T, Q, F, R> {
+> RunThreads<'s, N, T, F, R> {
     /// Starts the threads of the plan's terminals and of the delivery runner, each by a route of its own, and waits for their ends. What
     /// the runner finds queued at the end it asks for on this thread. Gives the purses and receipts that came back, and `first` last;
     /// each receipt stands in one of these purses.

@@ -3,12 +3,11 @@ ghost use Rattle.std.specs.Prelude.{◌≡◌, IfSome};
 ghost use Rattle.tpcc_turns.specs.Seats.{IsTurned};
 ghost use Rattle.tpcc_mailbox.specs.Tokens.{identity, idle_origin};
 
-use crate::threads::job_turns::JobTurns;
 use std::sync::Wait;
 use tpcc_book::Naming;
 use tpcc_rows::Request;
-use tpcc_server::{Job, JobAnswer, JobIdle, JobMailboxes, OneTurn, ask};
-use tpcc_turns::{SeatedPurse, Seating};
+use tpcc_server::{Errand, Job, JobAnswer, JobIdle, JobMailboxes, OneTurn, ask};
+use tpcc_turns::{SeatedPurse, Seating, Turns};
 
 /// How one terminal's requests are served, one after another.
 pub(crate) enum Route<'s, N: Naming, T: Seating, C> {
@@ -50,10 +49,10 @@ impl<'s, N: Naming, T: Seating, C> Drop for MailboxRoute<'s, N, T, C> {
 impl<'s, N: Naming, T: Seating, C: OneTurn> Route<'s, N, T, C> {
     /// Serves a request for a purse by a call, and gives the route back with the answer. None where the job is
     /// still out when nobody serves any more.
-    pub(crate) fn ask<Q: JobTurns<N, T>, R: Wait>(
+    pub(crate) fn ask<R: Wait>(
         self,
         rt: &R,
-        turns: &Q,
+        turns: &Turns<N, T>,
         request: Request,
         purse: SeatedPurse<N, T>,
         call: C,
@@ -63,12 +62,12 @@ impl<'s, N: Naming, T: Seating, C: OneTurn> Route<'s, N, T, C> {
         let job = Job::of(request, purse, call);
         match self {
             Route::ByTurn => {
-                let answer = turns.run(rt, job);
+                let answer = job.run(turns, rt);
                 Some((Route::ByTurn, answer))
             }
             // A thread that finds the book free makes its own turn: that spares two changes of threads.
-            Route::ByMailbox(route) if turns.is_free() => {
-                let answer = turns.run(rt, job);
+            Route::ByMailbox(route) if !turns.is_busy() => {
+                let answer = job.run(turns, rt);
                 Some((Route::ByMailbox(route), answer))
             }
             Route::ByMailbox(route) => {
@@ -80,7 +79,7 @@ impl<'s, N: Naming, T: Seating, C: OneTurn> Route<'s, N, T, C> {
 }
 
 impl<'s, N: Naming, T: Seating, C: OneTurn> MailboxRoute<'s, N, T, C> {
-    // OperatorView the job, and waits for its answer.
+    // Posts the job, and waits for its answer.
     fn ask<R: Wait>(
         self,
         rt: &R,

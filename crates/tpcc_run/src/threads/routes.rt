@@ -52,13 +52,11 @@ fn next_idle<N: Naming, T: Seating, C>(
     idles.pop()
 }
 
-/// So many routes by own turns, which are lent for their lifetime alone: it is that of the routes.
-pub(crate) fn by_turns<'s, N: Naming, T: Seating, C, Q>(
+/// Routes by turns of their own.
+pub(crate) fn by_turns<'s, N: Naming, T: Seating, C>(
     alloc: Global,
-    turns: &'s Q,
     count: usize,
 ) -> Result<Vec<Route<'s, N, T, C>>, AllocError> {
-    let _ = turns;
     let mut routes = Vec::new(alloc);
     for _ in 0..count {
         routes.push(Route::ByTurn)?;

@@ -8,9 +8,9 @@ ghost use Rattle.tpcc_run.specs.Purses.{with_rooms};
 ghost use Rattle.tpcc_run.specs.Internal.Started.{HasAddedSome, HaveJoinedServers, HaveStartedServers};
 
 use crate::threads::RunThreads;
-use crate::threads::job_turns::{JobTurns, ServerJob};
 use crate::threads::promises::{KeepsPurse, ServerHandle};
 use crate::threads::results::ThreadResults;
+use crate::threads::server_task::ServerTask;
 use crate::threads::terminal_threads::keep_handle;
 use std::alloc::{AllocError, Global};
 use std::snapshot::Snapshot;
@@ -45,10 +45,9 @@ impl<
     N: Naming + Send + Sync,
     T: Seating + Send + Sync,
     C: OneTurn + Send,
-    Q: JobTurns<N, T> + Sync,
     F: Fn(Global) -> Result<C, AllocError> + Sync,
     R: Threads + Wait + Sync,
-> RunThreads<'s, N, T, Q, F, R> {
+> RunThreads<'s, N, T, F, R> {
     /// Starts so many servers, each with an empty purse of its own, as many as can be made. The purses' numbers are behind
     /// the delivery runner's, so no terminal has one of them.
     pub(crate) fn start_servers<E>(
@@ -74,7 +73,7 @@ impl<
         let behind = self.plan.terminals + 2;
         for number in 0..servers.count {
             let limit = servers.limit(handles.is_empty());
-            let purse = self.turns.split(first, behind + number);
+            let purse = first.split(self.turns, behind + number);
             let one = serving.split(mailboxes);
             let started = self.start_server(scope, mailboxes, one, purse, limit);
             keep_started(&mut handles, started);
@@ -98,14 +97,14 @@ impl<
         let promise = KeepsPurse {
             purse: Snapshot::of(&purse),
         };
-        let work = ServerJob {
+        let task = ServerTask {
             mailboxes,
             serving,
             limit,
             purse,
         };
         scope
-            .spawn_with(promise, move || self.turns.serve(self.rt, work))
+            .spawn_with(promise, move || task.serve(self.turns, self.rt))
             .ok()
     }
 }

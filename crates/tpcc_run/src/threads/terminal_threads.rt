@@ -10,7 +10,6 @@ ghost use Rattle.tpcc_run.specs.Working.{HasWorked};
 
 use crate::threads::RunThreads;
 use crate::threads::duty::Duty;
-use crate::threads::job_turns::JobTurns;
 use crate::threads::operator::Operator;
 use crate::threads::operator_work::OperatorBack;
 use crate::threads::promises::{ComesBack, TerminalHandle};
@@ -29,10 +28,9 @@ impl<
     N: Naming + Send + Sync,
     T: Seating + Send + Sync,
     C: OneTurn + Send,
-    Q: JobTurns<N, T> + Sync,
     F: Fn(Global) -> Result<C, AllocError> + Sync,
     R: Threads + Wait + Sync,
-> RunThreads<'s, N, T, Q, F, R> {
+> RunThreads<'s, N, T, F, R> {
     // Asks all cards of the plan, as the thread promises.
     fn work<'o>(&self, operator: Operator<'o, N, T, C>, duty: Duty) -> OperatorBack<'o, N, T, C>
         requires started { IsStarted operator.purse.purse.terminal
@@ -91,7 +89,7 @@ impl<
             IsPromised duty self.now.scale self.now.plan handle.promise) }
         ensures number { IfSome result (λ handle. handle.promise.number ≡ number) }
     {
-        let purse = self.turns.split(first, number);
+        let purse = first.split(self.turns, number);
         let route = route?;
         let Ok(terminal) = Terminal::new(self.alloc, number, self.scale, self.plan.seed) else {
             return None;
