@@ -44,7 +44,7 @@ fn unless(keeps: bool, broken: Broken) -> Option<Broken>
     if keeps { None } else { Some(broken) }
 }
 
-#[tactic(auto, unfolding(crate::specs::First::failing_at))]
+#[tactic(auto, unfolding(crate::specs::Internal::First::failing_at))]
 fn broken_warehouse(tables: &Tables, condition: Condition, position: usize) -> Option<Broken>
     requires tested { tested_table condition ≡ Table.Warehouse }
     ensures { option_map as_model result ≡ failing_at condition tables.now.rows position }
@@ -63,7 +63,7 @@ fn broken_warehouse(tables: &Tables, condition: Condition, position: usize) -> O
     }
 }
 
-#[tactic(auto, unfolding(crate::specs::First::failing_at))]
+#[tactic(auto, unfolding(crate::specs::Internal::First::failing_at))]
 fn broken_district(tables: &Tables, condition: Condition, position: usize) -> Option<Broken>
     requires tested { tested_table condition ≡ Table.District }
     ensures { option_map as_model result ≡ failing_at condition tables.now.rows position }
@@ -85,7 +85,7 @@ fn broken_district(tables: &Tables, condition: Condition, position: usize) -> Op
     }
 }
 
-#[tactic(auto, unfolding(crate::specs::First::failing_at))]
+#[tactic(auto, unfolding(crate::specs::Internal::First::failing_at))]
 fn broken_order(tables: &Tables, condition: Condition, position: usize) -> Option<Broken>
     requires tested { tested_table condition ≡ Table.Order }
     ensures { option_map as_model result ≡ failing_at condition tables.now.rows position }
@@ -98,7 +98,7 @@ fn broken_order(tables: &Tables, condition: Condition, position: usize) -> Optio
     }
 }
 
-#[tactic(auto, unfolding(crate::specs::First::failing_at))]
+#[tactic(auto, unfolding(crate::specs::Internal::First::failing_at))]
 fn broken_line(tables: &Tables, position: usize) -> Option<Broken>
     ensures { option_map as_model result ≡ failing_at Condition.Seven tables.now.rows position }
 {
@@ -106,7 +106,7 @@ fn broken_line(tables: &Tables, position: usize) -> Option<Broken>
     unless(keeps::delivery_date(tables, row), at_order_line(7, row))
 }
 
-#[tactic(auto, unfolding(crate::specs::First::failing_at))]
+#[tactic(auto, unfolding(crate::specs::Internal::First::failing_at))]
 fn broken_customer(tables: &Tables, condition: Condition, position: usize) -> Option<Broken>
     requires tested { tested_table condition ≡ Table.Customer }
     ensures { option_map as_model result ≡ failing_at condition tables.now.rows position }

@@ -26,7 +26,7 @@ fn is_balance_after(balance: Cents, amount: Cents) -> bool
     }
 }
 
-#[tactic(auto, unfolding(crate::specs::Runs::charge_tests))]
+#[tactic(auto, unfolding(crate::specs::Internal::Runs::charge_tests))]
 fn charge_refusal(balance: Cents, delivery_count: u32, amount: Cents) -> Option<Refusal>
     ensures { result ≡ first_finding (charge_tests balance delivery_count amount) }
 {
@@ -68,7 +68,7 @@ fn delivery_count_of(tables: &Tables, warehouse: u32, district: u32, customer: u
 }
 
 /// Why the delivery of an order is refused.
-#[tactic(auto, unfolding(crate::specs::Runs::charge_tests))]
+#[tactic(auto, unfolding(crate::specs::Internal::Runs::charge_tests))]
 fn order_refusal(tables: &Tables, warehouse: u32, district: u32, order: u32) -> Option<Refusal>
     ensures refusal { result ≡ district_refusal tables.now.rows warehouse district (Some order) }
 {

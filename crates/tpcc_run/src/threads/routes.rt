@@ -5,6 +5,7 @@ ghost use Rattle.tpcc_mailbox.specs.Tokens.{identity, idle_origin};
 use crate::threads::route::{MailboxRoute, Route};
 use std::alloc::{AllocError, Global};
 use tpcc_book::Naming;
+use tpcc_rows::recall;
 use tpcc_server::{JobIdle, JobMailboxes};
 use tpcc_turns::Seating;
 
@@ -48,7 +49,8 @@ fn next_idle<N: Naming, T: Seating, C>(
     ensures one { IfSome result (λ idle. idle_origin idle ≡ identity mailboxes.now) }
     ensures less { IsSome result → vec_len idles.new < vec_len idles.old }
 {
-    let _ = mailboxes;
+    // For the proof: each right is of these mailboxes.
+    recall!(mailboxes);
     idles.pop()
 }
 
