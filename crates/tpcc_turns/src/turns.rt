@@ -7,7 +7,6 @@ ghost use Rattle.std.specs.Prelude.{◌≡◌};
 ghost use Rattle.tpcc_turns.specs.Seats.{IsTurned};
 ghost use Rattle.tpcc_book.specs.Turn.{TakesTurn, MakesTurn};
 
-mod boxed_book;
 mod gather;
 mod held;
 mod knows;
@@ -18,19 +17,18 @@ mod steps;
 mod unnamed;
 
 use crate::pause::Pause;
-use crate::turns::boxed_book::BoxedBook;
 use crate::turns::knows::Knows;
 use crate::turns::rule::TurnRule;
-use crate::turns::steps::{give, take};
+use crate::turns::steps::{end, serve, take};
 use atomic_table::Table;
 pub use held::HeldTurn;
 pub use seated::{SeatedPurse, Seating};
 use std::alloc::Global;
 use std::marker::{Model, PhantomData};
 use std::sync::Wait;
-use tpcc_book::{Answer, Naming, Register, Turned};
+use tpcc_book::{Answer, Book, Naming, Register, Turned};
 use tpcc_population::Opening;
-use tpcc_rows::{Request, recall};
+use tpcc_rows::Request;
 pub use unnamed::UnnamedTurns;
 
 /// How often a thread looks whether the book is free before it draws a ticket all the same.
@@ -43,7 +41,7 @@ const WAITING: u64 = 100;
 /// the book's opening; what purses have seen of the journal stands in them.
 pub struct Turns<N: Naming, T: Seating> {
     /// Both words, the book's slot and the seats' rule.
-    table: Table<Option<BoxedBook<N>>, Knows, Opening, TurnRule<N>, Global>,
+    table: Table<Option<Book<N>>, Knows, Opening, TurnRule<N>, Global>,
     /// Which table it is, for its type alone.
     of: PhantomData<T>,
 }
@@ -68,7 +66,7 @@ impl<N: Naming, T: Seating> Model for Turns<N, T> {
 
 impl<N: Naming, T: Seating> Turns<N, T> {
     pub(crate) fn of(
-        table: Table<Option<BoxedBook<N>>, Knows, Opening, TurnRule<N>, Global>,
+        table: Table<Option<Book<N>>, Knows, Opening, TurnRule<N>, Global>,
     ) -> Turns<N, T>
         requires name { table.shared.table_id ≡ T.table }
         requires counts { (table.shared.table_id.words ≡ 2) × (table.shared.table_id.slots ≡ 1) }
@@ -115,13 +113,12 @@ impl<N: Naming, T: Seating> Turns<N, T> {
         self.wait_until_free(rt);
         let (purse, mut seat) = purse.into_seat();
         let board = &self.table.shared;
-        let (ticket, mut book) = take(rt, board, &mut seat);
-        let answer = book.serve_by(request, purse, turn);
-        // For the proof: the book is kept.
-        recall!(book.journal());
-        give(board, &mut seat, ticket, book);
+        let ticket = take(rt, board, &mut seat);
+        let answer = serve(board, &mut seat, request, purse, turn);
+        end(board, &mut seat, ticket.wrapping_add(1));
         answer.carried_with(seat)
     }
+
     // Waits for a moment in which nobody has a turn, though not for ever. Tickets are served in the order in which they were
     // drawn, so that each turn costs a change of threads once many are out; where none is, the thread at work goes on.
     fn wait_until_free<R: Wait>(&self, rt: &R) {

@@ -1,5 +1,5 @@
 -- How seats of the turns are seen, with their tickets.
-use Rattle.std.specs.Prelude.{ℕ, ◌≡◌, ◌+◌, ◌%◌, ◌^◌, List, [], ◌∷◌, Option, None}
+use Rattle.std.specs.Prelude.{ℕ, ◌≡◌, ◌+◌, ◌%◌, ◌^◌, List, [], ◌∷◌, Option, Some}
 use Rattle.atomic_table.specs.Seated.{TableId}
 use Rattle.atomic_table.specs.Table.{Me}
 use Rattle.atomic_table.specs.declared.shared.Seat.{Seat}
@@ -21,10 +21,10 @@ number_of Idle = 0
 number_of (Out t) = t
 number_of (Holds t base) = t
 
--- a seat with so many parts that has the turn, with the journal of this book, which is out of its place
+-- a seat with so many parts that has the turn, and this book in its slot
 abbrev pub turn_holder : Me (Option Past) Knows → ℕ → Past → Me (Option Past) Knows
 turn_holder me parts book =
-    (knows me.0.start book.entries parts (Holds (number_of me.0.stage) book.entries) [], (0, None) ∷ [])
+    (knows me.0.start book.entries parts (Holds (number_of me.0.stage) book.entries) [], (0, Some book) ∷ [])
 
 -- the table of turns of this name: two words, and the book's slot
 pub record IsTurnTable (name table : TableId) : Type 0 where
@@ -32,8 +32,9 @@ pub record IsTurnTable (name table : TableId) : Type 0 where
   pub words : table.words ≡ 2
   pub slots : table.slots ≡ 1
 
--- a turn that is kept: the seat of so many parts is at this table and has the turn of the ticket, with this book, which is out of its slot
-pub record IsHeldTurn (table : TableId) (seat : Seat (Option Past) Knows) (parts ticket : ℕ) (book : Past) : Type 0 where
+-- a turn that is kept: the seat of so many parts is at this table and has the turn of the ticket, with a book in its slot
+pub record IsHeldTurn (table : TableId) (seat : Seat (Option Past) Knows) (parts ticket : ℕ) : Type 0 where
+  pub book : Past
   pub placed : seat.table_id ≡ table
   pub holds : seat.me ≡ turn_holder seat.me parts book
   pub numbered : ticket ≡ number_of seat.me.0.stage % 2 ^ 64

@@ -12,7 +12,6 @@ ghost use Rattle.tpcc_book.specs.Serve.{rooms_of};
 ghost use Rattle.tpcc_turns.specs.Internal.Shares.{both_of};
 
 use crate::turns::Turns;
-use crate::turns::boxed_book::BoxedBook;
 use crate::turns::knows::Knows;
 use crate::turns::seated::{SeatedPurse, Seating};
 use crate::turns::steps::{Board, BoardSeat};
@@ -47,9 +46,9 @@ impl<N: Naming, T: Seating> Turns<N, T> {
     {
         let Turns { table, of: _ } = self;
         let Some((seat, pool)) = join_all(&table.shared, purses) else {
-            return Err(book_of(table.close()));
+            return Err(home_of(table.close()));
         };
-        audit_book(book_of(table.close_with(seat)), pool)
+        audit_book(home_of(table.close_with(seat)), pool)
     }
 }
 
@@ -108,25 +107,6 @@ fn home_of<B: Drop>(closed: Closed<Option<B>, Global>) -> Option<B>
     let slot = closed.take(0);
     closed.free();
     if drawn == served { slot } else { None }
-}
-
-// The book out of its block.
-fn unbox<N: Naming>(book: Option<BoxedBook<N>>) -> Option<Book<N>>
-    ensures { result ≡ book }
-{
-    match book {
-        Some(book) => Some(book.into_book()),
-        None => None,
-    }
-}
-
-// The book of a closed table, where each ticket that was drawn was served.
-fn book_of<N: Naming>(closed: Closed<Option<BoxedBook<N>>, Global>) -> Option<Book<N>>
-    requires full { IsFull closed.words × IsFull closed.slots }
-    requires counts { (slots_len closed.words ≡ 2) × (slots_len closed.slots ≡ 1) }
-    ensures told { TellsBook (slots_items closed.words) (slots_items closed.slots) result }
-{
-    unbox(home_of(closed))
 }
 
 // The book with the two totals, where all purses are pooled.

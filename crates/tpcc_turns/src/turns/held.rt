@@ -5,13 +5,12 @@ ghost use Rattle.tpcc_turns.specs.Seats.{IsTurned, keeper_of};
 ghost use Rattle.tpcc_book.specs.Turn.{TakesTurn, MakesTurn};
 
 use crate::turns::Turns;
-use crate::turns::boxed_book::BoxedBook;
 use crate::turns::seated::{SeatedPurse, Seating};
-use crate::turns::steps::{BoardSeat, adopt, free, give, show, take};
+use crate::turns::steps::{BoardSeat, adopt, end, free, grow, serve, take};
 use std::marker::{Model, PhantomData};
 use std::sync::Wait;
 use tpcc_book::{Answer, Naming, Purse, Register, Turned};
-use tpcc_rows::{Request, recall};
+use tpcc_rows::Request;
 
 /// The turn of one purse, its keeper, with the book. Each request that is served in it is a turn of the book for the
 /// purse that asks. It is seen as the keeper's purse will be once the turn ends: with the opening, and the journal as
@@ -20,12 +19,10 @@ use tpcc_rows::{Request, recall};
 pub struct HeldTurn<N: Naming, T: Seating> {
     /// The keeper's own purse; requests are served by those of others.
     purse: Purse<N>,
-    /// The keeper's seat, which holds the book.
+    /// The keeper's seat, which has the book to itself.
     seat: BoardSeat<N>,
     /// The ticket that is served, modulo 2^64.
     ticket: u64,
-    /// The book, out of its slot.
-    book: BoxedBook<N>,
     /// Which table it is, for its type alone.
     of: PhantomData<T>,
 }
@@ -38,9 +35,9 @@ impl<N: Naming, T: Seating> Model for HeldTurn<N, T> {
     ghost Value = { SeatedView };
 
     ghost view = { λ h.
-        record { purse = h.purse; start = h.seat.me.0.start; front = h.book.entries } };
+        record { purse = h.purse; start = h.seat.me.0.start; front = h.seat.me.0.front } };
 
-    ghost invariant = { λ h. IsHeldTurn T.table h.seat (h.purse.room + 1) h.ticket h.book };
+    ghost invariant = { λ h. IsHeldTurn T.table h.seat (h.purse.room + 1) h.ticket };
 }
 
 impl<N: Naming, T: Seating> Turns<N, T> {
@@ -50,12 +47,11 @@ impl<N: Naming, T: Seating> Turns<N, T> {
         ensures begins { IsPrefix purse.front result.front }
     {
         let (purse, mut seat) = purse.into_seat();
-        let (ticket, book) = take(rt, &self.table.shared, &mut seat);
+        let ticket = take(rt, &self.table.shared, &mut seat);
         HeldTurn {
             purse,
             seat,
             ticket,
-            book,
             of: PhantomData,
         }
     }
@@ -89,22 +85,18 @@ impl<N: Naming, T: Seating> Turns<N, T> {
             purse: keeper,
             mut seat,
             ticket,
-            mut book,
             of,
         } = held;
         let (purse, other) = purse.into_seat();
         let board = &self.table.shared;
         adopt(board, &mut seat, other);
-        let answer = book.serve_by(request, purse, turn);
-        let book = show(board, &mut seat, book);
-        // For the proof: the book is kept.
-        recall!(book.journal());
+        let answer = serve(board, &mut seat, request, purse, turn);
+        grow(board, &mut seat);
         let back = free(board, &mut seat);
         let held = HeldTurn {
             purse: keeper,
             seat,
             ticket,
-            book,
             of,
         };
         (held, answer.carried_with(back))
@@ -119,10 +111,9 @@ impl<N: Naming, T: Seating> Turns<N, T> {
             purse,
             mut seat,
             ticket,
-            book,
             of: _,
         } = held;
-        give(&self.table.shared, &mut seat, ticket, book);
+        end(&self.table.shared, &mut seat, ticket.wrapping_add(1));
         SeatedPurse::seated(purse, seat)
     }
 }

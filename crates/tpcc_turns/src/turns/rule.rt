@@ -1,12 +1,11 @@
 //! The rule of the turns, and the kinds of step.
 //!
 //! Word 0 is the next ticket to be drawn, word 1 the ticket that is served. The one slot holds the book,
-//! which the seat that is served has taken out.
-use crate::turns::boxed_book::BoxedBook;
+//! which the seat that is served has to itself.
 use crate::turns::knows::Knows;
 use atomic_table::{Play, TableRule};
 use std::marker::PhantomData;
-use tpcc_book::Naming;
+use tpcc_book::{Book, Naming};
 use tpcc_population::Opening;
 
 /// The rule by which the two words, the book and the seats stand to one another.
@@ -14,7 +13,7 @@ pub struct TurnRule<N> {
     of: PhantomData<N>,
 }
 
-impl<N: Naming> TableRule<Option<BoxedBook<N>>, Knows, Opening> for TurnRule<N> {
+impl<N: Naming> TableRule<Option<Book<N>>, Knows, Opening> for TurnRule<N> {
     ghost use Rattle.tpcc_turns.specs.Internal.TurnRule.{FollowsTurnRule, first};
 
     ghost holds = { FollowsTurnRule };
@@ -25,7 +24,7 @@ impl<N: Naming> TableRule<Option<BoxedBook<N>>, Knows, Opening> for TurnRule<N> 
 /// Drawing a ticket.
 pub struct Draw;
 
-impl<N: Naming> Play<Option<BoxedBook<N>>, Knows> for Draw {
+impl<N: Naming> Play<Option<Book<N>>, Knows> for Draw {
     ghost use Rattle.tpcc_turns.specs.Internal.TurnRule.{DrawStep};
 
     ghost then = { DrawStep };
@@ -34,7 +33,7 @@ impl<N: Naming> Play<Option<BoxedBook<N>>, Knows> for Draw {
 /// Looking whether it is served, and taking the book.
 pub struct Look;
 
-impl<N: Naming> Play<Option<BoxedBook<N>>, Knows> for Look {
+impl<N: Naming> Play<Option<Book<N>>, Knows> for Look {
     ghost use Rattle.tpcc_turns.specs.Internal.TurnRule.{LookStep};
 
     ghost then = { LookStep };
@@ -43,7 +42,7 @@ impl<N: Naming> Play<Option<BoxedBook<N>>, Knows> for Look {
 /// Telling that the journal is that of the book in hand.
 pub struct Grow;
 
-impl<N: Naming> Play<Option<BoxedBook<N>>, Knows> for Grow {
+impl<N: Naming> Play<Option<Book<N>>, Knows> for Grow {
     ghost use Rattle.tpcc_turns.specs.Internal.TurnRule.{GrowStep};
 
     ghost then = { GrowStep };
@@ -52,7 +51,7 @@ impl<N: Naming> Play<Option<BoxedBook<N>>, Knows> for Grow {
 /// Giving the book back, and serving the next ticket.
 pub struct End;
 
-impl<N: Naming> Play<Option<BoxedBook<N>>, Knows> for End {
+impl<N: Naming> Play<Option<Book<N>>, Knows> for End {
     ghost use Rattle.tpcc_turns.specs.Internal.TurnRule.{EndStep};
 
     ghost then = { EndStep };

@@ -5,12 +5,11 @@ ghost use Rattle.tpcc_turns.specs.Knows.{knows};
 ghost use Rattle.tpcc_turns.specs.Seats.{CanSeat, seated_at};
 ghost use Rattle.tpcc_turns.specs.Internal.Seats.{view_of};
 
-use crate::turns::boxed_book::BoxedBook;
 use crate::turns::knows::Knows;
 use crate::turns::steps::BoardSeat;
 use atomic_table::Badge;
 use std::marker::{Brand, Model, PhantomData};
-use tpcc_book::{CarriesPurse, Naming, Purse};
+use tpcc_book::{Book, CarriesPurse, Naming, Purse};
 use tpcc_money::Cents;
 
 /// A type that stands for the table in which one book stands. Whoever names turns picks it, so a purse
@@ -120,7 +119,7 @@ impl<N: Naming, T: Seating> SeatedPurse<N, T> {
             badge,
             of: _,
         } = self;
-        (purse, badge.into_seat::<Option<BoxedBook<N>>>())
+        (purse, badge.into_seat::<Option<Book<N>>>())
     }
 
     /// The terminal whose purse it is.

@@ -2,12 +2,11 @@
 ghost use Rattle.std.specs.Prelude.{◌≡◌, ◌+◌, ◌<◌, pos};
 
 use crate::turns::Turns;
-use crate::turns::boxed_book::BoxedBook;
 use crate::turns::knows::Knows;
 use crate::turns::seated::{SeatedPurse, Seating};
 use atomic_table::{Badge, Split};
 use std::mem::replace;
-use tpcc_book::Naming;
+use tpcc_book::{Book, Naming};
 
 /// One part goes to a new seat, which has seen as much.
 pub struct OneShare;
@@ -50,7 +49,7 @@ impl<N: Naming, T: Seating> SeatedPurse<N, T> {
     {
         let board = &turns.table.shared;
         let badge = replace(&mut self.badge, Badge::blank());
-        let mut seat = badge.into_seat::<Option<BoxedBook<N>>>();
+        let mut seat = badge.into_seat::<Option<Book<N>>>();
         let given = board.split_seat::<OneShare>(&mut seat);
         self.badge = seat.into_badge();
         SeatedPurse::seated(self.purse.split(terminal), given)

@@ -1,30 +1,30 @@
 //! The steps of a turn: a ticket is drawn, looked for, and ended.
 ghost use Rattle.std.specs.Prelude.{◌≡◌, ◌<◌, ℕ, List, [], ◌∷◌, Option, Some};
-ghost use Rattle.atomic_table.specs.Table.{rest};
 ghost use Rattle.tpcc_turns.specs.Knows.{Idle, Out, Holds};
 ghost use Rattle.tpcc_turns.specs.Knows.{knows};
 ghost use Rattle.tpcc_turns.specs.Internal.TurnRule.{HasBook, HasGrown};
-ghost use Rattle.tpcc_turns.specs.Internal.TurnSteps.{HasDrawn, Awaits, HasTaken, CanGive, CanEnd, CanShow, CanGrow, HasShown};
+ghost use Rattle.tpcc_turns.specs.Internal.TurnSteps.{HasDrawn, Awaits, HasTaken, HasServedHere, CanEnd, CanGrow};
 ghost use Rattle.tpcc_turns.specs.Internal.Shares.{both_of, last_parts, freed_of, back_of};
 ghost use Rattle.tpcc_rows.specs.declared.transactions.entry.Entry.{Entry};
 ghost use Rattle.tpcc_book.specs.Past.{Past};
+ghost use Rattle.tpcc_book.specs.Turn.{TakesTurn, MakesTurn};
 
 use crate::pause::Pause;
-use crate::turns::boxed_book::BoxedBook;
 use crate::turns::gather::Joining;
 use crate::turns::knows::Knows;
 use crate::turns::rule::{Draw, End, Grow, Look, TurnRule};
 use crate::turns::split::LastJoined;
-use atomic_table::{Seat, Shared, TableRule};
+use atomic_table::{Seat, Shared};
 use std::sync::Wait;
-use tpcc_book::Naming;
+use tpcc_book::{Answer, Book, Naming, Purse, Register, Turned};
 use tpcc_population::Opening;
+use tpcc_rows::{Request, recall};
 
 /// The words and the slot that all seats share.
-pub type Board<N> = Shared<Option<BoxedBook<N>>, Knows, Opening, TurnRule<N>>;
+pub type Board<N> = Shared<Option<Book<N>>, Knows, Opening, TurnRule<N>>;
 
 /// A seat at the board.
-pub type BoardSeat<N> = Seat<Option<BoxedBook<N>>, Knows>;
+pub type BoardSeat<N> = Seat<Option<Book<N>>, Knows>;
 
 // Draws a ticket.
 fn draw<N: Naming>(board: &Board<N>, seat: &mut BoardSeat<N>) -> u64
@@ -55,8 +55,8 @@ fn wait<N: Naming, R: Wait>(rt: &R, board: &Board<N>, seat: &mut BoardSeat<N>, t
     unreachable!()
 }
 
-// Ends the turn.
-fn end<N: Naming>(board: &Board<N>, seat: &mut BoardSeat<N>, next: u64)
+/// Ends the turn: the book is free for the next ticket, which is `next`.
+pub(crate) fn end<N: Naming>(board: &Board<N>, seat: &mut BoardSeat<N>, next: u64)
     requires fits { (seat.old.table_id ≡ board.now.table_id) × (board.now.table_id.words ≡ 2) }
     requires holds { CanEnd seat.old.me next }
     ensures same { (seat.new.table_id ≡ seat.old.table_id) × (seat.new.id ≡ seat.old.id) }
@@ -67,38 +67,41 @@ fn end<N: Naming>(board: &Board<N>, seat: &mut BoardSeat<N>, next: u64)
     board.store::<End>(seat, 1, next);
 }
 
-/// Draws a ticket, waits until it is served, and takes the book.
-pub(crate) fn take<N: Naming, R: Wait>(
-    rt: &R,
-    board: &Board<N>,
-    seat: &mut BoardSeat<N>,
-) -> (u64, BoxedBook<N>)
+/// Draws a ticket, and waits until it is served: then the seat has the turn, and the book in its slot.
+pub(crate) fn take<N: Naming, R: Wait>(rt: &R, board: &Board<N>, seat: &mut BoardSeat<N>) -> u64
     requires fits { (seat.old.table_id ≡ board.now.table_id) × (board.now.table_id.words ≡ 2) }
     requires idle { (seat.old.me.0.stage ≡ Idle) × (0 < seat.old.me.0.parts)
         × (seat.old.me.1 ≡ []) }
     ensures same { (seat.new.table_id ≡ seat.old.table_id) × (seat.new.id ≡ seat.old.id) }
-    ensures taken { HasTaken seat.old.me result.0 result.1 seat.new.me }
+    ensures taken { HasTaken seat.old.me result seat.new.me }
 {
     let ticket = draw(board, seat);
     wait(rt, board, seat, ticket);
-    let Some(book) = board.exchange(seat, 0, None) else {
-        unreachable!()
-    };
-    (ticket, book)
+    ticket
 }
 
-// Puts the book into its slot, of whatever a book is.
-fn put<B: Drop, V, K, P: TableRule<Option<B>, V, K>>(
-    board: &Shared<Option<B>, V, K, P>,
-    seat: &mut Seat<Option<B>, V>,
-    book: B,
-)
+/// Serves a request for a purse at the book of the seat that has the turn, where the book lies.
+pub(crate) fn serve<N: Naming, F: FnOnce(&mut Register, Request, u32, u64) -> Turned>(
+    board: &Board<N>,
+    seat: &mut BoardSeat<N>,
+    request: Request,
+    purse: Purse<N>,
+    turn: F,
+) -> Answer<Purse<N>>
     requires fits { seat.old.table_id ≡ board.now.table_id }
-    requires out { (old : Option B) × (seat.old.me.1 ≡ (0, old) ∷ rest seat.old.me.1) }
+    requires has { (book : Past) × (seat.old.me.1 ≡ (0, Some book) ∷ []) }
+    requires takes { TakesTurn (F.pre turn) }
+    requires turns { MakesTurn (F.post turn) }
     ensures same { (seat.new.table_id ≡ seat.old.table_id) × (seat.new.id ≡ seat.old.id) }
-    ensures put { seat.new.me ≡ (seat.old.me.0, (0, Some book) ∷ rest seat.old.me.1) }
+    ensures served { HasServedHere seat.old.me request purse result seat.new.me }
 {
-    let _none = board.exchange(seat, 0, Some(book));
+    let Some(book) = seat.slot_mut(board, 0) else {
+        unreachable!()
+    };
+    let answer = book.serve_by(request, purse, turn);
+    // For the proof: the book is kept.
+    recall!(book.journal());
+    answer
 }
 
 /// Joins an idle seat into one that has the turn.
@@ -113,28 +116,8 @@ pub(crate) fn adopt<N: Naming>(board: &Board<N>, seat: &mut BoardSeat<N>, other:
     board.join_seat::<Joining>(seat, other);
 }
 
-/// Tells the turn's seat that the journal is that of the book, which comes back.
-pub(crate) fn show<N: Naming>(
-    board: &Board<N>,
-    seat: &mut BoardSeat<N>,
-    book: BoxedBook<N>,
-) -> BoxedBook<N>
-    requires fits { (seat.old.table_id ≡ board.now.table_id) × (board.now.table_id.words ≡ 2) }
-    requires growing { CanShow seat.old.me book }
-    ensures same { (seat.new.table_id ≡ seat.old.table_id) × (seat.new.id ≡ seat.old.id) }
-    ensures book { result ≡ book }
-    ensures shown { HasShown seat.old.me book seat.new.me }
-{
-    put(board, seat, book);
-    grow(board, seat);
-    let Some(book) = board.exchange(seat, 0, None) else {
-        unreachable!()
-    };
-    book
-}
-
-// Tells the turn's seat that the journal is that of the book in its slot.
-fn grow<N: Naming>(board: &Board<N>, seat: &mut BoardSeat<N>)
+/// Tells the turn's seat that the journal is that of the book in its slot.
+pub(crate) fn grow<N: Naming>(board: &Board<N>, seat: &mut BoardSeat<N>)
     requires fits { (seat.old.table_id ≡ board.now.table_id) × (board.now.table_id.words ≡ 2) }
     requires grows { CanGrow seat.old.me }
     ensures same { (seat.new.table_id ≡ seat.old.table_id) × (seat.new.id ≡ seat.old.id) }
@@ -156,21 +139,4 @@ pub(crate) fn free<N: Naming>(board: &Board<N>, seat: &mut BoardSeat<N>) -> Boar
         × (result.me ≡ (back_of seat.old.me.0, [])) }
 {
     board.split_seat::<LastJoined>(seat)
-}
-
-/// Gives the book back, and ends the turn.
-pub(crate) fn give<N: Naming>(
-    board: &Board<N>,
-    seat: &mut BoardSeat<N>,
-    ticket: u64,
-    book: BoxedBook<N>,
-)
-    requires fits { (seat.old.table_id ≡ board.now.table_id) × (board.now.table_id.words ≡ 2) }
-    requires giving { CanGive seat.old.me ticket book }
-    ensures same { (seat.new.table_id ≡ seat.old.table_id) × (seat.new.id ≡ seat.old.id) }
-    ensures ended { seat.new.me
-        ≡ (knows seat.old.me.0.start book.entries seat.old.me.0.parts Idle seat.old.me.0.told, []) }
-{
-    put(board, seat, book);
-    end(board, seat, ticket.wrapping_add(1));
 }

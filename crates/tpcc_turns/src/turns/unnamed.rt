@@ -3,7 +3,6 @@ ghost use Rattle.std.specs.Prelude.{◌≡◌, [], ◌∷◌, IfOk, Some};
 ghost use Rattle.tpcc_book.specs.Purses.{first_purse};
 
 use crate::turns::Turns;
-use crate::turns::boxed_book::BoxedBook;
 use crate::turns::knows::Knows;
 use crate::turns::rule::TurnRule;
 use crate::turns::seated::{SeatedPurse, Seating};
@@ -20,7 +19,7 @@ use tpcc_rows::NoMemory;
 #[derive(Drop)]
 pub struct UnnamedTurns<N: Naming> {
     /// Both words and the new book in its slot.
-    table: Table<Option<BoxedBook<N>>, Knows, Opening, TurnRule<N>, Global>,
+    table: Table<Option<Book<N>>, Knows, Opening, TurnRule<N>, Global>,
     /// The first seat, which has all parts.
     seat: BoardSeat<N>,
     /// The book's first purse.
@@ -51,7 +50,7 @@ impl<N: Naming> UnnamedTurns<N> {
         ensures opening { IfOk result (λ t. t.opening ≡ opening.now) }
     {
         let (book, purse) = Book::<N>::start(alloc, opening, blanks)?;
-        let slots = slot_of(alloc, book)?;
+        let slots = one_slot(alloc, book)?;
         match Table::new(alloc, &[0, 0], slots, opening) {
             Ok((table, seat)) => Ok(UnnamedTurns { table, seat, purse }),
             Err(refused) => Err(no_memory(refused)),
@@ -68,14 +67,6 @@ impl<N: Naming> UnnamedTurns<N> {
         let UnnamedTurns { table, seat, purse } = self;
         (Turns::of(table), SeatedPurse::seated(purse, seat))
     }
-}
-
-// The slot with the book in its block.
-fn slot_of<N: Naming>(alloc: Global, book: Book<N>) -> Result<Vec<Option<BoxedBook<N>>>, NoMemory>
-    ensures slot { IfOk result (λ slots. slots.items ≡ Some book ∷ []) }
-{
-    let boxed = BoxedBook::new(alloc, book)?;
-    one_slot(alloc, boxed)
 }
 
 // One slot that is full, of whatever lies in it.

@@ -8,8 +8,8 @@ use Rattle.tpcc_turns.proofs.turns.Turns.gather.Goals as goal
 
 pub returns-in_default-clause-left : goal.returns-in_default-clause-left
 returns-in_default-clause-left g c =
-    let told = closes_alone c.self.inside.table.shared.key (slots_items c.close.result.words) (slots_items c.close.result.slots) c.book_of.result c.args.purses.items c.close.ensures.values.2 c.book_of.ensures.told c.in_default.ensures.none in
-    subst (λ (start : Opening). IfSome c.book_of.result (IsLeft start c.args.purses.items)) c.self.view_is told
+    let told = closes_alone c.self.inside.table.shared.key (slots_items c.close.result.words) (slots_items c.close.result.slots) c.home_of.result c.args.purses.items c.close.ensures.values.2 c.home_of.ensures.told c.in_default.ensures.none in
+    subst (λ (start : Opening). IfSome c.home_of.result (IsLeft start c.args.purses.items)) c.self.view_is told
 
 pub returns-clause-exactly : goal.returns-clause-exactly
 returns-clause-exactly g c =
@@ -17,9 +17,9 @@ returns-clause-exactly g c =
     let key = c.self.inside.table.shared.key in
     let words = slots_items c.close_with.result.words in
     let slots = slots_items c.close_with.result.slots in
-    let told = c.book_of-2.result in
-    let left = closes_joined key c.in-Some.seat.id c.in-Some.seat.me.0 words slots told c.args.purses.items c.in-Some.pool c.close_with.ensures.values.2 c.book_of-2.ensures.told j in
-    let there = is_there key c.in-Some.seat.id c.in-Some.seat.me.0 words slots told c.close_with.ensures.values.2 c.book_of-2.ensures.told j.idle in (
+    let told = c.home_of-2.result in
+    let left = closes_joined key c.in-Some.seat.id c.in-Some.seat.me.0 words slots told c.args.purses.items c.in-Some.pool c.close_with.ensures.values.2 c.home_of-2.ensures.told j in
+    let there = is_there key c.in-Some.seat.id c.in-Some.seat.me.0 words slots told c.close_with.ensures.values.2 c.home_of-2.ensures.told j.idle in (
       all_where_ok key c.args.purses.items c.in-Some.pool told j.shares left c.audit_book.result c.audit_book.ensures.all,
       ok_where_all key c.args.purses.items c.in-Some.pool told j.shares left c.audit_book.result c.audit_book.ensures.few (λ all. there (j.parts ∙ all)),
     )
@@ -27,15 +27,15 @@ returns-clause-exactly g c =
 pub returns-clause-gathered : goal.returns-clause-gathered
 returns-clause-gathered g c =
     let j = c.in-Some.ensures.joined in
-    let told = c.book_of-2.result in
-    let left = closes_joined c.self.inside.table.shared.key c.in-Some.seat.id c.in-Some.seat.me.0 (slots_items c.close_with.result.words) (slots_items c.close_with.result.slots) told c.args.purses.items c.in-Some.pool c.close_with.ensures.values.2 c.book_of-2.ensures.told j in
+    let told = c.home_of-2.result in
+    let left = closes_joined c.self.inside.table.shared.key c.in-Some.seat.id c.in-Some.seat.me.0 (slots_items c.close_with.result.words) (slots_items c.close_with.result.slots) told c.args.purses.items c.in-Some.pool c.close_with.ensures.values.2 c.home_of-2.ensures.told j in
     let left' = subst (λ (start : Opening). IfSome told (IsLeft start c.args.purses.items)) c.self.view_is left in
     gathers c.args.self c.args.purses.items c.in-Some.pool told j.shares left' c.audit_book.result c.audit_book.ensures.all c.audit_book.ensures.audited
 
 pub returns-clause-left : goal.returns-clause-left
 returns-clause-left g c =
     let j = c.in-Some.ensures.joined in
-    let told = c.book_of-2.result in
-    let left = closes_joined c.self.inside.table.shared.key c.in-Some.seat.id c.in-Some.seat.me.0 (slots_items c.close_with.result.words) (slots_items c.close_with.result.slots) told c.args.purses.items c.in-Some.pool c.close_with.ensures.values.2 c.book_of-2.ensures.told j in
+    let told = c.home_of-2.result in
+    let left = closes_joined c.self.inside.table.shared.key c.in-Some.seat.id c.in-Some.seat.me.0 (slots_items c.close_with.result.words) (slots_items c.close_with.result.slots) told c.args.purses.items c.in-Some.pool c.close_with.ensures.values.2 c.home_of-2.ensures.told j in
     let left' = subst (λ (start : Opening). IfSome told (IsLeft start c.args.purses.items)) c.self.view_is left in
     leaves c.args.self c.args.purses.items c.in-Some.pool told j.shares left' c.audit_book.result c.audit_book.ensures.missing
