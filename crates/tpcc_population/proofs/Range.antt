@@ -11,13 +11,15 @@ use Rattle.tpcc_money.specs.Texts.{padded_number}
 use Rattle.tpcc_rows.specs.LastName.{syllables, syllable, last_name}
 use Rattle.tpcc_rows.specs.Printable.{is_printable}
 use Rattle.tpcc_rows.specs.Ranges.{is_within, is_amount_within, is_text, is_exact_text}
+use Rattle.tpcc_rows.specs.declared.limits.TheConstants.{GREATEST_CUSTOMER}
+use Rattle.tpcc_population.specs.declared.seeded.numbers.TheConstants.{MOST_DISTRICTS}
 
 pub within : (low high n : ℕ) → low ≤ n → n ≤ high → is_within low high n ≡ true
 within low high n a b = grind (arith, nat_tests)
 
 -- the rows before a district
-pub small_product : (a b : ℕ) → a ≤ 1000 → b ≤ 3000 → a * b ≤ 3000000
-small_product a b h k = mul-le a b 1000 3000 h k
+pub small_product : (a b : ℕ) → a ≤ MOST_DISTRICTS → b ≤ GREATEST_CUSTOMER → a * b ≤ MOST_DISTRICTS * GREATEST_CUSTOMER
+small_product a b h k = mul-le a b MOST_DISTRICTS GREATEST_CUSTOMER h k
 
 pub amount_within : (low high n : ℕ) → low ≤ n → n ≤ high → is_amount_within (pos low) (pos high) (pos n) ≡ true
 amount_within low high n a b = grind (arith, nat_tests)

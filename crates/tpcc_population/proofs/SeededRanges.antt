@@ -1,6 +1,6 @@
 -- The rows of the drawn opening refer to rows that there are, and are in their ranges, at every scale.
 use Rattle.std.proofs.Common.{◌≡◌, ℕ, zero, suc, ◌+◌, ◌-◌, ◌*◌, ◌<◌, ◌≤◌, Bool, true, false, List, [], ◌∷◌, ◌++◌, length, take, drop, refl, length-append, length-take, length-drop, arith}
-use Rattle.std.specs.Prelude.{ℤ, pos, IsTrue, ◌==◌, ◌&&◌, if◌then◌else◌, nat_le, codes, Option, slice_index}
+use Rattle.std.specs.Prelude.{ℤ, pos, unsigned_abs, IsTrue, ◌==◌, ◌&&◌, if◌then◌else◌, nat_le, codes, Option, slice_index}
 use Rattle.std.specs.List.{list_all}
 use Rattle.std.proofs.lemmas.List.Folds.{list_all-append}
 use Rattle.rand_core.specs.Stream.{Stream}
@@ -19,7 +19,10 @@ use Rattle.tpcc_population.specs.Internal.Regular.{RefersInside, HasRowsInRange}
 use Rattle.tpcc_population.specs.Seeded.{Seeding, seeded_rules, drawn_zip, drawn_address, drawn_last, drawn_information, drawn_texts, drawn_carrier, drawn_amount, with_original, district_number, number_in_districts, line_number, stock_number, seeded_warehouse, seeded_district, seeded_customer, seeded_history, seeded_order, seeded_order_line, seeded_item, seeded_stock}
 use Rattle.tpcc_population.proofs.Range.{within, amount_within, text_ok, exact_ok, last_name_ok}
 use Rattle.tpcc_population.proofs.PlainRanges.{text_where, moment_where, new_order_ok}
-use Rattle.tpcc_rows.specs.declared.limits.TheConstants.{GREATEST_LINE_AMOUNT, GREATEST_ORDER}
+use Rattle.tpcc_rows.specs.declared.limits.TheConstants.{GREATEST_WAREHOUSE, GREATEST_DISTRICT, GREATEST_CUSTOMER, GREATEST_ITEM, GREATEST_ORDER, GREATEST_CARRIER, GREATEST_TOTAL, GREATEST_LINE_AMOUNT, GREATEST_IMAGE}
+use Rattle.tpcc_money.specs.declared.amounts.TheConstants.{GREATEST_PRICE}
+use Rattle.tpcc_population.specs.declared.rules.TheConstants.{MOST_ORDER_LINES}
+use Rattle.tpcc_draws.specs.declared.names.TheConstants.{LAST_NAMES}
 use Rattle.tpcc_money.specs.declared.moment.TheConstants.Moment.{LAST_SECOND}
 
 words_at : (seed table row : ℕ) → HasWords (stream_at seed table row)
@@ -65,16 +68,16 @@ address_is_drawn s words =
 
 -- ---- last names, texts with ORIGINAL, the ten texts of a STOCK row
 
-last_words : (k : ℕ) (s : Stream) → HasWords s → (b : Bool) → IsTextOf 16 (if b then (last_name (k - 1), s) else (let n = nurand 255 100 0 999 s in (last_name n.0, n.1)))
+last_words : (k : ℕ) (s : Stream) → HasWords s → (b : Bool) → IsTextOf 16 (if b then (last_name (k - 1), s) else (let n = nurand 255 100 0 (LAST_NAMES - 1) s in (last_name n.0, n.1)))
 last_words k s words true = record { text = last_name_ok (k - 1); words = words }
 last_words k s words false =
     let a = between_is_between 0 255 s (omega arith) (omega arith) words in
-    let b = between_is_between 0 999 (between 0 255 s).1 (omega arith) (omega arith) a.words in
-    record { text = last_name_ok (nurand 255 100 0 999 s).0; words = b.words }
+    let b = between_is_between 0 (LAST_NAMES - 1) (between 0 255 s).1 (omega arith) (omega arith) a.words in
+    record { text = last_name_ok (nurand 255 100 0 (LAST_NAMES - 1) s).0; words = b.words }
 
 last_is_drawn : (k : ℕ) (s : Stream) → HasWords s → IsTextOf 16 (drawn_last k s)
 unfolding drawn_last
-last_is_drawn k s words = last_words k s words (nat_le k 1000)
+last_is_drawn k s words = last_words k s words (nat_le k LAST_NAMES)
 
 all-take : (p : ℕ → Bool) (n : ℕ) (xs : List ℕ) → list_all p xs ≡ true → list_all p (take n xs) ≡ true
 all-take p zero xs h = refl
@@ -138,8 +141,8 @@ record IsCarrierOf (drawn : Option ℕ × Stream) : Type 0 where
 carrier_is_drawn : (delivered : Bool) (s : Stream) → HasWords s → IsCarrierOf (drawn_carrier delivered s)
 unfolding drawn_carrier
 carrier_is_drawn true s words =
-    let n = between_is_between 1 10 s (omega arith) (omega arith) words in
-    record { carrier = within 1 10 (between 1 10 s).0 n.least n.most; words = n.words }
+    let n = between_is_between 1 GREATEST_CARRIER s (omega arith) (omega arith) words in
+    record { carrier = within 1 GREATEST_CARRIER (between 1 GREATEST_CARRIER s).0 n.least n.most; words = n.words }
 carrier_is_drawn false s words = record { carrier = refl; words = words }
 
 record IsAmountOf (drawn : ℤ × Stream) : Type 0 where
@@ -150,8 +153,8 @@ amount_is_drawn : (delivered : Bool) (s : Stream) → HasWords s → IsAmountOf 
 unfolding drawn_amount
 amount_is_drawn true s words = record { amount = refl; words = words }
 amount_is_drawn false s words =
-    let n = between_is_between 1 999999 s (omega arith) (omega arith) words in
-    record { amount = amount_within 0 999999 (between 1 999999 s).0 (omega arith) n.most; words = n.words }
+    let n = between_is_between 1 (unsigned_abs GREATEST_LINE_AMOUNT) s (omega arith) (omega arith) words in
+    record { amount = amount_within 0 (unsigned_abs GREATEST_LINE_AMOUNT) (between 1 (unsigned_abs GREATEST_LINE_AMOUNT) s).0 (omega arith) n.most; words = n.words }
 
 -- ---- what orders and lines refer to
 
@@ -172,35 +175,35 @@ warehouse_ok : (g : Seeding) → IsScale g.scale → (w : ℕ) → 1 ≤ w → w
 unfolding is_warehouse_row
 warehouse_ok g n w a b =
     let start = stream_at g.seed 1 w in
-    let id = within 1 100 w a (omega (arith, n.warehouses_most)) in
+    let id = within 1 GREATEST_WAREHOUSE w a (omega (arith, n.warehouses_most)) in
     let name = short_text 6 10 10 start (omega arith) (omega arith) (omega arith) (words_at g.seed 1 w) in
     let address = address_is_drawn (a_string 6 10 start).1 name.words in
     let rate = between_is_between 0 2000 (drawn_address (a_string 6 10 start).1).1 (omega arith) (omega arith) address.words in
     let tax = within 0 9999 (between 0 2000 (drawn_address (a_string 6 10 start).1).1).0 (omega arith) (omega (arith, rate.most)) in
-    let ytd = amount_within 0 999999999999 (g.scale.customers * 10000) (omega arith) (omega (arith, n.customers_most)) in
+    let ytd = amount_within 0 (unsigned_abs GREATEST_TOTAL) (g.scale.customers * 10000) (omega arith) (omega (arith, n.customers_most)) in
     λ i. id i && name.text i && address.address i && tax i && ytd i
 
-district_ok : (g : Seeding) → IsScale g.scale → (w d : ℕ) → 1 ≤ w → w < 1 + g.scale.warehouses → 1 ≤ d → d < 11 → IsTrue (is_district_row (seeded_district g w d))
+district_ok : (g : Seeding) → IsScale g.scale → (w d : ℕ) → 1 ≤ w → w < 1 + g.scale.warehouses → 1 ≤ d → d < 1 + GREATEST_DISTRICT → IsTrue (is_district_row (seeded_district g w d))
 unfolding is_district_row
 district_ok g n w d a b c e =
     let start = stream_at g.seed 2 (district_number w d) in
-    let id = within 1 10 d c (omega arith) in
-    let warehouse = within 1 100 w a (omega (arith, n.warehouses_most)) in
+    let id = within 1 GREATEST_DISTRICT d c (omega arith) in
+    let warehouse = within 1 GREATEST_WAREHOUSE w a (omega (arith, n.warehouses_most)) in
     let name = short_text 6 10 10 start (omega arith) (omega arith) (omega arith) (words_at g.seed 2 (district_number w d)) in
     let address = address_is_drawn (a_string 6 10 start).1 name.words in
     let rate = between_is_between 0 2000 (drawn_address (a_string 6 10 start).1).1 (omega arith) (omega arith) address.words in
     let tax = within 0 9999 (between 0 2000 (drawn_address (a_string 6 10 start).1).1).0 (omega arith) (omega (arith, rate.most)) in
-    let ytd = amount_within 0 999999999999 (g.scale.customers * 1000) (omega arith) (omega (arith, n.customers_most)) in
+    let ytd = amount_within 0 (unsigned_abs GREATEST_TOTAL) (g.scale.customers * 1000) (omega arith) (omega (arith, n.customers_most)) in
     let next = within 1 GREATEST_ORDER (g.scale.customers + 1) (omega arith) (omega (arith, n.customers_most)) in
     λ i. id i && warehouse i && name.text i && address.address i && tax i && ytd i && next i
 
-customer_ok : (g : Seeding) → IsScale g.scale → g.moment ≤ greatest_moment → (w d k : ℕ) → 1 ≤ w → w < 1 + g.scale.warehouses → 1 ≤ d → d < 11 → 1 ≤ k → k < 1 + g.scale.customers → IsTrue (is_customer_row (seeded_customer g w d k))
+customer_ok : (g : Seeding) → IsScale g.scale → g.moment ≤ greatest_moment → (w d k : ℕ) → 1 ≤ w → w < 1 + g.scale.warehouses → 1 ≤ d → d < 1 + GREATEST_DISTRICT → 1 ≤ k → k < 1 + g.scale.customers → IsTrue (is_customer_row (seeded_customer g w d k))
 unfolding is_customer_row
 customer_ok g n m w d k a b c e f h =
     let start = stream_at g.seed 3 (number_in_districts g.scale w d k) in
-    let id = within 1 3000 k f (omega (arith, n.customers_most)) in
-    let district = within 1 10 d c (omega arith) in
-    let warehouse = within 1 100 w a (omega (arith, n.warehouses_most)) in
+    let id = within 1 GREATEST_CUSTOMER k f (omega (arith, n.customers_most)) in
+    let district = within 1 GREATEST_DISTRICT d c (omega arith) in
+    let warehouse = within 1 GREATEST_WAREHOUSE w a (omega (arith, n.warehouses_most)) in
     let first = short_text 8 16 16 start (omega arith) (omega arith) (omega arith) (words_at g.seed 3 (number_in_districts g.scale w d k)) in
     let s_1 = (a_string 8 16 start).1 in
     let last = last_is_drawn k s_1 first.words in
@@ -219,44 +222,44 @@ customer_ok g n m w d k a b c e f h =
     let since = within 0 LAST_SECOND g.moment (omega arith) m in
     λ i. id i && district i && warehouse i && first.text i && true && last.text i && address.address i && phone_text i && since i && credit i && true && discount i && true && true && true && true && information.text i
 
-history_ok : (g : Seeding) → IsScale g.scale → g.moment ≤ greatest_moment → (w d k : ℕ) → 1 ≤ w → w < 1 + g.scale.warehouses → 1 ≤ d → d < 11 → 1 ≤ k → k < 1 + g.scale.customers → IsTrue (is_history_row (seeded_history g w d k))
+history_ok : (g : Seeding) → IsScale g.scale → g.moment ≤ greatest_moment → (w d k : ℕ) → 1 ≤ w → w < 1 + g.scale.warehouses → 1 ≤ d → d < 1 + GREATEST_DISTRICT → 1 ≤ k → k < 1 + g.scale.customers → IsTrue (is_history_row (seeded_history g w d k))
 unfolding is_history_row
 history_ok g n m w d k a b c e f h =
-    let id = within 1 3000 k f (omega (arith, n.customers_most)) in
-    let district = within 1 10 d c (omega arith) in
-    let warehouse = within 1 100 w a (omega (arith, n.warehouses_most)) in
+    let id = within 1 GREATEST_CUSTOMER k f (omega (arith, n.customers_most)) in
+    let district = within 1 GREATEST_DISTRICT d c (omega arith) in
+    let warehouse = within 1 GREATEST_WAREHOUSE w a (omega (arith, n.warehouses_most)) in
     let date = within 0 LAST_SECOND g.moment (omega arith) m in
     let information = short_text 12 24 24 (stream_at g.seed 4 (number_in_districts g.scale w d k)) (omega arith) (omega arith) (omega arith) (words_at g.seed 4 (number_in_districts g.scale w d k)) in
     λ i. id i && district i && warehouse i && district i && warehouse i && date i && true && information.text i
 
-order_ok : (g : Seeding) → IsScale g.scale → g.moment ≤ greatest_moment → (w d o : ℕ) → 1 ≤ w → w < 1 + g.scale.warehouses → 1 ≤ d → d < 11 → 1 ≤ o → o < 1 + g.scale.customers → IsTrue (is_order_row (seeded_order g w d o))
+order_ok : (g : Seeding) → IsScale g.scale → g.moment ≤ greatest_moment → (w d o : ℕ) → 1 ≤ w → w < 1 + g.scale.warehouses → 1 ≤ d → d < 1 + GREATEST_DISTRICT → 1 ≤ o → o < 1 + g.scale.customers → IsTrue (is_order_row (seeded_order g w d o))
 unfolding is_order_row
 order_ok g n m w d o a b c e f h =
     let start = stream_at g.seed 5 (number_in_districts g.scale w d o) in
     let place = permutation_is_within g.scale.customers (o - 1) (stream_at g.seed 11 (district_number w d)) (omega arith) in
     let id = within 1 GREATEST_ORDER o f (omega (arith, n.customers_most)) in
-    let district = within 1 10 d c (omega arith) in
-    let warehouse = within 1 100 w a (omega (arith, n.warehouses_most)) in
-    let customer = within 1 3000 (slice_index (permutation g.scale.customers (stream_at g.seed 11 (district_number w d))).0 (o - 1)) place.0 (omega (arith, place.1, n.customers_most)) in
+    let district = within 1 GREATEST_DISTRICT d c (omega arith) in
+    let warehouse = within 1 GREATEST_WAREHOUSE w a (omega (arith, n.warehouses_most)) in
+    let customer = within 1 GREATEST_CUSTOMER (slice_index (permutation g.scale.customers (stream_at g.seed 11 (district_number w d))).0 (o - 1)) place.0 (omega (arith, place.1, n.customers_most)) in
     let date = within 0 LAST_SECOND g.moment (omega arith) m in
     let carrier = carrier_is_drawn (is_delivered g.scale o) start (words_at g.seed 5 (number_in_districts g.scale w d o)) in
-    let count = between_is_between 5 15 (drawn_carrier (is_delivered g.scale o) start).1 (omega arith) (omega arith) carrier.words in
-    let lines = within 5 15 (between 5 15 (drawn_carrier (is_delivered g.scale o) start).1).0 count.least count.most in
+    let count = between_is_between 5 MOST_ORDER_LINES (drawn_carrier (is_delivered g.scale o) start).1 (omega arith) (omega arith) carrier.words in
+    let lines = within 5 MOST_ORDER_LINES (between 5 MOST_ORDER_LINES (drawn_carrier (is_delivered g.scale o) start).1).0 count.least count.most in
     λ i. id i && district i && warehouse i && customer i && date i && carrier.carrier i && lines i
 
-order_line_ok : (g : Seeding) → IsScale g.scale → g.moment ≤ greatest_moment → (w d o j : ℕ) → 1 ≤ w → w < 1 + g.scale.warehouses → 1 ≤ d → d < 11 → 1 ≤ o → o < 1 + g.scale.customers → 1 ≤ j → j < 1 + (seeded_order g w d o).line_count → IsTrue (is_order_line_row (seeded_order_line g w d o j))
+order_line_ok : (g : Seeding) → IsScale g.scale → g.moment ≤ greatest_moment → (w d o j : ℕ) → 1 ≤ w → w < 1 + g.scale.warehouses → 1 ≤ d → d < 1 + GREATEST_DISTRICT → 1 ≤ o → o < 1 + g.scale.customers → 1 ≤ j → j < 1 + (seeded_order g w d o).line_count → IsTrue (is_order_line_row (seeded_order_line g w d o j))
 unfolding is_order_line_row
 order_line_ok g n m w d o j a b c e f h k l =
     let start = stream_at g.seed 5 (number_in_districts g.scale w d o) in
     let carrier = carrier_is_drawn (is_delivered g.scale o) start (words_at g.seed 5 (number_in_districts g.scale w d o)) in
-    let count = between_is_between 5 15 (drawn_carrier (is_delivered g.scale o) start).1 (omega arith) (omega arith) carrier.words in
+    let count = between_is_between 5 MOST_ORDER_LINES (drawn_carrier (is_delivered g.scale o) start).1 (omega arith) (omega arith) carrier.words in
     let own = stream_at g.seed 6 (line_number g.scale w d o j) in
     let draw = between_is_between 1 g.scale.items own (omega (arith, n.items_least)) (omega (arith, n.items_most)) (words_at g.seed 6 (line_number g.scale w d o j)) in
     let order = within 1 GREATEST_ORDER o f (omega (arith, n.customers_most)) in
-    let district = within 1 10 d c (omega arith) in
-    let warehouse = within 1 100 w a (omega (arith, n.warehouses_most)) in
-    let number = within 1 15 j k (omega (arith, count.most, l)) in
-    let item = within 1 100000 (between 1 g.scale.items own).0 draw.least (omega (arith, draw.most, n.items_most)) in
+    let district = within 1 GREATEST_DISTRICT d c (omega arith) in
+    let warehouse = within 1 GREATEST_WAREHOUSE w a (omega (arith, n.warehouses_most)) in
+    let number = within 1 MOST_ORDER_LINES j k (omega (arith, count.most, l)) in
+    let item = within 1 GREATEST_ITEM (between 1 g.scale.items own).0 draw.least (omega (arith, draw.most, n.items_most)) in
     let delivered = moment_where (is_delivered g.scale o) g.moment (within 0 LAST_SECOND g.moment (omega arith) m) in
     let amount = amount_is_drawn (is_delivered g.scale o) (between 1 g.scale.items own).1 draw.words in
     let information = exact_text (drawn_amount (is_delivered g.scale o) (between 1 g.scale.items own).1).1 amount.words in
@@ -266,14 +269,14 @@ item_ok : (g : Seeding) → IsScale g.scale → (n : ℕ) → 1 ≤ n → n < 1 
 unfolding is_item_row
 item_ok g h n a b =
     let start = stream_at g.seed 8 n in
-    let id = within 1 100000 n a (omega (arith, h.items_most)) in
-    let picture = between_is_between 1 10000 start (omega arith) (omega arith) (words_at g.seed 8 n) in
-    let image = within 1 10000 (between 1 10000 start).0 picture.least picture.most in
-    let s_1 = (between 1 10000 start).1 in
+    let id = within 1 GREATEST_ITEM n a (omega (arith, h.items_most)) in
+    let picture = between_is_between 1 GREATEST_IMAGE start (omega arith) (omega arith) (words_at g.seed 8 n) in
+    let image = within 1 GREATEST_IMAGE (between 1 GREATEST_IMAGE start).0 picture.least picture.most in
+    let s_1 = (between 1 GREATEST_IMAGE start).1 in
     let name = short_text 14 24 24 s_1 (omega arith) (omega arith) (omega arith) picture.words in
     let s_2 = (a_string 14 24 s_1).1 in
     let cost = between_is_between 100 10000 s_2 (omega arith) (omega arith) name.words in
-    let price = amount_within 1 99999 (between 100 10000 s_2).0 (omega (arith, cost.least)) (omega (arith, cost.most)) in
+    let price = amount_within 1 (unsigned_abs GREATEST_PRICE) (between 100 10000 s_2).0 (omega (arith, cost.least)) (omega (arith, cost.most)) in
     let information = information_is_drawn (between 100 10000 s_2).1 cost.words in
     λ i. id i && image i && name.text i && price i && information.text i
 
@@ -281,8 +284,8 @@ stock_ok : (g : Seeding) → IsScale g.scale → (w n : ℕ) → 1 ≤ w → w <
 unfolding is_stock_row
 stock_ok g h w n a b c e =
     let start = stream_at g.seed 9 (stock_number g.scale w n) in
-    let item = within 1 100000 n c (omega (arith, h.items_most)) in
-    let warehouse = within 1 100 w a (omega (arith, h.warehouses_most)) in
+    let item = within 1 GREATEST_ITEM n c (omega (arith, h.items_most)) in
+    let warehouse = within 1 GREATEST_WAREHOUSE w a (omega (arith, h.warehouses_most)) in
     let amount = between_is_between 10 100 start (omega arith) (omega arith) (words_at g.seed 9 (stock_number g.scale w n)) in
     let quantity = within 10 100 (between 10 100 start).0 amount.least amount.most in
     let texts = texts_are_drawn 10 (between 10 100 start).1 amount.words in

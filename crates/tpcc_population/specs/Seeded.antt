@@ -1,5 +1,5 @@
 -- 4.3.3: the drawn opening: each row from its own stream, its columns drawn in their order.
-use Rattle.std.specs.Prelude.{ℕ, zero, suc, ◌+◌, ◌-◌, ◌*◌, ◌==◌, Bool, true, List, [], ◌∷◌, ◌++◌, length, take, drop, slice_index, ℤ, pos, neg_ℤ, Option, Some, None, if◌then◌else◌, nat_le, codes}
+use Rattle.std.specs.Prelude.{ℕ, zero, suc, ◌+◌, ◌-◌, ◌*◌, ◌==◌, Bool, true, List, [], ◌∷◌, ◌++◌, length, take, drop, slice_index, ℤ, pos, neg_ℤ, unsigned_abs, Option, Some, None, if◌then◌else◌, nat_le, codes}
 use Rattle.rand_core.specs.Stream.{Stream}
 use Rattle.tpcc_draws.specs.Draws.{stream_at, between, nurand, a_string, n_string, permutation}
 use Rattle.tpcc_rows.specs.LastName.{last_name}
@@ -14,6 +14,9 @@ use Rattle.tpcc_rows.specs.declared.tables.rows.ItemRow.{ItemRow}
 use Rattle.tpcc_rows.specs.declared.tables.rows.StockRow.{StockRow}
 use Rattle.tpcc_rows.specs.Layout.{Scale, RowRules, is_delivered}
 use Rattle.tpcc_rows.specs.Opening.{plain_new_order}
+use Rattle.tpcc_rows.specs.declared.limits.TheConstants.{GREATEST_DISTRICT, GREATEST_CARRIER, GREATEST_LINE_AMOUNT, GREATEST_IMAGE}
+use Rattle.tpcc_draws.specs.declared.names.TheConstants.{LAST_NAMES}
+use Rattle.tpcc_population.specs.declared.rules.TheConstants.{MOST_ORDER_LINES}
 
 -- what the draws start from: the scale, the seed and the opening's moment
 pub record Seeding : Type 0 where
@@ -23,7 +26,7 @@ pub record Seeding : Type 0 where
 
 -- the number of a row in its table, from 1, in the order of the key
 abbrev pub district_number : ℕ → ℕ → ℕ
-district_number w d = (w - 1) * 10 + d
+district_number w d = (w - 1) * GREATEST_DISTRICT + d
 
 -- of a row of CUSTOMER, HISTORY or ORDER
 abbrev pub number_in_districts : Scale → ℕ → ℕ → ℕ → ℕ
@@ -31,7 +34,7 @@ number_in_districts s w d k = (district_number w d - 1) * s.customers + k
 
 -- an order has up to fifteen lines
 abbrev pub line_number : Scale → ℕ → ℕ → ℕ → ℕ → ℕ
-line_number s w d o j = 15 * (number_in_districts s w d o - 1) + j
+line_number s w d o j = MOST_ORDER_LINES * (number_in_districts s w d o - 1) + j
 
 abbrev pub stock_number : Scale → ℕ → ℕ → ℕ
 stock_number s w n = (w - 1) * s.items + n
@@ -54,8 +57,8 @@ drawn_address s =
 -- the name of a customer's number for the first thousand, of a drawn number for the others
 unfoldable pub drawn_last : ℕ → Stream → List ℕ × Stream
 drawn_last k s =
-    if nat_le k 1000 then (last_name (k - 1), s)
-    else (let n = nurand 255 100 0 999 s in (last_name n.0, n.1))
+    if nat_le k LAST_NAMES then (last_name (k - 1), s)
+    else (let n = nurand 255 100 0 (LAST_NAMES - 1) s in (last_name n.0, n.1))
 
 -- the text with ORIGINAL from a place on
 abbrev pub with_original : ℕ → List ℕ → List ℕ
@@ -79,10 +82,10 @@ drawn_texts (suc n) s =
 
 -- a delivered order has a carrier, and a delivered line costs nothing; neither draws where it has no choice
 unfoldable pub drawn_carrier : Bool → Stream → Option ℕ × Stream
-drawn_carrier delivered s = if delivered then (let n = between 1 10 s in (Some n.0, n.1)) else (None, s)
+drawn_carrier delivered s = if delivered then (let n = between 1 GREATEST_CARRIER s in (Some n.0, n.1)) else (None, s)
 
 unfoldable pub drawn_amount : Bool → Stream → ℤ × Stream
-drawn_amount delivered s = if delivered then (pos 0, s) else (let n = between 1 999999 s in (pos n.0, n.1))
+drawn_amount delivered s = if delivered then (pos 0, s) else (let n = between 1 (unsigned_abs GREATEST_LINE_AMOUNT) s in (pos n.0, n.1))
 
 abbrev pub warehouse_of : ℕ → ℕ → Stream → WarehouseRow
 warehouse_of customers w s =
@@ -165,7 +168,7 @@ seeded_order g w d o =
       customer = slice_index (drawn_customers g w d) (o - 1);
       entry_date = g.moment;
       carrier = carrier.0;
-      line_count = (between 5 15 carrier.1).0;
+      line_count = (between 5 MOST_ORDER_LINES carrier.1).0;
       all_local = true;
     }
 
@@ -188,7 +191,7 @@ seeded_order_line g w d o j =
 
 abbrev pub seeded_item : Seeding → ℕ → ItemRow
 seeded_item g n =
-    let image = between 1 10000 (stream_at g.seed 8 n) in
+    let image = between 1 GREATEST_IMAGE (stream_at g.seed 8 n) in
     let name = a_string 14 24 image.1 in
     let price = between 100 10000 name.1 in
     record { id = n; image = image.0; name = name.0; price = pos price.0; information = (drawn_information price.1).0 }

@@ -6,6 +6,7 @@ ghost use Rattle.tpcc_rows.specs.declared.limits.TheConstants.{GREATEST_WAREHOUS
 use crate::row_list::RowList;
 use std::alloc::Global;
 use tpcc_rows::NoMemory;
+use tpcc_rows::limits::GREATEST_DISTRICT;
 
 /// The rows of a table by their numbers: warehouse, district and the row's own number. A table
 /// that has no use for one of them is asked with 1.
@@ -131,7 +132,7 @@ fn append_districts<T: TableRows, L: RowList<T::Row>>(
     ensures { IfOk result (λ _. L.rows rows.new ≡ L.rows rows.old
         ++ each 1 10 (λ d. each low count (T.rows_of table.now warehouse d))) }
 {
-    for district in 1..11 {
+    for district in 1..GREATEST_DISTRICT + 1 {
         append_each(table, rows, chunk, warehouse, district, low, count)?;
     }
     Ok(())
@@ -154,7 +155,8 @@ pub(crate) fn fill_by_district<T: TableRows, L: RowList<T::Row>>(
     ensures { IfOk result (λ list. L.rows list ≡ each 1 warehouses
         (λ w. each 1 10 (λ d. each low count (T.rows_of table.now w d)))) }
 {
-    let room = (warehouses as usize * 10).saturating_mul(count as usize);
+    let districts = (warehouses * GREATEST_DISTRICT) as usize;
+    let room = districts.saturating_mul(count as usize);
     let mut rows = L::with_room(room, alloc)?;
     let mut chunk = Vec::new(alloc);
     for warehouse in 1..warehouses + 1 {

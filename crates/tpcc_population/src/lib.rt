@@ -8,8 +8,10 @@ mod new_orders;
 mod opening;
 mod plain;
 mod row_list;
+mod rules;
 mod scale;
 mod seeded;
+mod tables;
 mod texts;
 
 pub use filled::fill;

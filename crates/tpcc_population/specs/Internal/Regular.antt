@@ -1,4 +1,5 @@
 -- What both openings have in common: keys, amounts and nulls by their numbers.
+use Rattle.tpcc_rows.specs.declared.limits.TheConstants.{GREATEST_DISTRICT}
 use Rattle.std.specs.Prelude.{◌≡◌, ℕ, ◌+◌, ◌*◌, ◌≤◌, ◌<◌, IsTrue, true, not, pos, neg_ℤ, is_none}
 use Rattle.tpcc_rows.specs.Layout.{Scale, RowRules, is_delivered}
 use Rattle.tpcc_rows.specs.Ranges.{is_warehouse_row, is_district_row, is_customer_row, is_history_row, is_order_row, is_order_line_row, is_new_order_row, is_item_row, is_stock_row}
@@ -49,11 +50,11 @@ pub record RefersInside (s : Scale) (r : RowRules) : Type 0 where
 -- each row's columns are in their ranges
 pub record HasRowsInRange (s : Scale) (r : RowRules) : Type 0 where
   pub warehouse : (w : ℕ) → 1 ≤ w → w < 1 + s.warehouses → IsTrue (is_warehouse_row (r.warehouse w))
-  pub district : (w d : ℕ) → 1 ≤ w → w < 1 + s.warehouses → 1 ≤ d → d < 11 → IsTrue (is_district_row (r.district w d))
-  pub customer : (w d k : ℕ) → 1 ≤ w → w < 1 + s.warehouses → 1 ≤ d → d < 11 → 1 ≤ k → k < 1 + s.customers → IsTrue (is_customer_row (r.customer w d k))
-  pub history : (w d k : ℕ) → 1 ≤ w → w < 1 + s.warehouses → 1 ≤ d → d < 11 → 1 ≤ k → k < 1 + s.customers → IsTrue (is_history_row (r.history w d k))
-  pub order : (w d o : ℕ) → 1 ≤ w → w < 1 + s.warehouses → 1 ≤ d → d < 11 → 1 ≤ o → o < 1 + s.customers → IsTrue (is_order_row (r.order w d o))
-  pub order_line : (w d o j : ℕ) → 1 ≤ w → w < 1 + s.warehouses → 1 ≤ d → d < 11 → 1 ≤ o → o < 1 + s.customers → 1 ≤ j → j < 1 + (r.order w d o).line_count → IsTrue (is_order_line_row (r.order_line w d o j))
-  pub new_order : (w d o : ℕ) → 1 ≤ w → w < 1 + s.warehouses → 1 ≤ d → d < 11 → 1 ≤ o → o < 1 + s.customers → IsTrue (is_new_order_row (r.new_order w d o))
+  pub district : (w d : ℕ) → 1 ≤ w → w < 1 + s.warehouses → 1 ≤ d → d < 1 + GREATEST_DISTRICT → IsTrue (is_district_row (r.district w d))
+  pub customer : (w d k : ℕ) → 1 ≤ w → w < 1 + s.warehouses → 1 ≤ d → d < 1 + GREATEST_DISTRICT → 1 ≤ k → k < 1 + s.customers → IsTrue (is_customer_row (r.customer w d k))
+  pub history : (w d k : ℕ) → 1 ≤ w → w < 1 + s.warehouses → 1 ≤ d → d < 1 + GREATEST_DISTRICT → 1 ≤ k → k < 1 + s.customers → IsTrue (is_history_row (r.history w d k))
+  pub order : (w d o : ℕ) → 1 ≤ w → w < 1 + s.warehouses → 1 ≤ d → d < 1 + GREATEST_DISTRICT → 1 ≤ o → o < 1 + s.customers → IsTrue (is_order_row (r.order w d o))
+  pub order_line : (w d o j : ℕ) → 1 ≤ w → w < 1 + s.warehouses → 1 ≤ d → d < 1 + GREATEST_DISTRICT → 1 ≤ o → o < 1 + s.customers → 1 ≤ j → j < 1 + (r.order w d o).line_count → IsTrue (is_order_line_row (r.order_line w d o j))
+  pub new_order : (w d o : ℕ) → 1 ≤ w → w < 1 + s.warehouses → 1 ≤ d → d < 1 + GREATEST_DISTRICT → 1 ≤ o → o < 1 + s.customers → IsTrue (is_new_order_row (r.new_order w d o))
   pub item : (n : ℕ) → 1 ≤ n → n < 1 + s.items → IsTrue (is_item_row (r.item n))
   pub stock : (w n : ℕ) → 1 ≤ w → w < 1 + s.warehouses → 1 ≤ n → n < 1 + s.items → IsTrue (is_stock_row (r.stock w n))

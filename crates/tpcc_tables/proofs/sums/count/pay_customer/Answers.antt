@@ -1,12 +1,7 @@
 use Rattle.std.proofs.Common.{[], ◌∷◌}
-use Rattle.tpcc_tables.specs.Internal.Sums.{customer_sums_key, customer_with_payment}
-use Rattle.tpcc_tables.proofs.Sum.{entry_written, entry_missing}
+use Rattle.tpcc_laws.proofs.Remove.{found_passes}
+use Rattle.tpcc_tables.specs.Internal.Sums.{has_key, customer_sums_key, is_payments_sum}
 use Rattle.tpcc_tables.proofs.sums.count.pay_customer.Goals as goal
 
-pub returns-in-Some : goal.returns-in-Some
-returns-in-Some c =
-    rw c.plus-entry.ensures (entry_written customer_sums_key (c.args.warehouse ∷ c.args.district ∷ c.args.customer ∷ []) (customer_with_payment c.args.amount) c.args.entries.now.items c.as_slice.result.now c.place_of.result c.in-Some.place c.index_mut-entry.result.now c.requires.keyed c.as_slice.ensures.value c.place_of.ensures c.in-Some.is c.index_mut-entry.ensures.value)
-
-pub returns-in_default : goal.returns-in_default
-returns-in_default c =
-    entry_missing customer_sums_key (c.args.warehouse ∷ c.args.district ∷ c.args.customer ∷ []) (customer_with_payment c.args.amount) c.args.entries.now.items c.as_slice.result.now c.place_of.result c.as_slice.ensures.value c.place_of.ensures c.in_default.is
+pub change-requires-clause-fits : goal.change-requires-clause-fits
+change-requires-clause-fits c = λ entry found. (found_passes (has_key customer_sums_key (c.args.warehouse ∷ c.args.district ∷ c.args.customer ∷ [])) (λ s. is_payments_sum s.paid) c.args.entries.now.items entry found c.requires.room).1
