@@ -10,10 +10,10 @@ use tpcc_book::Naming;
 use tpcc_turns::{HeldTurn, Pause, SeatedPurse, Seating, Turns};
 
 /// How often a server that stands by looks again whether the book is free.
-const LOOKS: u32 = 20;
+const LOOKS: u32 = 10;
 
 /// Among how many it stands by, as its pauses count them.
-const STANDING_BY: u64 = 100;
+const STANDING_BY: u64 = 1_000;
 
 /// A server's purse: without a turn, or with one that it keeps. It is not `Drop`, since a turn has to be ended.
 pub(crate) enum TurnState<N: Naming, T: Seating> {
