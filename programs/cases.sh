@@ -95,7 +95,7 @@ for words in '' serve help --help --version 'script --help' 'run --version' 'scr
     'run --terminals x' 'run --terminals 0 --warehouses 0' 'script --moment 4102444800' 'script --seed -1' \
     'script --seed 18446744073709551616' 'script --items -1' 'script --items 4294967296' 'script --items' \
     'script --items 100 --items 200' 'script --seeded 1' 'script --seeded --seeded' 'run --show' 'run --show rows' 'run --show item' \
-    'run --show Journal' 'dump ITEM --show journal' "run $(times 17 ' --show check')" \
+    'run --show Journal' 'script --show receipts' 'script --show journal --show receipts' 'dump receipts' 'dump ITEM --show journal' "run $(times 17 ' --show check')" \
     'requests --terminal 0' 'requests --terminal 1001' 'requests --cards 100001' 'requests 1' 'requests --terminals 1' 'requests --show journal'; do
     it "words: $words" "$words" '' 1 'fault 1 Arguments' ''
 done
@@ -392,6 +392,31 @@ among_others() {
     compare "$1" 0
 }
 
+# The receipts of a run, by their places, are its journal line for line. Each terminal's stand in a row and are counted from 0 on in the
+# journal's order, with the requests that it asks, none of which is refused; behind the terminals' stand the delivery runner's.
+receipted() {
+    left_out "$1" && return
+    timeout "$seconds" "$tpcc" run $2 --terminals "$3" --cards "$4" $5 --show receipts --show journal > shown 2> stderr
+    echo $? > status
+    part receipts > receipts
+    part journal > journal
+    {
+        head -n 1 receipts
+        tail -n +2 receipts | sort -t , -k 3,3n | cut -d , -f 3-
+        tail -n +2 receipts | awk -F , '{ if ($1 != terminal) { order = order " " $1; number = 0; place = -1 }
+            if ($2 != number++ || $3 <= place) wrong++; terminal = $1; place = $3 } END { print "terminals" order ", wrong " wrong + 0 }'
+        for terminal in $(seq "$3"); do awk -F , -v terminal="$terminal" '$1 == terminal { print $4 }' receipts; done
+    } > stdout
+    {
+        echo terminal,number,place,request
+        awk '{ print NR - 1 "," $0 }' journal
+        echo "terminals $(seq -s ' ' $(($3 + 1))), wrong 0"
+        for terminal in $(seq "$3"); do timeout "$seconds" "$tpcc" requests $2 --terminal "$terminal" --cards "$4" || echo "status $?"; done
+    } > stdout.wanted
+    report_of_journal < journal > stderr.wanted
+    compare "$1" 0
+}
+
 drained 'all tickets are delivered' '--seeded --seed 7 --terminals 3 --cards 46' 5
 for seed in 1 7 42; do
     again "a journal again, seed $seed, 1 terminal"   "--seeded --seed $seed" '--terminals 1 --servers 1 --cards 60'
@@ -401,6 +426,9 @@ for seed in 1 7 42; do
     in_order "requests in order, seed $seed"          "--seeded --seed $seed" 50
     among_others "requests in order among others, seed $seed" "--seeded --seed $seed --warehouses 2" 6 3 40
 done
+receipted 'receipts of two servers'      '--seeded --seed 7 --warehouses 2' 4 30 '--servers 2'
+receipted 'receipts of servers that retire' '--seeded --seed 42 --warehouses 2' 6 20 '--servers 3 --retire 2'
+receipted 'receipts of 12 terminals, by no server' '--seeded --seed 1 --warehouses 2' 12 10 --direct
 again 'a journal of a plain opening again' '--customers 20 --items 150' '--terminals 3 --servers 3 --retire 2 --cards 25'
 by 'no request'                  '"$tpcc" requests --cards 0 > stdout 2> stderr; echo $? > status'     0 '' ''
 by 'as many requests as cards'   '"$tpcc" requests --seeded --cards 100 2> stderr | wc -l > stdout; echo $? > status' 0 '' '100\n'
@@ -412,6 +440,8 @@ by 'no delivery result'          '"$tpcc" run --cards 0 --show results > stdout 
 by 'a report that is asked for'  '"$tpcc" run --cards 0 --show report > stdout 2> stderr; echo $? > status' 0 '' 'entries 1\npaid 0.00\nrise 0.00\n'
 by 'two parts'                   '"$tpcc" run --cards 0 --show check --show report > stdout 2> stderr; echo $? > status' \
     0 '' '@printf "== check\nconsistent\n== report\nentries 1\npaid 0.00\nrise 0.00\n"'
+it 'receipts of a run of no card' 'run --cards 0 --show receipts' '' 0 "$(printf 'entries 1\npaid 0.00\nrise 0.00')" \
+    'terminal,number,place,request\n3,0,0,deliver 0\n'
 by 'parts to a full disk'        '"$tpcc" run --show journal > /dev/full 2> stderr; echo $? > status' 3 'fault 4 Write' ''
 by 'requests to a full disk'     '"$tpcc" requests > /dev/full 2> stderr; echo $? > status'           3 'fault 1 Write' ''
 

@@ -1,3 +1,4 @@
+mod ReceiptLines
 mod RequestOutcome
 mod ComeBack
 mod Joined

@@ -4,5 +4,6 @@ pub mod Asking
 pub mod OperatorView
 pub mod Returned
 pub mod Working
+pub mod ShownRun
 pub mod Outcome
 pub mod Internal

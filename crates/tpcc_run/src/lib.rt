@@ -1,8 +1,8 @@
 //! Runs: terminals, a delivery runner and servers, if any, each in a thread of its own, up to the settlement.
 //!
 //! `run` and `run_shown` have the threads of a `Plan` start, and each that was started joined; then they settle the book with all
-//! purses, and write the report, or the parts that were asked for. `Plan` says how many of what a run has; its ranges are the
-//! constants beside it.
+//! purses, and write the report, or the parts that were asked for, the terminals' receipts among them. `Plan` says how many of what
+//! a run has; its ranges are the constants beside it.
 //!
 //! ```text
 //! terminal threads  --ask-->   mailboxes  --serve-->  servers     (Service::Servers)
@@ -14,6 +14,7 @@
 #![tactic(auto)]
 
 mod plan;
+mod receipt_lines;
 mod run_context;
 mod runs;
 mod settled_book;

@@ -46,8 +46,8 @@ pub fn run<
 }
 
 /// Runs terminals, a delivery runner and the plan's servers as [`run`] does, and writes parts of the settled book in
-/// place of the report: one part alone as it is, several each under a line `== PART`. Answers the totals that the
-/// report would have told.
+/// place of the report, the receipts that its terminals kept among them: one part alone as it is, several each under a
+/// line `== PART`. Answers the totals that the report would have told.
 ///
 /// Faults as of [`run`]; NoMemory also where a growth was refused while a part was written.
 pub fn run_shown<
@@ -121,7 +121,8 @@ impl<
         requires make { F.IsAlwaysCallable self.now.make.now }
         requires entries { blanks.entries.name ≡ N.entries }
         requires cents { blanks.cents.name ≡ N.cents }
-        ensures settled { IfOk result (λ s. HasSettled opening.now self.now.plan s.book s.report) }
+        ensures settled { IfOk result (λ s.
+            HasSettled opening.now self.now.plan s.book s.receipts.items s.report) }
     {
         let Ok(turns) = UnnamedTurns::<N>::start(self.alloc, opening, blanks) else {
             return Err(RunFault::NoMemory);
@@ -139,7 +140,7 @@ impl<
         requires name { turns.table ≡ T.table }
         requires scale { scale ≡ opening_scale turns.opening }
         ensures settled { IfOk result (λ s.
-            HasSettled turns.opening self.now.plan s.book s.report) }
+            HasSettled turns.opening self.now.plan s.book s.receipts.items s.report) }
     {
         let (turns, first) = turns.name::<T>();
         let threads = RunThreads {

@@ -13,7 +13,7 @@ use std::io::{Read, Write};
 use std::marker::Brand;
 use tpcc_book::{Blanks, Book, Naming};
 use tpcc_population::Opening;
-use tpcc_show::{OutputFault, Part, show_served};
+use tpcc_show::{OutputFault, Part, ServedBook, show};
 use tpcc_text::ScriptFault;
 
 /// Runs a script as [`run_script`](tpcc_script::run_script) does, keeps its screens, and then writes parts of the book
@@ -106,7 +106,7 @@ fn show_left<N: Naming, W: Write>(
     if let Err(ScriptFault::Write) = ended {
         return Err(ScriptFault::NoMemory);
     }
-    match show_served(alloc, book, screens, parts, out) {
+    match show(alloc, &ServedBook { book, screens }, parts, out) {
         Ok(()) => Ok(()),
         Err(fault) => Err(script_fault(fault)),
     }

@@ -1,4 +1,4 @@
 pub mod Record
 mod Row
 mod ReadBack
-mod Putting
+pub mod Putting

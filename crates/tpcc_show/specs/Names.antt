@@ -21,6 +21,7 @@ abbrev pub part_name : Part → List ℕ
 part_name parts.Screens = codes "screens"
 part_name parts.Report = codes "report"
 part_name parts.Journal = codes "journal"
+part_name parts.Receipts = codes "receipts"
 part_name parts.Results = codes "results"
 part_name parts.Check = codes "check"
 part_name (parts.Rows table) = table_name table

@@ -1,5 +1,5 @@
 -- What is shown of a book, as text.
-use Rattle.std.specs.Prelude.{ℕ, List, [], ◌∷◌, ◌++◌, flat_map, length, codes, Option, Some, None}
+use Rattle.std.specs.Prelude.{ℕ, List, [], ◌∷◌, ◌++◌, flat_map, length, codes}
 use Rattle.tpcc_rows.specs.Conditions.{first_broken}
 use Rattle.tpcc_rows.specs.Replay.{results_of}
 use Rattle.tpcc_rows.specs.declared.transactions.entry.Entry.{Entry}
@@ -16,38 +16,35 @@ use Rattle.tpcc_show.specs.declared.parts.Part.TheVariants as parts
 abbrev pub journal_screens : List Entry → List ℕ
 journal_screens entries = flat_map (λ e. reply_screen e.reply) entries
 
--- the screens that are shown of a book: those that are given, else those of its journal
-abbrev pub screens_shown : Option (List ℕ) → Past → List ℕ
-screens_shown None book = journal_screens book.entries
-screens_shown (Some screens) book = screens
-
 -- the report of a book: what was paid is the rise of W_YTD
 abbrev pub book_report : Past → List ℕ
 book_report book = report_text (length book.entries) (rise_of book) (rise_of book)
 
--- a part of a book, as text
-abbrev pub part_text : Option (List ℕ) → Past → Part → List ℕ
-part_text screens book parts.Screens = screens_shown screens book
-part_text screens book parts.Report = book_report book
-part_text screens book parts.Journal = journal_lines book.entries
-part_text screens book parts.Results = results_screen (results_of book.entries)
-part_text screens book parts.Check = check_screen (first_broken book.state.rows)
-part_text screens book (parts.Rows table) = dump_text book.state.rows table
+-- a part of a book, as text; a book alone has no receipts
+abbrev pub part_text : Past → Part → List ℕ
+part_text book parts.Screens = journal_screens book.entries
+part_text book parts.Report = book_report book
+part_text book parts.Journal = journal_lines book.entries
+part_text book parts.Receipts = []
+part_text book parts.Results = results_screen (results_of book.entries)
+part_text book parts.Check = check_screen (first_broken book.state.rows)
+part_text book (parts.Rows table) = dump_text book.state.rows table
 
--- a part under its heading
-unfoldable pub headed_text : Option (List ℕ) → Past → Part → List ℕ
-headed_text screens book part = codes "== " ++ (part_name part ++ (10 ∷ part_text screens book part))
+-- one of a book whose screens were kept as they were shown
+abbrev pub served_part : List ℕ → Past → Part → List ℕ
+served_part screens book parts.Screens = screens
+served_part screens book part = part_text book part
 
--- parts in their order; one alone stands without a heading
-abbrev pub parts_text : Option (List ℕ) → Past → List Part → List ℕ
-parts_text screens book [] = []
-parts_text screens book (part ∷ []) = part_text screens book part
-parts_text screens book (part ∷ next ∷ rest) = flat_map (headed_text screens book) (part ∷ next ∷ rest)
+-- a part with this text under its heading
+unfoldable pub headed_text : (Part → List ℕ) → Part → List ℕ
+headed_text text part = codes "== " ++ (part_name part ++ (10 ∷ text part))
 
--- parts of a book whose screens are those of its journal
-abbrev pub shown_text : Past → List Part → List ℕ
-shown_text book asked = parts_text None book asked
+-- parts with these texts, in their order; one alone stands without a heading
+abbrev pub parts_text : (Part → List ℕ) → List Part → List ℕ
+parts_text text [] = []
+parts_text text (part ∷ []) = text part
+parts_text text (part ∷ next ∷ rest) = flat_map (headed_text text) (part ∷ next ∷ rest)
 
 -- parts of a book whose screens were kept as they were shown
 abbrev pub served_text : List ℕ → Past → List Part → List ℕ
-served_text screens book asked = parts_text (Some screens) book asked
+served_text screens book asked = parts_text (served_part screens book) asked

@@ -1,8 +1,10 @@
-//! What is shown of a book: screens, report, journal, delivery results, check and tables, as text.
+//! What is shown of a book: screens, report, journal, receipts, delivery results, check and tables, as text.
 //!
 //! Each of these is a `Part`; `part_named` finds it by its word, and a command line has room for 16 of them (`ShownParts`).
-//! `show` writes parts in the order in which they are given: one alone as it is, several each under a heading with its word. The
-//! screens that it shows are those of the journal's replies; `show_served` shows screens that were kept as they were written.
+//! `show` writes parts in the order in which they are given: one alone as it is, several each under a heading with its word.
+//!
+//! Parts are shown of a `ShownBook`. Of a `Book` alone the screens are those of the journal's replies, and there are no receipts; of
+//! a `ServedBook` they are the screens that were kept as they were written. Who keeps more beside a book implements the trait.
 //!
 //! # Screens of a book
 //!
@@ -25,7 +27,9 @@
 mod book_screens;
 mod entries;
 mod parts;
+mod served_book;
 mod showing;
+mod shown_book;
 mod table_dump;
 mod table_names;
 mod texts;
@@ -33,7 +37,9 @@ mod texts;
 pub use book_screens::answer_screen::screen;
 pub use book_screens::calls::{check_screen, results_screen};
 pub use parts::{Part, ShownParts, part_named};
-pub use showing::{show, show_served};
+pub use served_book::ServedBook;
+pub use showing::show;
+pub use shown_book::ShownBook;
 pub use table_dump::dumping::{dump, dump_to};
 pub use table_dump::laws::dump_is_read_back;
 pub use table_dump::output_fault::OutputFault;

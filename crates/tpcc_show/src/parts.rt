@@ -8,7 +8,7 @@ ghost use Rattle.tpcc_show.specs.declared.parts.Part.{Part};
 use crate::table_names::{table_name, table_named};
 use tpcc_rows::{Few, Filler, Table};
 
-/// What is shown of a book.
+/// What is shown of a book, or of what stands beside it.
 #[derive(Clone, Copy, PartialEq, Eq)]
 pub enum Part {
     /// The screens of the journal's entries, in its order.
@@ -17,6 +17,8 @@ pub enum Part {
     Report,
     /// The journal as a script: a line for each entry, in its order.
     Journal,
+    /// The receipts that the terminals of a run kept, as CSV; a book alone has none.
+    Receipts,
     /// The delivery result log (2.7.2.2).
     Results,
     /// The consistency conditions (3.3.2).
@@ -39,10 +41,11 @@ impl Filler for Part {
 }
 
 impl Part {
-    const WORDS: [Part; 5] = [
+    const WORDS: [Part; 6] = [
         Part::Screens,
         Part::Report,
         Part::Journal,
+        Part::Receipts,
         Part::Results,
         Part::Check,
     ];
@@ -55,6 +58,7 @@ impl Part {
             Part::Screens => b"screens",
             Part::Report => b"report",
             Part::Journal => b"journal",
+            Part::Receipts => b"receipts",
             Part::Results => b"results",
             Part::Check => b"check",
             Part::Rows(table) => table_name(*table),

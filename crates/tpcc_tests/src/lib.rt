@@ -39,3 +39,5 @@ mod sizes;
 mod tables;
 #[cfg(test)]
 mod turns;
+#[cfg(test)]
+mod watched_turn;

@@ -6,11 +6,30 @@ use std::alloc::{AllocError, Global};
 use tpcc_money::Moment;
 use tpcc_run::{GREATEST_TERMINAL, MOST_CARDS, MOST_SERVERS, MOST_TERMINALS};
 
-// What `--show` may ask for: the parts of a book that are no table, and behind them its tables.
+// What `--show` may ask for of a script: the parts of a book that are no table, and behind them its tables.
 const PARTS: &[&str] = &[
     "screens",
     "report",
     "journal",
+    "results",
+    "check",
+    "WAREHOUSE",
+    "DISTRICT",
+    "CUSTOMER",
+    "HISTORY",
+    "ORDER",
+    "ORDER-LINE",
+    "NEW-ORDER",
+    "ITEM",
+    "STOCK",
+];
+
+// What it may ask for of a run, which alone keeps receipts.
+const RUN_PARTS: &[&str] = &[
+    "screens",
+    "report",
+    "journal",
+    "receipts",
     "results",
     "check",
     "WAREHOUSE",
@@ -102,15 +121,6 @@ const TIME: Word = Word {
     is_option: true,
 };
 
-const SHOW: Word = Word {
-    name: "show",
-    action: ArgAction::Append,
-    value: ValueParser::Names(PARTS),
-    value_name: "PART",
-    help: "What goes to standard output, up to 16 times",
-    is_option: true,
-};
-
 const CARDS: Word = Word {
     name: "cards",
     action: ArgAction::Set,
@@ -120,7 +130,17 @@ const CARDS: Word = Word {
     is_option: true,
 };
 
-const SCRIPT: &[Word] = &[TIME, SHOW];
+const SCRIPT: &[Word] = &[
+    TIME,
+    Word {
+        name: "show",
+        action: ArgAction::Append,
+        value: ValueParser::Names(PARTS),
+        value_name: "PART",
+        help: "What goes to standard output, up to 16 times",
+        is_option: true,
+    },
+];
 
 const DUMP: &[Word] = &[Word {
     name: "table",
@@ -166,7 +186,14 @@ const RUN: &[Word] = &[
         help: "Lets each terminal make its own turns, with no server",
         is_option: true,
     },
-    SHOW,
+    Word {
+        name: "show",
+        action: ArgAction::Append,
+        value: ValueParser::Names(RUN_PARTS),
+        value_name: "PART",
+        help: "What goes to standard output, up to 16 times",
+        is_option: true,
+    },
 ];
 
 const REQUESTS: &[Word] = &[
