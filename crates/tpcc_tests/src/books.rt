@@ -1,7 +1,9 @@
 //! A book on one thread, which one function owns and lends with two purses of one terminal.
 ghost use Rattle.std.specs.Prelude.{◌≡◌};
 
-use crate::asked::{let_go, opening, payment, purse_of};
+mod pay_once;
+
+use crate::samples::requests::{let_go, opening, payment, purse_of};
 use std::alloc::{AllocGlobal, Global};
 use std::marker::Brand;
 use std::process::Abort;

@@ -1,7 +1,7 @@
 //! Desks of two terminals, step by step and as one run. One function owns the desk, and lends it.
 ghost use Rattle.std.specs.Prelude.{◌≡◌, ◌≤◌};
 
-use crate::asked::{balance, let_go, opening, payment, status};
+use crate::samples::requests::{balance, let_go, opening, payment, status};
 use std::alloc::Global;
 use std::marker::Brand;
 use std::process::Abort;

@@ -2,42 +2,22 @@
 #![tactic(auto)]
 
 #[cfg(test)]
-mod asked;
-#[cfg(test)]
 mod books;
-#[cfg(test)]
-mod counted_turn;
 #[cfg(test)]
 mod desk;
 #[cfg(test)]
-mod dumps;
-#[cfg(test)]
-mod faults;
-#[cfg(test)]
 mod mailboxes;
-#[cfg(test)]
-mod pay_once;
-#[cfg(test)]
-mod plain_turn;
-#[cfg(test)]
-mod printed;
-#[cfg(test)]
-mod progress;
-#[cfg(test)]
-mod purses;
 #[cfg(test)]
 mod refused;
 #[cfg(test)]
 mod runs;
 #[cfg(test)]
-mod screens;
+mod samples;
 #[cfg(test)]
 mod server;
 #[cfg(test)]
-mod sizes;
-#[cfg(test)]
 mod tables;
 #[cfg(test)]
-mod turns;
+mod texts;
 #[cfg(test)]
-mod watched_turn;
+mod turns;

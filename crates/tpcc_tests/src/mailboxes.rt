@@ -2,7 +2,7 @@
 //! so these tests do.
 pub mod numbers;
 
-use crate::asked::BEFORE;
+use crate::samples::requests::BEFORE;
 use numbers::{HELD, NumberAnswer, Three, in_order, leaves, make_three, serve};
 use std::alloc::Global;
 use std::process::Abort;

@@ -2,9 +2,11 @@
 ghost use Rattle.std.specs.Prelude.{◌≡◌, ◌≤◌};
 ghost use Rattle.tpcc_run.specs.Plans.{IsPlan};
 
-use crate::asked::opening;
-use crate::plain_turn::PlainTurn;
-use crate::watched_turn::{ServersSeen, WatchedTurn, thread_name};
+mod progress;
+
+use crate::samples::plain_turn::PlainTurn;
+use crate::samples::requests::opening;
+use crate::samples::watched_turn::{ServersSeen, WatchedTurn, thread_name};
 use std::alloc::{AllocError, AllocGlobal, Global};
 use std::fs::Files;
 use std::process::Abort;

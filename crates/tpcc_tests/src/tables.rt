@@ -3,5 +3,6 @@ pub mod changes;
 pub mod conditions;
 mod loads;
 pub mod opening;
+mod sizes;
 pub mod totals;
 pub mod transactions;

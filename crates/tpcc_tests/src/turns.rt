@@ -1,9 +1,9 @@
 //! Turns at a book, which one function owns and lends with the book's purses, and settles with those that come back.
 ghost use Rattle.std.specs.Prelude.{◌≡◌};
 
-use crate::asked::{opening, payment, purse_of, status};
-use crate::purses::Settlement::BookLeft;
-use crate::purses::{Back, HandIn, Purses, Settlement, settles, split_off};
+use crate::samples::purses::Settlement::BookLeft;
+use crate::samples::purses::{Back, HandIn, Purses, Settlement, settles, split_off};
+use crate::samples::requests::{opening, payment, purse_of, status};
 use std::alloc::Global;
 use std::marker::Brand;
 use std::process::Abort;

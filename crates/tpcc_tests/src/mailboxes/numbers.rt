@@ -3,7 +3,7 @@
 ghost use Rattle.std.specs.Prelude.{◌≡◌, All, None};
 ghost use Rattle.tpcc_mailbox.specs.Tokens.{identity, idle_origin, client_origin, serving_origin, serving_hand};
 
-use crate::asked::BEFORE;
+use crate::samples::requests::BEFORE;
 use std::alloc::Global;
 use std::process::Abort;
 use tpcc_mailbox::{Answers, Client, Idle, Kept, Left, Mailboxes, Serving};

@@ -1,7 +1,7 @@
 //! Requests at a book that are served again where they were refused memory: one of each kind, and a terminal's receipts.
 use super::terminals::make_terminal;
-use crate::asked::{BEFORE, balance, let_go, payment, purse_of, requests};
 use crate::books::{AtBook, at_book, serve};
+use crate::samples::requests::{BEFORE, balance, let_go, payment, purse_of, requests};
 use std::alloc::{AllocGlobal, Global};
 use std::process::Abort;
 use tpcc_book::{Answer, Book, Naming, Purse};

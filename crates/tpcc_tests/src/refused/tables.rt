@@ -2,13 +2,13 @@
 ghost use Rattle.std.specs.Prelude.{◌≡◌, OnErr};
 ghost use Rattle.tpcc_rows.specs.WellKeyed.{IsStocked};
 
-use crate::asked::{let_go, opening, order, scale};
-use crate::dumps::dump_text;
+use crate::samples::requests::{let_go, opening, order, scale};
 use crate::tables::changes::Change;
 use crate::tables::conditions::at;
 use crate::tables::opening::{AtOpening, at_changed, at_opening, is_opening, row_at};
 use crate::tables::totals::{delivery_is_counted, order_is_counted};
 use crate::tables::transactions::{balance, delivered_in};
+use crate::texts::dumps::dump_text;
 use std::alloc::{AllocGlobal, Global};
 use std::process::Abort;
 use tpcc_conditions::{check, check_opening};

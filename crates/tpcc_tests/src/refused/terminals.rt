@@ -1,5 +1,5 @@
 //! A terminal that is made, and asks.
-use crate::asked::scale;
+use crate::samples::requests::scale;
 use std::alloc::Global;
 use std::process::Abort;
 use tpcc_money::Moment;

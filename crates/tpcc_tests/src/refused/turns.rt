@@ -1,6 +1,6 @@
 //! Turns that are made again where they were refused memory.
-use crate::purses::Settlement::Totals;
-use crate::purses::{Back, Purses};
+use crate::samples::purses::Settlement::Totals;
+use crate::samples::purses::{Back, Purses};
 use crate::turns::{AtTurns, at_turns, serve_three};
 use std::alloc::Global;
 use std::process::Abort;

@@ -4,11 +4,11 @@ ghost use Rattle.std.specs.Thread.{IsSync};
 ghost use Rattle.tpcc_mailbox.specs.Tokens.{identity, idle_origin, serving_origin, serving_hand};
 
 use super::posted::{OneMailbox, make_one, serve_open};
-use crate::asked::{BEFORE, balance, let_go, payment, purse_of, status};
-use crate::counted_turn::CountedTurn;
-use crate::plain_turn::PlainTurn;
-use crate::purses::Settlement::Totals;
-use crate::purses::{Back, Purses, settles};
+use crate::samples::counted_turn::CountedTurn;
+use crate::samples::plain_turn::PlainTurn;
+use crate::samples::purses::Settlement::Totals;
+use crate::samples::purses::{Back, Purses, settles};
+use crate::samples::requests::{BEFORE, balance, let_go, payment, purse_of, status};
 use crate::turns::{AtTurns, at_turns, name_turns, start_turns};
 use std::alloc::Global;
 use std::marker::Brand;

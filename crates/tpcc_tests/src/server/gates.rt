@@ -6,10 +6,10 @@ ghost use Rattle.tpcc_mailbox.specs.Tokens.{identity, serving_origin, serving_ha
 use super::held::{FIRST, Jobs, SECOND, Server, both_serve, comes_to};
 use super::posted::{JobPair, paid_purse, paid_purses, post, post_both};
 use super::two_jobs::{ServesTwoJobs, TwoJobs};
-use crate::asked::{BEFORE, let_go};
-use crate::plain_turn::PlainTurn;
-use crate::purses::Settlement::{BookLeft, Totals};
-use crate::purses::{HandIn, Purses, Settlement, settles};
+use crate::samples::plain_turn::PlainTurn;
+use crate::samples::purses::Settlement::{BookLeft, Totals};
+use crate::samples::purses::{HandIn, Purses, Settlement, settles};
+use crate::samples::requests::{BEFORE, let_go};
 use crate::turns::{at_turns, name_turns, start_turns};
 use std::alloc::Global;
 use std::marker::Brand;

@@ -3,10 +3,10 @@ ghost use Rattle.std.specs.Prelude.{◌≡◌, [], ◌∷◌};
 ghost use Rattle.tpcc_mailbox.specs.Tokens.{identity, client_origin, idle_origin, waiting_origin, serving_origin};
 
 use super::posted::{OneMailbox, make_one, post};
-use crate::asked::{BEFORE, let_go, payment, purse_of};
-use crate::counted_turn::CountedTurn;
-use crate::purses::Settlement::Totals;
-use crate::purses::{Back, Purses};
+use crate::samples::counted_turn::CountedTurn;
+use crate::samples::purses::Settlement::Totals;
+use crate::samples::purses::{Back, Purses};
+use crate::samples::requests::{BEFORE, let_go, payment, purse_of};
 use crate::turns::{AtTurns, at_turns};
 use std::alloc::Global;
 use std::process::Abort;

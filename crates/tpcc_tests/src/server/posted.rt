@@ -2,7 +2,7 @@
 ghost use Rattle.std.specs.Prelude.{◌≡◌, All, None};
 ghost use Rattle.tpcc_mailbox.specs.Tokens.{identity, idle_origin, waiting_origin, serving_origin, serving_hand};
 
-use crate::asked::{let_go, payment, purse_of};
+use crate::samples::requests::{let_go, payment, purse_of};
 use std::alloc::Global;
 use std::process::Abort;
 use std::sync::Wait;

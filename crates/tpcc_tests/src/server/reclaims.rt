@@ -4,10 +4,10 @@ ghost use Rattle.tpcc_mailbox.specs.Tokens.{identity, waiting_origin, serving_or
 
 use super::left::{letter_of, reply_of};
 use super::posted::{JobPair, post_both};
-use crate::asked::{BEFORE, let_go, payment, purse_of};
-use crate::plain_turn::PlainTurn;
-use crate::purses::Settlement::Totals;
-use crate::purses::{Back, Purses};
+use crate::samples::plain_turn::PlainTurn;
+use crate::samples::purses::Settlement::Totals;
+use crate::samples::purses::{Back, Purses};
+use crate::samples::requests::{BEFORE, let_go, payment, purse_of};
 use crate::turns::{AtTurns, at_turns};
 use std::alloc::Global;
 use std::process::Abort;

@@ -3,10 +3,10 @@ ghost use Rattle.std.specs.Prelude.{◌≡◌};
 ghost use Rattle.tpcc_mailbox.specs.Tokens.{identity, serving_origin, waiting_origin};
 
 use super::posted::{OneMailbox, make_one, post};
-use crate::asked::{BEFORE, let_go, purse_of};
-use crate::plain_turn::PlainTurn;
-use crate::purses::Settlement::BookLeft;
-use crate::purses::{Back, Purses};
+use crate::samples::plain_turn::PlainTurn;
+use crate::samples::purses::Settlement::BookLeft;
+use crate::samples::purses::{Back, Purses};
+use crate::samples::requests::{BEFORE, let_go, purse_of};
 use crate::turns::{AtTurns, at_turns};
 use std::alloc::Global;
 use std::process::Abort;

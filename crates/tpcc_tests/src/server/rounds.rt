@@ -4,8 +4,8 @@ ghost use Rattle.tpcc_mailbox.specs.Tokens.{identity, serving_origin, serving_ha
 
 use super::posted::serve_open;
 use super::two_jobs::{ServesTwoJobs, TwoJobs};
-use crate::asked::{BEFORE, let_go};
-use crate::purses::Settlement::Totals;
+use crate::samples::purses::Settlement::Totals;
+use crate::samples::requests::{BEFORE, let_go};
 use crate::turns::at_turns;
 use std::process::Abort;
 use std::sync::Wait;

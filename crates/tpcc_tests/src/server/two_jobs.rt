@@ -3,9 +3,9 @@ ghost use Rattle.std.specs.Prelude.{◌≡◌, None};
 ghost use Rattle.tpcc_mailbox.specs.Tokens.{identity, serving_origin, serving_hand};
 
 use super::posted::{JobPair, paid_purses, post_both};
-use crate::asked::let_go;
-use crate::counted_turn::CountedTurn;
-use crate::purses::{Back, Purses};
+use crate::samples::counted_turn::CountedTurn;
+use crate::samples::purses::{Back, Purses};
+use crate::samples::requests::let_go;
 use crate::turns::AtTurns;
 use std::alloc::Global;
 use std::process::Abort;

@@ -1,5 +1,5 @@
 //! Each condition broken by one change of the opening, and condition 11 by what comes behind it.
-use crate::asked::scale;
+use crate::samples::requests::scale;
 use crate::tables::changes::Change;
 use crate::tables::opening::{AtOpening, at_changed, at_opening};
 use std::alloc::AllocGlobal;

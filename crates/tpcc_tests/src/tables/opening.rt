@@ -2,7 +2,7 @@
 //! happens there.
 ghost use Rattle.tpcc_rows.specs.WellKeyed.{IsStocked};
 
-use crate::asked::{BEFORE, let_go, opening};
+use crate::samples::requests::{BEFORE, let_go, opening};
 use crate::tables::changes::{Change, change_row, has_sixth_line};
 use std::alloc::AllocGlobal;
 use std::process::Abort;

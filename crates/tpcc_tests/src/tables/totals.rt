@@ -1,5 +1,5 @@
 //! What the tables add up and count, on rows that were worked out by hand.
-use crate::asked::payment_by;
+use crate::samples::requests::payment_by;
 use crate::tables::changes::Change;
 use crate::tables::opening::{AtOpening, at_changed, at_opening};
 use crate::tables::transactions::delivered_in;

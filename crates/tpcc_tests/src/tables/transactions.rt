@@ -1,5 +1,5 @@
 //! One call of each transaction that prepares and finishes at once.
-use crate::asked::{let_go, payment_by, ticket};
+use crate::samples::requests::{let_go, payment_by, ticket};
 use crate::tables::changes::Change;
 use crate::tables::opening::{AtOpening, at_changed, at_opening};
 use std::alloc::AllocGlobal;

@@ -1,6 +1,6 @@
 //! When progress is told, and what its lines say.
-use crate::asked::opening;
-use crate::plain_turn::PlainTurn;
+use crate::samples::plain_turn::PlainTurn;
+use crate::samples::requests::opening;
 use std::fmt::Display;
 use std::io;
 use std::io::Eprint;

@@ -1,5 +1,5 @@
 //! A dump of a text that no opening has.
-use crate::asked::let_go;
+use crate::samples::requests::let_go;
 use std::alloc::{AllocGlobal, Global};
 use std::process::Abort;
 use tpcc_money::{Cents, Rate};

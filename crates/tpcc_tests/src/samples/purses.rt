@@ -1,5 +1,5 @@
 //! The purses of a book whose turns are named: five that are split off, and what those that come back come to.
-use crate::asked::{BEFORE, let_go};
+use crate::samples::requests::{BEFORE, let_go};
 use std::alloc::Global;
 use std::process::Abort;
 use tpcc_audit::settle;

@@ -1,4 +1,4 @@
-use Rattle.tpcc_tests.proofs.pay_once.pay_once.Given as goal
+use Rattle.tpcc_tests.proofs.books.pay_once.pay_once.Given as goal
 
 -- the book that is started
 abbrev pub ghosts-pay_at : goal.ghosts-pay_at
