@@ -99,6 +99,11 @@ for words in '' serve help --help --version 'script --help' 'run --version' 'scr
     'requests --terminal 0' 'requests --terminal 1001' 'requests --cards 100001' 'requests 1' 'requests --terminals 1' 'requests --show journal'; do
     it "words: $words" "$words" '' 1 'fault 1 Arguments' ''
 done
+for words in 'script --warehouses +1' 'script --customers 010' 'script --items 000100' 'script --items=-0' 'dump ITEM --seed +1' 'script --seed 00' \
+    'script --moment 060' 'run --moment +0' 'run --terminals +2' 'run --servers 01' 'run --cards 00' 'run --retire +0' 'requests --terminal 01' 'requests --cards +23'; do
+    it "no script's number: $words" "$words" '' 1 'fault 1 Arguments' ''
+done
+it "a script's zeros"            'script --seed 0 --moment 0'                'results\n' 0 '' ''
 by 'a table and a space'         '"$tpcc" dump "ITEM " > stdout 2> stderr; echo $? > status'           1 'fault 1 Arguments' ''
 for number in 0 101 4294967295; do it "$number warehouses" "script --warehouses $number" '' 1 'fault 1 Warehouses' ''; done
 for number in 0 5 15 3010 4294967295; do it "$number customers" "script --customers $number" '' 1 'fault 2 Customers' ''; done

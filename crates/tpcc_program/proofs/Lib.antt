@@ -1,1 +1,3 @@
+mod EndedScripts
 mod NextRequests
+mod ToldRuns

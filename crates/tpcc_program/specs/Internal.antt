@@ -1,5 +1,4 @@
 -- What no public contract reaches: words of private contracts, of how values are seen, and of proofs.
-pub mod Openings
 pub mod Ranges
 pub mod Requests
-pub mod Tasks
+pub mod Scales

@@ -69,7 +69,9 @@ impl Progress {
         &'a self,
         rt: &'a R,
         out: W,
-    ) -> AfterProgress<'a, R, W> {
+    ) -> AfterProgress<'a, R, W>
+        ensures contents { ⟦<AfterProgress<'a, R, W> as Write>⟧.contents result ≡ W.contents out }
+    {
         AfterProgress {
             out,
             rt,
@@ -139,6 +141,15 @@ pub struct AfterProgress<'a, R, W> {
     rt: &'a R,
     /// What is ended.
     progress: &'a Progress,
+}
+
+impl<'a, R: Eprint, W: Write> AfterProgress<'a, R, W> {
+    /// The writer that was written.
+    pub fn into_inner(self) -> W
+        ensures contents { W.contents result ≡ ⟦<AfterProgress<'a, R, W> as Write>⟧.contents self.entry }
+    {
+        self.out
+    }
 }
 
 impl<R: Eprint, W: Write> Write for AfterProgress<'_, R, W> {

@@ -1,26 +1,29 @@
 //! A run that the words ask for.
+ghost use Rattle.std.specs.Prelude.{◌≡◌, Err, IfErr, IsOk, OnErr, OnOk};
+ghost use Rattle.tpcc_run.specs.Outcome.{HasShownPrefix};
 ghost use Rattle.tpcc_run.specs.Plans.{IsPlan};
 ghost use Rattle.tpcc_run.specs.Internal.Plans.{plan_once};
+ghost use Rattle.tpcc_program.specs.Commands.{HasRunPlan, HasToldRun, parts_or_report};
 
 use crate::fault::ProgramFault;
 use crate::progress::{CountedTurn, Progress};
 use crate::timing::Timing;
 use std::alloc::{AllocError, Global};
-use std::io::{self, Eprint};
+use std::io::{Eprint, Write};
 use std::sync::Wait;
 use std::thread::Threads;
 use std::time::Clock;
 use tpcc_population::Opening;
-use tpcc_run::{Plan, run, run_shown};
+use tpcc_run::{Plan, RunFault, run_shown};
 use tpcc_server::OneTurn;
 use tpcc_show::Part;
 use tpcc_text::Report;
 
-/// A run that is asked for: what it runs on, its opening and plan, and the parts of its book that go to standard output,
+/// A run that is asked for: what it runs on, its opening and plan, and the parts of its book that are written,
 /// or none, which is the report alone.
 #[derive(Drop)]
 pub(crate) struct RunCommand<'r, R> {
-    /// Output, threads, clock and waiting.
+    /// Threads, clock, waiting and standard error.
     pub rt: &'r R,
     /// Where it takes memory.
     pub alloc: Global,
@@ -28,149 +31,154 @@ pub(crate) struct RunCommand<'r, R> {
     pub opening: &'r Opening,
     /// How many of what it has.
     pub plan: &'r Plan,
-    /// What goes to standard output.
+    /// What is written.
     pub parts: &'r [Part],
     /// The plan is in its ranges.
     pub ghost planned: { IsPlan plan.now } by { plan_once plan.now },
 }
 
-impl<'r, R: Print + Eprint + Clock + Threads + Wait + Sync> RunCommand<'r, R> {
-    /// Writes what is asked for, and tells on standard error how far the run has come or how long it took.
-    pub(crate) fn write<C: OneTurn + Send, F: Fn(Global) -> Result<C, AllocError> + Sync>(
+impl<'r, R: Eprint + Clock + Threads + Wait + Sync> RunCommand<'r, R> {
+    /// Writes what is asked for, and tells on standard error how far the run has come or how long it
+    /// took. Gives the writer back.
+    pub(crate) fn write<W: Write, C: OneTurn + Send, F: Fn(Global) -> Result<C, AllocError> + Sync>(
         &self,
         timed: bool,
         watched: bool,
+        out: W,
         make: F,
-    ) -> Result<(), ProgramFault>
+    ) -> (W, Result<(), ProgramFault>)
         requires make { F.IsAlwaysCallable make }
+        ensures ran { HasRunPlan self.now.opening.now self.now.plan.now self.now.parts.now
+            (W.contents out) (W.contents result.0) result.1 }
     {
         if timed {
-            return self.write_timed(make);
+            return self.write_timed(out, make);
         }
         if watched {
-            return self.write_watched(make);
+            return self.write_watched(out, make);
         }
-        self.write_parts(make)
+        self.write_parts(out, make)
     }
 
-    fn write_parts<C: OneTurn + Send, F: Fn(Global) -> Result<C, AllocError> + Sync>(
+    fn write_parts<W: Write, C: OneTurn + Send, F: Fn(Global) -> Result<C, AllocError> + Sync>(
         &self,
+        out: W,
         make: F,
-    ) -> Result<(), ProgramFault>
+    ) -> (W, Result<(), ProgramFault>)
         requires make { F.IsAlwaysCallable make }
+        ensures ran { HasRunPlan self.now.opening.now self.now.plan.now self.now.parts.now
+            (W.contents out) (W.contents result.0) result.1 }
     {
-        if self.parts.is_empty() {
-            return self.write_report(make);
-        }
-        let mut out = io::writer(self.rt);
-        match run_shown(
-            self.rt,
-            self.alloc,
-            self.opening,
-            self.plan,
-            self.parts,
-            &mut out,
-            make,
-        ) {
-            Ok(report) => {
-                tell_report(self.rt, self.parts, &report);
-                Ok(())
-            }
-            Err(fault) => Err(ProgramFault::Run(fault)),
-        }
-    }
-
-    fn write_report<C: OneTurn + Send, F: Fn(Global) -> Result<C, AllocError> + Sync>(
-        &self,
-        make: F,
-    ) -> Result<(), ProgramFault>
-        requires make { F.IsAlwaysCallable make }
-    {
-        let out = io::writer(self.rt);
-        match run(self.rt, self.alloc, self.opening, self.plan, out, make) {
-            Ok(_) => Ok(()),
-            Err(fault) => Err(ProgramFault::Run(fault)),
-        }
+        let mut out = out;
+        let ended = self.show(&mut out, make);
+        (out, self.end(ended))
     }
 
     // Tells how far the run has come whenever a terminal asks its next request, up to the first byte that is written.
-    fn write_watched<C: OneTurn + Send, F: Fn(Global) -> Result<C, AllocError> + Sync>(
+    fn write_watched<W: Write, C: OneTurn + Send, F: Fn(Global) -> Result<C, AllocError> + Sync>(
         &self,
+        out: W,
         make: F,
-    ) -> Result<(), ProgramFault>
+    ) -> (W, Result<(), ProgramFault>)
         requires make { F.IsAlwaysCallable make }
+        ensures ran { HasRunPlan self.now.opening.now self.now.plan.now self.now.parts.now
+            (W.contents out) (W.contents result.0) result.1 }
     {
         let rt = self.rt;
         let begun = Progress::begin(rt, self.plan);
         let progress = &begun;
-        let parts = parts_or_report(self.parts);
-        let mut out = progress.end_at_first_write(rt, io::writer(rt));
-        let ended = run_shown(
-            rt,
-            self.alloc,
-            self.opening,
-            self.plan,
-            parts,
-            &mut out,
+        let mut watched = progress.end_at_first_write(rt, out);
+        let ended = self.show(
+            &mut watched,
             |alloc: Global| -> Result<CountedTurn<'_, C>, AllocError> {
                 progress.tell(rt);
                 Ok(progress.counting_call(make(alloc)?))
             },
         );
         progress.end(rt);
-        match ended {
-            Ok(report) => {
-                tell_report(rt, parts, &report);
-                Ok(())
-            }
-            Err(fault) => Err(ProgramFault::Run(fault)),
-        }
+        (watched.into_inner(), self.end(ended))
     }
 
     // Tells how long the opening and the requests took.
-    fn write_timed<C: OneTurn + Send, F: Fn(Global) -> Result<C, AllocError> + Sync>(
+    fn write_timed<W: Write, C: OneTurn + Send, F: Fn(Global) -> Result<C, AllocError> + Sync>(
         &self,
+        out: W,
         make: F,
-    ) -> Result<(), ProgramFault>
+    ) -> (W, Result<(), ProgramFault>)
         requires make { F.IsAlwaysCallable make }
+        ensures ran { HasRunPlan self.now.opening.now self.now.plan.now self.now.parts.now
+            (W.contents out) (W.contents result.0) result.1 }
     {
         let rt = self.rt;
         let begun = Timing::begin(rt);
         let timing = &begun;
+        let mut timed = timing.time_writer(rt, out);
+        let ended = self.show(&mut timed, |alloc: Global| -> Result<C, AllocError> {
+            timing.mark_opened(rt);
+            make(alloc)
+        });
+        let out = timed.into_inner();
+        match ended {
+            Ok(report) => {
+                self.tell_report(&report);
+                let _ = rt.eprint(timing.times(rt, report.entries));
+                (out, Ok(()))
+            }
+            Err(fault) => (out, Err(ProgramFault::Run(fault))),
+        }
+    }
+
+    // The run, with its report or the parts that are asked for.
+    #[tactic(auto, using(crate::proofs::ToldRuns::has_told))]
+    fn show<W: Write, C: OneTurn + Send, F: Fn(Global) -> Result<C, AllocError> + Sync>(
+        &self,
+        out: &mut W,
+        make: F,
+    ) -> Result<Report, RunFault>
+        requires make { F.IsAlwaysCallable make }
+        ensures shown { OnOk result (HasToldRun self.now.opening.now self.now.plan.now
+            self.now.parts.now (W.contents out.old) (W.contents out.new)) }
+        ensures part { OnErr result (HasShownPrefix self.now.opening.now self.now.plan.now
+            (parts_or_report self.now.parts.now) (W.contents out.old) (W.contents out.new)) }
+    {
         let parts = parts_or_report(self.parts);
-        let mut out = timing.time_writer(rt, io::writer(rt));
-        let ended = run_shown(
-            rt,
+        run_shown(
+            self.rt,
             self.alloc,
             self.opening,
             self.plan,
             parts,
-            &mut out,
-            |alloc: Global| -> Result<C, AllocError> {
-                timing.mark_opened(rt);
-                make(alloc)
-            },
-        );
+            out,
+            make,
+        )
+    }
+
+    // How the program ends where the run ended so.
+    fn end(&self, ended: Result<Report, RunFault>) -> Result<(), ProgramFault>
+        ensures ok { OnOk ended (IsOk result) }
+        ensures err { IfErr ended (λ fault. result ≡ Err (ProgramFault.Run fault)) }
+    {
         match ended {
             Ok(report) => {
-                tell_report(rt, parts, &report);
-                let _ = rt.eprint(timing.times(rt, report.entries));
+                self.tell_report(&report);
                 Ok(())
             }
             Err(fault) => Err(ProgramFault::Run(fault)),
         }
     }
-}
 
-// A report that is not asked for on standard output. One that can't be written is passed over.
-fn tell_report<R: Eprint>(rt: &R, parts: &[Part], report: &Report) {
-    if !parts.contains(&Part::Report) {
-        let _ = eprint!(rt; "{report}");
+    // Tells a report that is not among the parts. One that can't be written is passed over.
+    fn tell_report(&self, report: &Report) {
+        if !parts_or_report(self.parts).contains(&Part::Report) {
+            let _ = eprint!(self.rt; "{report}");
+        }
     }
 }
 
 // The report where no part is asked for.
-fn parts_or_report(parts: &[Part]) -> &[Part] {
+fn parts_or_report(parts: &[Part]) -> &[Part]
+    ensures parts { result.now ≡ parts_or_report parts.now }
+{
     if parts.is_empty() {
         &[Part::Report]
     } else {

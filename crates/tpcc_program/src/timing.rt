@@ -43,7 +43,10 @@ impl Timing {
         &'a self,
         rt: &'a T,
         input: R,
-    ) -> TimedReader<'a, T, R> {
+    ) -> TimedReader<'a, T, R>
+        ensures remaining { ⟦<TimedReader<'a, T, R> as Read>⟧.remaining result
+            ≡ R.remaining input }
+    {
         TimedReader {
             input,
             rt,
@@ -52,11 +55,9 @@ impl Timing {
     }
 
     /// A writer whose first call says that the requests are served.
-    pub fn time_writer<'a, T: Clock, W: Write>(
-        &'a self,
-        rt: &'a T,
-        out: W,
-    ) -> TimedWriter<'a, T, W> {
+    pub fn time_writer<'a, T: Clock, W: Write>(&'a self, rt: &'a T, out: W) -> TimedWriter<'a, T, W>
+        ensures contents { ⟦<TimedWriter<'a, T, W> as Write>⟧.contents result ≡ W.contents out }
+    {
         TimedWriter {
             out,
             rt,
@@ -155,6 +156,15 @@ pub struct TimedWriter<'a, T, W> {
     rt: &'a T,
     /// What is told of the first call.
     timing: &'a Timing,
+}
+
+impl<'a, T: Clock, W: Write> TimedWriter<'a, T, W> {
+    /// The writer that was written.
+    pub fn into_inner(self) -> W
+        ensures contents { W.contents result ≡ ⟦<TimedWriter<'a, T, W> as Write>⟧.contents self.entry }
+    {
+        self.out
+    }
 }
 
 impl<T: Clock, W: Write> Write for TimedWriter<'_, T, W> {

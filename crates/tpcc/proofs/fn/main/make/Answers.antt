@@ -7,8 +7,8 @@ use Rattle.tpcc_book.specs.declared.register.outcome.Turned.{Turned}
 use Rattle.tpcc_book.specs.Past.{Past}
 use Rattle.tpcc_book.specs.Turn.{IsTurn}
 use Rattle.tpcc_server.proofs.Boxes.{carried, Tells, MayCall}
-use Rattle.tpcc.proofs.fn.main.perform.Hides.{has-1-1}
-use Rattle.tpcc.proofs.fn.main.perform.Goals as goal
+use Rattle.tpcc.proofs.fn.main.make.Hides.{has-1-1}
+use Rattle.tpcc.proofs.fn.main.make.Goals as goal
 
 -- what is known of a call's arguments and its answer
 abbrev Q : MutBor Past × (Request × (ℕ × (ℕ × Unit {0}))) → Turned × (MutBor Past × Unit {0}) → Type 0
