@@ -1,37 +1,17 @@
-//! Runs whose calls are refused memory, or see who makes them. Other runs are cases of the built program.
+//! Runs whose calls are refused memory. Other runs are cases of the built program.
 ghost use Rattle.std.specs.Prelude.{◌≡◌, ◌≤◌};
-ghost use Rattle.tpcc_run.specs.Plans.{IsPlan};
 
 mod progress;
 
 use crate::samples::plain_turn::PlainTurn;
 use crate::samples::requests::opening;
-use crate::samples::watched_turn::{ServersSeen, WatchedTurn, thread_name};
-use std::alloc::{AllocError, AllocGlobal, Global};
-use std::fs::Files;
+use std::alloc::{AllocError, Global};
 use std::process::Abort;
 use std::sync::Wait;
 use std::sync::atomic::{AtomicU64, Ordering};
 use std::thread::Threads;
-use std::time::Clock;
 use tpcc_money::Moment;
 use tpcc_run::{Plan, RunFault, Service, run};
-
-/// Two terminals and two servers.
-fn plan() -> Plan
-    ensures { IsPlan result }
-{
-    Plan {
-        terminals: 2,
-        service: Service::Servers {
-            count: 2,
-            retire: 0,
-        },
-        cards: 23,
-        seed: 1,
-        moment: Moment::new(0),
-    }
-}
 
 /// Whether a run of 23 cards wants memory, where the calls behind the first ones are refused it.
 fn is_refused_after<R: Threads + Wait + Abort + Sync>(rt: &R, alloc: Global, granted: u64) -> bool {
@@ -44,7 +24,17 @@ fn is_refused_after<R: Threads + Wait + Abort + Sync>(rt: &R, alloc: Global, gra
             Err(AllocError)
         }
     };
-    let ended = run(rt, alloc, &opening(rt), &plan(), Vec::new(alloc), make);
+    let plan = Plan {
+        terminals: 2,
+        service: Service::Servers {
+            count: 2,
+            retire: 0,
+        },
+        cards: 23,
+        seed: 1,
+        moment: Moment::new(0),
+    };
+    let ended = run(rt, alloc, &opening(rt), &plan, Vec::new(alloc), make);
     matches!(ended, Err(RunFault::NoMemory))
 }
 
@@ -55,25 +45,4 @@ fn a_run_whose_calls_are_refused_memory_says_so(rt: HostRuntime) {
     for granted in [0, 1, 40, 69] {
         assert!(rt; is_refused_after(&rt, rt.alloc(), granted));
     }
-}
-
-/// Whether a run of two servers ends well, and both have made turns.
-fn is_served_by_two<R: Threads + Wait + Abort + Files + Clock + AllocGlobal + Sync>(
-    rt: &R,
-    alloc: Global,
-) -> bool {
-    let servers = ServersSeen::new();
-    let seen = &servers;
-    let make = |_alloc: Global| -> Result<WatchedTurn<'_, R>, AllocError> {
-        let client = thread_name(rt);
-        Ok(WatchedTurn { rt, seen, client })
-    };
-    let ended = run(rt, alloc, &opening(rt), &plan(), Vec::new(alloc), make);
-    ended.is_ok() && servers.are_two()
-}
-
-/// Each turn takes a tenth of a second until both have served, so that the server that does not make it finds a job.
-#[test]
-fn each_of_two_servers_serves(rt: HostRuntime) {
-    assert!(rt; is_served_by_two(&rt, rt.alloc()));
 }

@@ -4,4 +4,3 @@ pub mod counted_turn;
 pub mod plain_turn;
 pub mod purses;
 pub mod requests;
-pub mod watched_turn;
