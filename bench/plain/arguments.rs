@@ -5,9 +5,12 @@ use crate::fault::Fault;
 use crate::generate::Kind;
 use crate::money::LAST_MOMENT;
 use crate::opening::Opening;
+use crate::parts::Part;
 use crate::runs::Plan;
 use crate::tables::Scale;
 use std::str::FromStr;
+
+const MOST_PARTS: usize = 16;
 
 /// What the program is asked to do.
 pub enum Command {
@@ -16,7 +19,7 @@ pub enum Command {
     /// Terminals one after another.
     Serial,
     /// A thread a terminal, with the engine behind a mutex.
-    Mutex,
+    Run,
     /// A terminal's requests as lines of a script.
     Requests,
     /// A drawn script of so many lines.
@@ -28,11 +31,13 @@ pub struct Arguments {
     pub command: Command,
     pub opening: Opening,
     pub plan: Plan,
+    /// What is shown; nothing where nothing was asked for.
+    pub parts: Vec<Part>,
     /// Whether seconds are told on standard error.
     pub time: bool,
 }
 
-// An option may be given once.
+// An option may be given once, but for `--show`.
 struct Words {
     table: Option<Table>,
     options: Vec<(String, String)>,
@@ -48,7 +53,7 @@ pub fn read(words: impl Iterator<Item = String>) -> Result<Arguments, Fault> {
         "script" => Command::Script,
         "dump" => Command::Dump(given.table.take().ok_or(Fault::Arguments)?),
         "serial" => Command::Serial,
-        "mutex" | "run" => Command::Mutex,
+        "mutex" | "run" => Command::Run,
         "requests" => Command::Requests,
         "generate" => {
             let kind = given.take("kind").unwrap_or_else(|| "mixed".to_string());
@@ -61,7 +66,12 @@ pub fn read(words: impl Iterator<Item = String>) -> Result<Arguments, Fault> {
     let moment = given.number("moment", 0, 0..=u64::from(LAST_MOMENT))? as u32;
     let plan = plan(&mut given, &command, seed, moment)?;
     let is_seeded = given.flag("seeded");
-    let time = given.flag("time");
+    let has_times = matches!(command, Command::Script | Command::Run | Command::Serial);
+    let time = has_times && given.flag("time");
+    let parts = match command {
+        Command::Script | Command::Run => given.parts()?,
+        _ => Vec::new(),
+    };
     let warehouses = given.number("warehouses", 1, 0..=u64::from(u32::MAX))? as u32;
     let customers = given.number("customers", 10, 0..=u64::from(u32::MAX))? as u32;
     let items = given.number("items", 100, 0..=u64::from(u32::MAX))? as u32;
@@ -73,21 +83,23 @@ pub fn read(words: impl Iterator<Item = String>) -> Result<Arguments, Fault> {
         true => Opening::Seeded { scale, seed, moment },
         false => Opening::Plain { scale },
     };
-    Ok(Arguments { command, opening, plan, time })
+    Ok(Arguments { command, opening, plan, parts, time })
 }
 
 // The options of a run. A run's servers are taken and judged, though this program has none.
 fn plan(given: &mut Words, command: &Command, seed: u64, moment: u32) -> Result<Plan, Fault> {
     let mut plan = Plan { terminals: 2, cards: 23, seed, moment };
     match command {
-        Command::Serial | Command::Mutex => {
+        Command::Serial | Command::Run => {
             plan.terminals = given.number("terminals", 2, 1..=999)? as u32;
-            given.number("servers", 1, 1..=16)?;
-            given.number("retire", 0, 0..=100_000)?;
+            if !given.flag("direct") {
+                given.number("servers", 1, 1..=16)?;
+                given.number("retire", 0, 0..=100_000)?;
+            }
             plan.cards = given.number("cards", 23, 0..=100_000)? as u32;
         }
         Command::Requests => {
-            plan.terminals = given.number("terminal", 1, 1..=999)? as u32;
+            plan.terminals = given.number("terminal", 1, 1..=1000)? as u32;
             plan.cards = given.number("cards", 23, 0..=100_000)? as u32;
         }
         Command::Script | Command::Dump(_) | Command::Generate(..) => {}
@@ -120,7 +132,7 @@ fn split(words: impl Iterator<Item = String>, has_table: bool) -> Result<Words, 
                 given.table = Some(table.ok_or(Fault::Arguments)?);
             }
             Some("") => has_ended = true,
-            Some("seeded" | "time") => given.flags.push(word[2..].to_string()),
+            Some("seeded" | "time" | "direct") => given.flags.push(word[2..].to_string()),
             Some(option) => {
                 let pair = match option.split_once('=') {
                     Some((name, value)) => (name.to_string(), value.to_string()),
@@ -149,6 +161,18 @@ impl Words {
             Ok(number)
         } else {
             Err(Fault::Arguments)
+        }
+    }
+
+    // All that `--show` was given with.
+    fn parts(&mut self) -> Result<Vec<Part>, Fault> {
+        let mut parts = Vec::new();
+        while let Some(name) = self.take("show") {
+            parts.push(Part::of(&name).ok_or(Fault::Arguments)?);
+        }
+        match parts.len() {
+            0..=MOST_PARTS => Ok(parts),
+            _ => Err(Fault::Arguments),
         }
     }
 

@@ -11,7 +11,7 @@ use std::io::{Result, Write};
 const BLOCK: usize = 1 << 16;
 
 /// The nine tables.
-#[derive(Clone, Copy)]
+#[derive(Clone, Copy, PartialEq, Eq)]
 pub enum Table {
     Warehouse,
     District,
@@ -24,21 +24,28 @@ pub enum Table {
     Stock,
 }
 
+// In the order of the tables.
+const NAMES: [(&str, Table); 9] = [
+    ("WAREHOUSE", Table::Warehouse),
+    ("DISTRICT", Table::District),
+    ("CUSTOMER", Table::Customer),
+    ("HISTORY", Table::History),
+    ("ORDER", Table::Order),
+    ("ORDER-LINE", Table::OrderLine),
+    ("NEW-ORDER", Table::NewOrder),
+    ("ITEM", Table::Item),
+    ("STOCK", Table::Stock),
+];
+
 impl Table {
     /// The table of that name.
     pub fn of(name: &str) -> Option<Table> {
-        Some(match name {
-            "WAREHOUSE" => Table::Warehouse,
-            "DISTRICT" => Table::District,
-            "CUSTOMER" => Table::Customer,
-            "HISTORY" => Table::History,
-            "ORDER" => Table::Order,
-            "ORDER-LINE" => Table::OrderLine,
-            "NEW-ORDER" => Table::NewOrder,
-            "ITEM" => Table::Item,
-            "STOCK" => Table::Stock,
-            _ => return None,
-        })
+        NAMES.iter().find(|(known, _)| *known == name).map(|(_, table)| *table)
+    }
+
+    /// The table's name.
+    pub fn name(self) -> &'static str {
+        NAMES[self as usize].0
     }
 
     fn header(self) -> &'static str {

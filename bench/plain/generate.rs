@@ -17,7 +17,12 @@ pub enum Kind {
     Mixed,
     /// Mixed lines, of which one is none of a script's.
     Hostile,
+    /// Each kind of step: bad credit, other warehouses, roll-backs, whole tickets, each refusal that a line can meet.
+    Tour,
 }
+
+const STEPS: u32 = 16;
+const MOST_TICKETS: u32 = 1000;
 
 impl Kind {
     /// The kind of that name.
@@ -26,6 +31,7 @@ impl Kind {
             "valid" => Kind::Valid,
             "mixed" => Kind::Mixed,
             "hostile" => Kind::Hostile,
+            "tour" => Kind::Tour,
             _ => return None,
         })
     }
@@ -35,6 +41,11 @@ impl Kind {
 pub fn script(kind: Kind, lines: u32, scale: Scale, seed: u64) -> Vec<u8> {
     let mut author = Author { stream: Stream::of(seed, Purpose::Script, lines.into()), scale, kind };
     let mut out = Vec::new();
+    if kind == Kind::Tour {
+        author.put_tour(&mut out, lines);
+        author.put_end(&mut out);
+        return out;
+    }
     let broken = author.stream.between(1, lines.max(1));
     for number in 1..=lines {
         let start = out.len();
@@ -63,7 +74,7 @@ impl Author {
 
     // A number from 1 to the most there is, or one at the ends of all numbers.
     fn key(&mut self, most: u32) -> u32 {
-        if self.kind == Kind::Valid || !self.once_in(60) {
+        if matches!(self.kind, Kind::Valid | Kind::Tour) || !self.once_in(60) {
             return self.stream.between(1, most);
         }
         match self.stream.between(0, 3) {
@@ -100,7 +111,7 @@ impl Author {
     }
 
     fn amount(&mut self) -> i64 {
-        if self.kind != Kind::Valid && self.once_in(20) {
+        if !matches!(self.kind, Kind::Valid | Kind::Tour) && self.once_in(20) {
             let ends = [0, 99, 100, 500_000, 500_001, 999_999_999_999];
             return ends[self.stream.between(0, 5) as usize];
         }
@@ -131,7 +142,7 @@ impl Author {
 
     fn order(&mut self) -> Order {
         let count = match self.stream.between(1, 20) {
-            1 if self.kind != Kind::Valid => self.stream.between(0, 40),
+            1 if !matches!(self.kind, Kind::Valid | Kind::Tour) => self.stream.between(0, 40),
             _ => self.stream.between(5, 15),
         };
         Order {
@@ -168,9 +179,113 @@ impl Author {
 
     fn threshold(&mut self) -> u32 {
         match self.kind {
-            Kind::Valid => self.stream.between(10, 20),
+            Kind::Valid | Kind::Tour => self.stream.between(10, 20),
             _ => self.stream.between(8, 22),
         }
+    }
+
+    // Each step once, and then drawn ones, until there are so many lines.
+    fn put_tour(&mut self, out: &mut Vec<u8>, lines: u32) {
+        let mut count = 0;
+        let mut step = 0;
+        while step < STEPS || count < lines {
+            let drawn = if step < STEPS { step } else { self.stream.between(0, STEPS - 1) };
+            let start = out.len();
+            self.put_step(out, drawn);
+            count += out[start..].iter().filter(|&&byte| byte == b'\n').count() as u32;
+            step += 1;
+        }
+    }
+
+    fn put_step(&mut self, out: &mut Vec<u8>, step: u32) {
+        match step {
+            0 => self.put_payments(out),
+            1 => self.put_distant_order(out),
+            2 => self.put_roll_back(out),
+            3 => self.put_ticket(out),
+            4..=12 => self.put_refused(out, step - 3),
+            // Seldom more tickets than there is room for.
+            13 if self.once_in(8) => {
+                (0..=MOST_TICKETS).for_each(|_| self.put_delivery(out));
+            }
+            _ => self.put_line(out),
+        }
+    }
+
+    // By customers of whom each tenth of a plain opening has bad credit, from everywhere, often the same again.
+    fn put_payments(&mut self, out: &mut Vec<u8>) {
+        let customer = 10 * self.stream.between(1, self.scale.customers / 10);
+        for _ in 0..self.stream.between(3, 12) {
+            let number = if self.once_in(3) { self.key(self.scale.customers) } else { customer };
+            put_line(out, &Request::Payment(Payment { who: Who::Number(number), ..self.payment() }));
+        }
+    }
+
+    // Some of its lines, if not all, come from the last warehouse.
+    fn put_distant_order(&mut self, out: &mut Vec<u8>) {
+        let mut order = self.order();
+        order.warehouse = 1;
+        let distant = self.stream.between(1, order.lines.len() as u32) as usize;
+        order.lines[..distant].iter_mut().for_each(|line| line.supply = self.scale.warehouses);
+        put_line(out, &Request::NewOrder(order));
+    }
+
+    // No item of a number past the last one, and none of the number 0; any line may have it.
+    fn put_roll_back(&mut self, out: &mut Vec<u8>) {
+        let mut order = self.order();
+        let place = self.stream.between(0, order.lines.len() as u32 - 1) as usize;
+        let unused = [0, self.scale.items + 1, u32::MAX];
+        order.lines[place].item = unused[self.stream.between(0, 2) as usize];
+        put_line(out, &Request::NewOrder(order));
+    }
+
+    fn put_delivery(&mut self, out: &mut Vec<u8>) {
+        let (warehouse, carrier) = (self.key(self.scale.warehouses), self.key(10));
+        put_line(out, &Request::Delivery(DeliveryQuery { warehouse, carrier, moment: self.moment() }));
+    }
+
+    // As many runs as a ticket has districts, with other requests between some of them.
+    fn put_ticket(&mut self, out: &mut Vec<u8>) {
+        self.put_delivery(out);
+        for _ in 0..DISTRICTS {
+            put_line(out, &Request::Deliver(self.moment()));
+            if self.once_in(5) {
+                self.put_line(out);
+            }
+        }
+    }
+
+    // A request that meets the refusal of that number, 1 to 9.
+    fn put_refused(&mut self, out: &mut Vec<u8>, refusal: u32) {
+        let is_first = self.once_in(2);
+        let past = |least: u32, most: u32| if is_first { least - 1 } else { most + 1 };
+        let Scale { warehouses, customers, .. } = self.scale;
+        let request = match refusal {
+            1 => Request::Payment(Payment { customer_warehouse: past(1, warehouses), ..self.payment() }),
+            2 => Request::Status(StatusQuery { district: past(1, DISTRICTS), ..self.status() }),
+            3 => Request::Status(StatusQuery { who: Who::Number(past(1, customers)), ..self.status() }),
+            4..=6 => Request::NewOrder(self.refused_order(refusal, &past)),
+            7 => Request::Payment(Payment { amount: i64::from(past(100, 500_000)), ..self.known_payment() }),
+            8 => Request::Delivery(DeliveryQuery { warehouse: 1, carrier: past(1, 10), moment: self.moment() }),
+            _ => Request::Stock(StockQuery { warehouse: 1, district: self.key(DISTRICTS), threshold: past(10, 20) }),
+        };
+        put_line(out, &request);
+    }
+
+    // Its customer exists.
+    fn known_payment(&mut self) -> Payment {
+        Payment { who: Who::Number(self.key(self.scale.customers)), ..self.payment() }
+    }
+
+    fn refused_order(&mut self, refusal: u32, past: &dyn Fn(u32, u32) -> u32) -> Order {
+        let mut order = self.order();
+        let place = self.stream.between(0, order.lines.len() as u32 - 1) as usize;
+        match refusal {
+            4 => order.lines = (0..past(5, 15)).map(|_| self.wish()).collect(),
+            5 => order.lines[place].quantity = past(1, 10),
+            _ => order.lines[place].supply = past(1, self.scale.warehouses),
+        }
+        order
     }
 
     // What the rows are in the end: some customers, what was delivered, the conditions.

@@ -72,6 +72,11 @@ impl Journal {
         &self.entries[place].reply
     }
 
+    /// All entries, in their order.
+    pub fn entries(&self) -> &[Entry] {
+        &self.entries
+    }
+
     /// The runs of deliveries, ten by ten; fewer than ten at the end are not there yet.
     pub fn results(&self) -> impl Iterator<Item = [DistrictRun; DISTRICTS as usize]> + '_ {
         self.runs.chunks_exact(DISTRICTS as usize).map(|ten| std::array::from_fn(|place| self.run(ten[place])))

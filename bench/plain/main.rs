@@ -20,6 +20,7 @@ mod money;
 mod names;
 mod new_order;
 mod opening;
+mod parts;
 mod payment;
 mod request;
 mod rows;
@@ -34,7 +35,10 @@ mod text;
 use arguments::{Arguments, Command};
 use engine::Engine;
 use fault::{Fault, ScriptFault};
-use runs::Totals;
+use journal::Purse;
+use parts::{put_parts, Ended, Part, Totals};
+use script::run_script;
+use std::io::sink;
 use std::time::Instant;
 use stream::{standard_input, standard_output, write_all};
 use terminal::Terminal;
@@ -57,82 +61,113 @@ fn obey(arguments: Arguments) -> Result<(), Fault> {
     match arguments.command {
         Command::Script => script(&arguments),
         Command::Dump(table) => {
-            let engine = open(&arguments);
+            let engine = Engine::start(&arguments.opening);
             let mut output = standard_output().map_err(|_| Fault::DumpWrite)?;
             let written = dump::dump(&engine.tables, table, &mut output);
             std::mem::forget(engine);
             written.map_err(|_| Fault::DumpWrite)
         }
-        Command::Serial | Command::Mutex => run(&arguments),
+        Command::Serial | Command::Run => run(&arguments),
         Command::Requests => requests(&arguments),
         Command::Generate(kind, lines) => {
             let scale = arguments.opening.scale();
-            write(&generate::script(kind, lines, scale, arguments.plan.seed))
+            write(&generate::script(kind, lines, scale, arguments.plan.seed)).map_err(|_| Fault::RunWrite)
         }
     }
 }
 
-// Fills the opening and tells how long it took.
-fn open(arguments: &Arguments) -> Engine {
-    let begin = Instant::now();
-    let engine = Engine::start(&arguments.opening);
-    if arguments.time {
-        eprintln!("opening {:.3} s", begin.elapsed().as_secs_f64());
-    }
-    engine
+// When the opening began and ended, and when the last request was answered.
+struct Clock {
+    begin: Instant,
+    opened: Instant,
+    ended: Instant,
 }
 
-fn tell(arguments: &Arguments, begin: Instant, requests: u64) {
+// Fills the opening.
+fn open(arguments: &Arguments) -> (Engine, Clock) {
+    let begin = Instant::now();
+    let engine = Engine::start(&arguments.opening);
+    let opened = Instant::now();
+    (engine, Clock { begin, opened, ended: opened })
+}
+
+// Tells what was asked for of a command that ended well.
+fn tell(arguments: &Arguments, clock: &Clock, entries: u64) {
     if arguments.time {
-        let seconds = begin.elapsed().as_secs_f64();
-        let rate = requests as f64 / seconds;
-        eprintln!("requests {requests} in {seconds:.3} s, {rate:.0} a second");
+        let seconds = (clock.ended - clock.opened).as_secs_f64();
+        let rate = entries as f64 / seconds.max(1e-9);
+        eprintln!("opening {:.3} s", (clock.opened - clock.begin).as_secs_f64());
+        eprintln!("requests {entries} in {seconds:.3} s, {rate:.0} a second");
     }
 }
 
 fn script(arguments: &Arguments) -> Result<(), Fault> {
     let mut input = standard_input().map_err(|_| ScriptFault::Read)?;
     let mut output = standard_output().map_err(|_| ScriptFault::Write)?;
-    let mut engine = open(arguments);
-    let begin = Instant::now();
-    let ended = script::run_script(&mut input, &mut output, &mut engine);
-    if let Ok(lines) = ended {
-        tell(arguments, begin, lines);
+    let (mut engine, mut clock) = open(arguments);
+    let opened = engine.tables.ytd();
+    let mut purse = Purse::new(1);
+    let mut screens = Vec::new();
+    let ended = match arguments.parts.as_slice() {
+        [] | [Part::Screens] => run_script(&mut input, &mut output, &mut engine, &mut purse),
+        parts if parts.contains(&Part::Screens) => run_script(&mut input, &mut screens, &mut engine, &mut purse),
+        _ => run_script(&mut input, &mut sink(), &mut engine, &mut purse),
+    };
+    clock.ended = Instant::now();
+    if !matches!(arguments.parts.as_slice(), [] | [Part::Screens]) {
+        let rise = engine.tables.ytd() - opened;
+        let totals = Totals { entries: purse.entries, paid: purse.paid, rise };
+        let mut out = Vec::new();
+        put_parts(&mut out, &Ended { engine: &engine, totals, screens: Some(&screens) }, &arguments.parts);
+        write(&out).map_err(|_| ScriptFault::Write)?;
     }
     std::mem::forget(engine);
     ended?;
+    tell(arguments, &clock, purse.entries);
     Ok(())
 }
 
 fn run(arguments: &Arguments) -> Result<(), Fault> {
-    let mut engine = open(arguments);
+    let (mut engine, mut clock) = open(arguments);
     let opened = engine.tables.ytd();
-    let begin = Instant::now();
-    let (engine, totals) = match arguments.command {
+    let (engine, gathered) = match arguments.command {
         Command::Serial => {
-            let totals = runs::serial(&mut engine, &arguments.plan);
-            (engine, totals)
+            let gathered = runs::serial(&mut engine, &arguments.plan);
+            (engine, gathered)
         }
         _ => runs::concurrent(engine, &arguments.plan),
     };
-    tell(arguments, begin, totals.requests);
-    if arguments.time {
-        let entries = totals.entries.max(1);
-        eprintln!("journal {} bytes an entry", engine.journal.bytes() as u64 / entries);
-    }
+    clock.ended = Instant::now();
     let rise = engine.tables.ytd() - opened;
-    let is_settled = engine.journal.settles(totals.entries, totals.paid) && totals.paid == rise;
-    std::mem::forget(engine);
-    if !is_settled {
+    let totals = Totals { entries: gathered.entries, paid: gathered.paid, rise };
+    if !engine.journal.settles(totals.entries, totals.paid) || totals.paid != rise {
         return Err(Fault::Missing);
     }
-    report(totals, rise)
+    report(arguments, &engine, totals)?;
+    tell(arguments, &clock, totals.entries);
+    if arguments.time && matches!(arguments.command, Command::Serial) {
+        eprintln!("journal {} bytes an entry", engine.journal.bytes() as u64 / totals.entries.max(1));
+    }
+    std::mem::forget(engine);
+    Ok(())
 }
 
-fn report(totals: Totals, rise: i64) -> Result<(), Fault> {
+// The report goes to standard error where other parts are shown.
+fn report(arguments: &Arguments, engine: &Engine, totals: Totals) -> Result<(), Fault> {
+    let parts = match arguments.parts.as_slice() {
+        [] => &[Part::Report],
+        parts => parts,
+    };
+    let ended = Ended { engine, totals, screens: None };
     let mut out = Vec::new();
-    screens::put_report(&mut out, totals.entries, totals.paid, rise);
-    write(&out)
+    put_parts(&mut out, &ended, parts);
+    write(&out).map_err(|_| Fault::RunWrite)?;
+    if !parts.contains(&Part::Report) {
+        let mut told = Vec::new();
+        put_parts(&mut told, &ended, &[Part::Report]);
+        eprint!("{}", String::from_utf8_lossy(&told));
+    }
+    Ok(())
 }
 
 // The requests of one terminal need no rows.
@@ -143,10 +178,9 @@ fn requests(arguments: &Arguments) -> Result<(), Fault> {
     for _ in 0..plan.cards {
         lines::put_line(&mut out, &terminal.next(plan.moment));
     }
-    write(&out)
+    write(&out).map_err(|_| Fault::DumpWrite)
 }
 
-fn write(bytes: &[u8]) -> Result<(), Fault> {
-    let written = standard_output().and_then(|mut output| write_all(&mut output, bytes));
-    written.map_err(|_| Fault::RunWrite)
+fn write(bytes: &[u8]) -> std::io::Result<()> {
+    standard_output().and_then(|mut output| write_all(&mut output, bytes))
 }

@@ -21,9 +21,8 @@ pub struct Plan {
     pub moment: Moment,
 }
 
-/// What a run came to.
-pub struct Totals {
-    pub requests: u64,
+/// What the purses of a run came to.
+pub struct Gathered {
     pub entries: u64,
     pub paid: Cents,
 }
@@ -46,7 +45,7 @@ impl Plan {
 }
 
 /// One card of each terminal and one delivery in turn, and then what is still queued.
-pub fn serial(engine: &mut Engine, plan: &Plan) -> Totals {
+pub fn serial(engine: &mut Engine, plan: &Plan) -> Gathered {
     let mut seats = plan.seats(engine.tables.scale);
     let mut runner = plan.runner();
     for _ in 0..plan.cards {
@@ -56,13 +55,12 @@ pub fn serial(engine: &mut Engine, plan: &Plan) -> Totals {
         }
         deliver(engine, &mut runner, plan.moment);
     }
-    let last = run_last(engine, &mut runner, plan.moment, MOST_LAST_RUNS);
-    let asked = u64::from(plan.cards) * u64::from(plan.terminals + 1);
-    totals(asked + last, seats.into_iter().map(|seat| seat.purse).chain([runner]))
+    run_last(engine, &mut runner, plan.moment, MOST_LAST_RUNS);
+    gather(seats.into_iter().map(|seat| seat.purse).chain([runner]))
 }
 
 /// A thread for each terminal and for the delivery runner, and then what is still queued.
-pub fn concurrent(engine: Engine, plan: &Plan) -> (Engine, Totals) {
+pub fn concurrent(engine: Engine, plan: &Plan) -> (Engine, Gathered) {
     let seats = plan.seats(engine.tables.scale);
     let mut runner = plan.runner();
     let engine = Mutex::new(engine);
@@ -86,10 +84,9 @@ pub fn concurrent(engine: Engine, plan: &Plan) -> (Engine, Totals) {
         asked.into_iter().map(purse).collect()
     });
     let mut engine = engine.into_inner().unwrap_or_else(|poisoned| poisoned.into_inner());
-    let last = run_last(&mut engine, &mut runner, plan.moment, u32::MAX);
+    run_last(&mut engine, &mut runner, plan.moment, u32::MAX);
     purses.push(runner);
-    let asked = u64::from(plan.cards) * u64::from(plan.terminals + 1);
-    (engine, totals(asked + last, purses.into_iter()))
+    (engine, gather(purses.into_iter()))
 }
 
 // Whether a district was delivered or skipped.
@@ -97,21 +94,20 @@ fn deliver(engine: &mut Engine, runner: &mut Purse, moment: Moment) -> bool {
     matches!(engine.serve(Request::Deliver(moment), runner), Ok(Reply::Delivered(_)))
 }
 
-// Runs what is queued until nothing is, or a run is refused; how many runs were asked.
-fn run_last(engine: &mut Engine, runner: &mut Purse, moment: Moment, most: u32) -> u64 {
-    for asked in 1..=most {
+// Runs what is queued until nothing is, or a run is refused.
+fn run_last(engine: &mut Engine, runner: &mut Purse, moment: Moment, most: u32) {
+    for _ in 0..most {
         if !deliver(engine, runner, moment) {
-            return u64::from(asked);
+            return;
         }
     }
-    u64::from(most)
 }
 
-fn totals(requests: u64, purses: impl Iterator<Item = Purse>) -> Totals {
-    let mut totals = Totals { requests, entries: 0, paid: 0 };
+fn gather(purses: impl Iterator<Item = Purse>) -> Gathered {
+    let mut gathered = Gathered { entries: 0, paid: 0 };
     for purse in purses {
-        totals.entries += purse.entries;
-        totals.paid += purse.paid;
+        gathered.entries += purse.entries;
+        gathered.paid += purse.paid;
     }
-    totals
+    gathered
 }

@@ -12,20 +12,23 @@ use std::io::{Read, Write};
 const LONGEST_LINE: usize = 4096;
 const MOST_LINES: u64 = 1_000_000;
 const BLOCK: usize = 1 << 16;
-const TERMINAL: u32 = 1;
 
-/// Runs the script that the reader gives; the number of its lines.
-pub fn run_script(input: &mut impl Read, output: &mut impl Write, engine: &mut Engine) -> Result<u64, ScriptFault> {
+/// Runs the script that the reader gives, whose requests are those of the purse's terminal.
+pub fn run_script(
+    input: &mut impl Read,
+    output: &mut impl Write,
+    engine: &mut Engine,
+    purse: &mut Purse,
+) -> Result<(), ScriptFault> {
     let mut lines = Lines::of(input);
     let mut out = Vec::with_capacity(2 * BLOCK);
-    let mut purse = Purse::new(TERMINAL);
     let ended = loop {
         match lines.next(|| flush(output, &mut out)) {
             Ok(Some(line)) => match parse_line(line) {
-                Some(call) => answer(call, engine, &mut purse, &mut out),
+                Some(call) => answer(call, engine, purse, &mut out),
                 None => break Err(ScriptFault::Bad(lines.number)),
             },
-            Ok(None) => break Ok(lines.number),
+            Ok(None) => break Ok(()),
             Err(fault) => break Err(fault),
         }
         if out.len() >= BLOCK {
