@@ -439,7 +439,7 @@ by 'no request'                  '"$tpcc" requests --cards 0 > stdout 2> stderr;
 by 'as many requests as cards'   '"$tpcc" requests --seeded --cards 100 2> stderr | wc -l > stdout; echo $? > status' 0 '' '100\n'
 for table in WAREHOUSE DISTRICT CUSTOMER HISTORY ORDER ORDER-LINE NEW-ORDER ITEM STOCK; do
     by "$table of a run of no card"  '"$tpcc" run --seeded --cards 0 --show '"$table"' > stdout 2> told; echo $? > status; : > stderr' \
-        0 '' '@"$tpcc" dump '"$table"' --seeded'
+        0 '' '@timeout "$seconds" "$tpcc" dump '"$table"' --seeded'
 done
 by 'no delivery result'          '"$tpcc" run --cards 0 --show results > stdout 2> told; echo $? > status; : > stderr' 0 '' ''
 by 'a report that is asked for'  '"$tpcc" run --cards 0 --show report > stdout 2> stderr; echo $? > status' 0 '' 'entries 1\npaid 0.00\nrise 0.00\n'
@@ -513,7 +513,7 @@ by 'screens before the next read' conversation 0 '' '@times 1368 "consistent\n"'
 # Runs the program with standard error at a terminal, and standard output there too with a second word; what the terminal
 # showed is left in the file seen.
 at_terminal() {
-    local words="'$tpcc' $1 ${2:-> stdout} < stdin"
+    local words="timeout --foreground $seconds '$tpcc' $1 ${2:-> stdout} < stdin"
     : > stdout
     if script -qec true /dev/null < /dev/null > /dev/null 2>&1; then
         script -qec "$words; echo \$? > status" /dev/null < /dev/null | tr -d '\r' > seen
@@ -603,7 +603,7 @@ for blocks in 1 2 7; do
     payments 40 | head -c $((blocks * 1024)) > first_part
     times 40 'payment 1 1 1 1 1 5000.00 0\n' > stdin
     by "$blocks blocks of screens" "filled $blocks script" 3 'fault 6 Write' '@cat first_part'
-    "$tpcc" dump STOCK 2> /dev/null | head -c $((blocks * 1024)) > first_part
+    timeout "$seconds" "$tpcc" dump STOCK 2> /dev/null | head -c $((blocks * 1024)) > first_part
     by "$blocks blocks of a dump"  "filled $blocks 'dump STOCK'" 3 'fault 1 Write' '@cat first_part'
 done
 
@@ -637,7 +637,7 @@ for size in 4000 20000 60000 140000 400000; do
     for words in 'dump STOCK --items 100000' 'script --customers 3000 --items 100000'; do
         left_out "$words in $size KiB" && continue
         printf "$first" > stdin
-        "$tpcc" $words < stdin > whole
+        timeout "$seconds" "$tpcc" $words < stdin > whole
         within "$size" $words
         cp whole stdout.wanted
         : > stderr.wanted

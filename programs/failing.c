@@ -15,12 +15,15 @@
 //   short-write N      the Nth write to standard output takes one byte
 //   interrupt-write K  standard output is interrupted K times in a row before each write that succeeds
 //
-// A byte goes to file descriptor 9 each time that such a call is reached.
+// A byte goes to file descriptor 9 each time that such a call is reached. Allocations count that the program's own code asks for once it is loaded:
+// none of the loader, and none of the C library, as those that a new thread takes.
 #define _GNU_SOURCE
 #include <dlfcn.h>
 #include <errno.h>
+#include <link.h>
 #include <pthread.h>
 #include <stdatomic.h>
+#include <stdint.h>
 #include <stdlib.h>
 #include <string.h>
 #include <sys/syscall.h>
@@ -40,10 +43,27 @@ static long number;
 static atomic_long count;
 static atomic_long interrupted;
 
+// Where the program's own code and data are.
+static uintptr_t own_start, own_end;
+
+// The program is the first object of all.
+static int find_own(struct dl_phdr_info *object, size_t size, void *none) {
+    (void)size, (void)none;
+    for (int k = 0; k < object->dlpi_phnum; k++) {
+        const ElfW(Phdr) *part = &object->dlpi_phdr[k];
+        uintptr_t start = object->dlpi_addr + part->p_vaddr;
+        if (part->p_type != PT_LOAD) continue;
+        if (!own_end || start < own_start) own_start = start;
+        if (start + part->p_memsz > own_end) own_end = start + part->p_memsz;
+    }
+    return 1;
+}
+
 __attribute__((constructor)) static void begin(void) {
     const char *text = getenv("FAILING");
     const char *space = text ? strchr(text, ' ') : 0;
     if (!space) return;
+    dl_iterate_phdr(find_own, 0);
     for (int k = 1; k <= INTERRUPT_WRITE; k++)
         if (strlen(names[k]) == (size_t)(space - text) && !memcmp(names[k], text, space - text)) {
             number = atol(space + 1);
@@ -76,7 +96,9 @@ static int is_it(enum kind asked) {
     return 1;
 }
 
-static int is_refused(void) {
+// The caller is where the call goes back to.
+static int is_refused(void *caller) {
+    if ((uintptr_t)caller < own_start || (uintptr_t)caller >= own_end) return 0;
     if (kind == COUNT) atomic_fetch_add(&count, 1);
     if (kind == ALLOC) return is_it(ALLOC);
     if (kind != ALLOCS || atomic_fetch_add(&count, 1) + 1 < number) return 0;
@@ -85,27 +107,27 @@ static int is_refused(void) {
 }
 
 void *malloc(size_t size) {
-    if (is_refused()) { errno = ENOMEM; return 0; }
+    if (is_refused(__builtin_return_address(0))) { errno = ENOMEM; return 0; }
     return __libc_malloc(size);
 }
 
 void *calloc(size_t items, size_t size) {
-    if (is_refused()) { errno = ENOMEM; return 0; }
+    if (is_refused(__builtin_return_address(0))) { errno = ENOMEM; return 0; }
     return __libc_calloc(items, size);
 }
 
 void *realloc(void *old, size_t size) {
-    if (is_refused()) { errno = ENOMEM; return 0; }
+    if (is_refused(__builtin_return_address(0))) { errno = ENOMEM; return 0; }
     return __libc_realloc(old, size);
 }
 
 void *aligned_alloc(size_t align, size_t size) {
-    if (is_refused()) { errno = ENOMEM; return 0; }
+    if (is_refused(__builtin_return_address(0))) { errno = ENOMEM; return 0; }
     return __libc_memalign(align, size);
 }
 
 int posix_memalign(void **out, size_t align, size_t size) {
-    if (is_refused()) return ENOMEM;
+    if (is_refused(__builtin_return_address(0))) return ENOMEM;
     *out = __libc_memalign(align, size);
     return *out ? 0 : ENOMEM;
 }

@@ -28,16 +28,16 @@ badly 'interrupted 1,001 times'           'interrupt-read 1001' "$first"        
 badly 'the first byte of a write alone'   'short-write 1'       "$first"            0 ''             "$screen"
 badly 'a write interrupted 1,000 times'   'interrupt-write 1000' "$first"           0 ''             "$screen"
 badly 'a write interrupted 1,001 times'   'interrupt-write 1001' "$first"           3 'fault 6 Write' ''
-badly 'a dump that is interrupted'        'interrupt-write 1'   ''                  0 ''             '@"$tpcc" dump STOCK' 'dump STOCK'
+badly 'a dump that is interrupted'        'interrupt-write 1'   ''                  0 ''             '@timeout "$seconds" "$tpcc" dump STOCK' 'dump STOCK'
 
 # Each read that fails, one in turn; and each read and each write that moves one byte alone. A failed read leaves a first part of the right
 # output, which ends with a whole line; the others leave all of it.
 calls_in_all=0
 in_turn() {
     left_out "in turn: $2" && return
-    local kind call size
+    local kind call size before=$calls_in_all
     told "$1" > stdin
-    "$tpcc" $2 < stdin > whole 2> whole.fault
+    timeout "$seconds" "$tpcc" $2 < stdin > whole 2> whole.fault
     echo $? > whole.status
     for kind in read short-read short-write; do
         for ((call = 1; ; call++)); do
@@ -58,6 +58,7 @@ in_turn() {
             calls_in_all=$((calls_in_all + 1))
         done
     done
+    [ "$calls_in_all" -gt "$before" ] || differs "in turn: $2: no call was reached" status
     run=$((run + 1))
 }
 
@@ -71,7 +72,7 @@ in_turn '' 'run --terminals 2 --servers 2 --cards 0'
 in_blocks() {
     left_out "in blocks: $1" && return
     told "$3" > stdin
-    "$tpcc" $2 < stdin > stdout.wanted 2> stderr.wanted
+    timeout "$seconds" "$tpcc" $2 < stdin > stdout.wanted 2> stderr.wanted
     failing 'count-writes 0' $2
     [ "$(cat hit)" -lt "$4" ] || { echo "$(cat hit) writes, not fewer than $4"; differs "in blocks: $1" 'its writes'; }
     compare "in blocks: $1" 0
@@ -89,8 +90,9 @@ cut_off() {
     left_out "cut off: $1" && return
     local call bytes size
     told "$3" > stdin
-    "$tpcc" $1 < stdin > whole
+    timeout "$seconds" "$tpcc" $1 < stdin > whole
     size=$(stat -c %s whole)
+    [ "$size" -gt 0 ] || differs "cut off: $1: nothing was written" stdout
     for call in full nothing; do
         for ((bytes = 0; bytes < size; bytes += $([ $call = full ] && echo 1 || echo 7))); do
             failing "$call $bytes" $1

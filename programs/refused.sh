@@ -26,14 +26,14 @@ allow_script() {
     : > first_part
     allow 4 'fault 2 NoMemory' first_part
     for ((k = 0; k <= lines; k++)); do
-        head -n "$k" "$1" | "$tpcc" $words > screens.$k 2> /dev/null
+        head -n "$k" "$1" | timeout "$seconds" "$tpcc" $words > screens.$k 2> /dev/null
         allow 4 'fault 7 NoMemory' screens.$k
     done
-    "$tpcc" $words < "$1" > screens
+    timeout "$seconds" "$tpcc" $words < "$1" > screens
     allow 0 '' screens
     for ((k = 1; k <= lines; k++)); do
         case "$(sed -n "${k}p" "$1")" in check | results) continue ;; esac
-        sed "${k}d" "$1" | "$tpcc" $words > others
+        sed "${k}d" "$1" | timeout "$seconds" "$tpcc" $words > others
         before=$(stat -c %s screens.$((k - 1)))
         { cat screens.$((k - 1)); echo 'refused 16 NoMemory'; tail -c +$((before + 1)) others; } > refused
         allow 0 '' refused
@@ -48,6 +48,11 @@ allocations() {
     : > stdin
     failing 'count 0' $1
     cat hit
+}
+
+# A case under which nothing was refused shows nothing.
+was_refused() {
+    [ "$2" -gt 0 ] || differs "$1: nothing was refused" status
 }
 
 # Every so-manieth allocation of a script refused in turn, from one on.
@@ -66,6 +71,7 @@ refuse_script() {
         fi
         refused_in_all=$((refused_in_all + 1))
     done
+    was_refused "refused memory: $name" $((call - from))
     run=$((run + 1))
 }
 
@@ -84,7 +90,7 @@ refuse_dump() {
     left_out "refused memory: $1" && return
     local call
     : > stdin
-    "$tpcc" $1 > whole
+    timeout "$seconds" "$tpcc" $1 > whole
     for ((call = 1; ; call += ${2:-${STEP:-97}})); do
         failing "alloc $call" $1
         [ -s hit ] || break
@@ -98,6 +104,7 @@ refuse_dump() {
         run=$((run - 1))
         refused_in_all=$((refused_in_all + 1))
     done
+    was_refused "refused memory: $1" $((call - 1))
     run=$((run + 1))
 }
 
@@ -118,6 +125,7 @@ refuse_run() {
         run=$((run - 1))
         refused_in_all=$((refused_in_all + 1))
     done
+    was_refused "alloc refused: $1" $((call - 1))
     run=$((run + 1))
 }
 

@@ -5,7 +5,8 @@
 # and shows.sh; refused.sh; failures.sh. Each case compares standard output and standard error byte for byte, and the exit status. A part stops at the
 # first case that differs, and says where its files are; else the last line counts the cases.
 #
-# TPCC is the program (crates/tpcc/out/tpcc). Words after the command's name pick the cases whose names have one of them.
+# TPCC is the program (crates/tpcc/out/tpcc). Words after the command's name pick the cases whose names have one of them; a word that is in no name
+# fails. A case ends, and differs, where its program takes longer than SECONDS_OF_A_CASE (100).
 set -u -o pipefail
 top=$(cd "$(dirname "$0")/.." && pwd)
 tpcc=$(realpath "${TPCC:-$top/crates/tpcc/out/tpcc}")
@@ -16,6 +17,9 @@ scratch=$(mktemp -d)
 trap 'rm -rf "$scratch"' EXIT
 trap 'exit 1' INT TERM
 run=0
+# a file for each word that was in the name of a case
+matched=$scratch/matched
+mkdir "$matched"
 
 # ---- what cases are written with
 
@@ -27,9 +31,11 @@ times() {
 # Whether the words on the command line leave this case out.
 left_out() {
     [ ${#picked[@]} -eq 0 ] && return 1
-    local word
-    for word in "${picked[@]}"; do case "$1" in *"$word"*) return 1 ;; esac; done
-    return 0
+    local place left=0
+    for place in "${!picked[@]}"; do
+        case "$1" in *"${picked[$place]}"*) : > "$matched/$place"; left=1 ;; esac
+    done
+    return $left
 }
 
 # Writes what a column says: a text as printf reads it; after @ the output of a command; after = the stored screens of a script.
@@ -69,20 +75,23 @@ it() {
 }
 
 # One case whose program is called by a command line of the shell, as where its input or output fails. Its standard
-# output is what the command leaves in the file stdout.
+# output is what the command leaves in the file stdout. The command is run by a shell of its own, which ends in time with all
+# that it began; it has these functions, and the variables that are exported.
 by() {
     left_out "$1" && return
     told "$5" > stdout.wanted
     [ -z "$4" ] && : > stderr.wanted || echo "$4" > stderr.wanted
     : > stdout
     : > stderr
-    eval "$2"
+    echo "none within $seconds seconds" > status
+    timeout "$seconds" bash -u -o pipefail -c "$(declare -f); $2"
     compare "$1" "$3"
 }
 
 # A script of one line, with its screen.
 first='payment 1 1 1 1 1 1.00 0\n'
 screen='=examples/first_payment'
+export tpcc top seconds scratch first
 
 # One of these faults, with status 4.
 is_refused() {
@@ -160,6 +169,9 @@ failed=0
 for part in $parts; do
     cat "$scratch/$part.said"
     if [ -f "$scratch/$part/passed" ]; then run=$((run + $(cat "$scratch/$part/passed"))); else failed=$((failed + 1)); fi
+done
+for place in "${!picked[@]}"; do
+    [ $failed -gt 0 ] || [ -e "$matched/$place" ] || { echo "programs: no case has '${picked[$place]}' in its name"; exit 1; }
 done
 [ $failed -eq 0 ] || trap - EXIT
 echo "programs: $run passed, $failed failed, in $((SECONDS - begun)) seconds"
