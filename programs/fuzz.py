@@ -26,6 +26,8 @@ SECONDS = 60
 
 TABLES = ["WAREHOUSE", "DISTRICT", "CUSTOMER", "HISTORY", "ORDER", "ORDER-LINE", "NEW-ORDER", "ITEM", "STOCK"]
 PARTS = ["screens", "report", "journal", "results", "check"] + TABLES
+# a script has none
+RUN_PARTS = PARTS + ["receipts"]
 # An option's values that cost little, and its limits.
 NUMBERS = {
     "warehouses": ([1, 1, 2, 3], 1, 100),
@@ -48,7 +50,7 @@ OPTIONS = {
 }
 FLAGS = ["seeded", "time", "direct"]
 ODD_WORDS = ["", "-", "--", "-x", "-h", "-V", "--help", "--version", "help", "--unknown", "---seed", "--seed", "--Seed", "1", "0", "script", "run", "dump",
-             "requests", "dumps", "Script", "ITEM", "item", "ORDER_LINE", "journal", "--show", "--seeded=true", "--seeded=", "=", "--=", "\udcff", "ä", " ", "ITEM "]
+             "requests", "receipts", "dumps", "Script", "ITEM", "item", "ORDER_LINE", "journal", "--show", "--seeded=true", "--seeded=", "=", "--=", "\udcff", "ä", " ", "ITEM "]
 # Requests, each word a field, and the least and the greatest of a field's numbers; the greatest warehouse, customer and item are of the opening.
 REQUESTS = ["new-order W D C M I:W:Q I:W:Q I:W:Q I:W:Q I:W:Q", "payment W D W D C A M", "status W D C", "stock W D T", "delivery W Q M", "deliver M"]
 FIELDS = {"W": (1, 1), "D": (1, 10), "C": (1, 10), "M": (0, 4102444799), "I": (1, 100), "Q": (1, 10), "T": (10, 20)}
@@ -200,11 +202,11 @@ class Author(random.Random):
             options[name] = self.choice([least - 1, least, most, most, most + 1, most + 1, self.choice(odd)])
         return options
 
-    def words_of(self, options):
+    def words_of(self, command, options):
         words = []
         for name, value in options.items():
             if name == "show":
-                for part in self.choices(PARTS, k=self.choice([1, 1, 2, 4, 16])):
+                for part in self.choices(RUN_PARTS if command == "run" or self.once_in(20) else PARTS, k=self.choice([1, 1, 2, 4, 16])):
                     words += [f"--show={part}"] if self.once_in(4) else ["--show", part]
             elif value is None:
                 words.append(f"--{name}")
@@ -232,9 +234,9 @@ class Author(random.Random):
         """The words and the script."""
         if self.randrange(100) < 65:
             options = self.options("script", True)
-            return ["script", *self.words_of(options)], self.script(options)
+            return ["script", *self.words_of("script", options)], self.script(options)
         command = self.choice(list(OPTIONS))
-        words = self.words_of(self.options(command, self.once_in(2)))
+        words = self.words_of(command, self.options(command, self.once_in(2)))
         if command == "dump":
             words.insert(self.choice([0, len(words)]), self.choice(TABLES))
         words.insert(0, command)

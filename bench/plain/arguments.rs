@@ -72,6 +72,9 @@ pub fn read(words: impl Iterator<Item = String>) -> Result<Arguments, Fault> {
         Command::Script | Command::Run => given.parts()?,
         _ => Vec::new(),
     };
+    if matches!(command, Command::Script) && parts.contains(&Part::Receipts) {
+        return Err(Fault::Arguments);
+    }
     let warehouses = given.number("warehouses", 1, 0..=u64::from(u32::MAX))? as u32;
     let customers = given.number("customers", 10, 0..=u64::from(u32::MAX))? as u32;
     let items = given.number("items", 100, 0..=u64::from(u32::MAX))? as u32;
@@ -156,7 +159,9 @@ impl Words {
         let Some(value) = self.take(name) else {
             return Ok(default);
         };
-        let number = u64::from_str(&value).map_err(|_| Fault::Arguments)?;
+        // As in a script, with neither a sign nor a needless leading zero.
+        let is_plain = value == "0" || value.starts_with(|first: char| ('1'..='9').contains(&first));
+        let number = u64::from_str(&value).ok().filter(|_| is_plain).ok_or(Fault::Arguments)?;
         if range.contains(&number) {
             Ok(number)
         } else {

@@ -3,6 +3,7 @@
 use crate::check::check;
 use crate::dump::{dump, Table};
 use crate::engine::Engine;
+use crate::journal::Entry;
 use crate::lines::put_line;
 use crate::money::Cents;
 use crate::screens::{put_check, put_report, put_result, put_screen};
@@ -13,6 +14,8 @@ pub enum Part {
     Screens,
     Report,
     Journal,
+    /// Of a run alone.
+    Receipts,
     Results,
     Check,
     Table(Table),
@@ -41,6 +44,7 @@ impl Part {
             "screens" => Part::Screens,
             "report" => Part::Report,
             "journal" => Part::Journal,
+            "receipts" => Part::Receipts,
             "results" => Part::Results,
             "check" => Part::Check,
             _ => Part::Table(Table::of(name)?),
@@ -52,6 +56,7 @@ impl Part {
             Part::Screens => "screens",
             Part::Report => "report",
             Part::Journal => "journal",
+            Part::Receipts => "receipts",
             Part::Results => "results",
             Part::Check => "check",
             Part::Table(table) => table.name(),
@@ -78,8 +83,20 @@ fn put_part(out: &mut Vec<u8>, ended: &Ended, part: Part) {
         }
         (Part::Report, _) => put_report(out, totals.entries, totals.paid, totals.rise),
         (Part::Journal, _) => engine.journal.entries().iter().for_each(|entry| put_line(out, &entry.request)),
+        (Part::Receipts, _) => put_receipts(out, engine.journal.entries()),
         (Part::Results, _) => engine.journal.results().for_each(|ten| put_result(out, &ten)),
         (Part::Check, _) => put_check(out, check(&engine.tables)),
         (Part::Table(table), _) => dump(&engine.tables, table, out).expect("a vector takes all bytes"),
+    }
+}
+
+// The entries by terminal, each with its number among the terminal's and its place in the journal.
+fn put_receipts(out: &mut Vec<u8>, entries: &[Entry]) {
+    let mut receipts: Vec<(usize, &Entry)> = entries.iter().enumerate().collect();
+    receipts.sort_by_key(|(_, entry)| (entry.terminal, entry.number));
+    out.extend_from_slice(b"terminal,number,place,request\n");
+    for (place, Entry { terminal, number, request, .. }) in receipts {
+        out.extend_from_slice(format!("{terminal},{number},{place},").as_bytes());
+        put_line(out, request);
     }
 }
