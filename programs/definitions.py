@@ -22,7 +22,7 @@ from pathlib import Path
 sys.dont_write_bytecode = True
 from sources import HEAD, ROOT, Sources  # noqa: E402
 
-HEADLINE = """tpcc_run run, tpcc_run run_shown, tpcc_script run_script, tpcc_script show_script, tpcc_program put_requests, tpcc_show dump_to,
+HEADLINE = """tpcc_program perform, tpcc_run run, tpcc_run run_shown, tpcc_script run_script, tpcc_script show_script, tpcc_program put_requests, tpcc_show dump_to,
     tpcc_book Book::serve, tpcc_book Book::serve_by, tpcc_book Book::audit, tpcc_book Book::gather, tpcc_book Register::turn,
     tpcc_turns Turns::serve, tpcc_turns Turns::serve_by, tpcc_turns Turns::gather, tpcc_turns Turns::serve_held,
     tpcc_server ask, tpcc_server serve_until_closed, tpcc_audit settle"""
