@@ -162,7 +162,7 @@ impl<
             result.purses.items result.receipts.items }
     {
         let count = self.plan.terminals as usize + 1;
-        let Ok(routes) = by_turns::<N, T, C>(self.alloc, count) else {
+        let Ok(routes) = by_turns::<N, T, C>(self.alloc, self.turns, count) else {
             return ThreadResults::without_memory(self.alloc);
         };
         thread::scope(

@@ -7,7 +7,7 @@ use std::alloc::{AllocError, Global};
 use tpcc_book::Naming;
 use tpcc_rows::recall;
 use tpcc_server::{JobIdle, JobMailboxes};
-use tpcc_turns::Seating;
+use tpcc_turns::{Seating, Turns};
 
 /// The routes by all mailboxes.
 pub(crate) fn by_mailboxes<'s, N: Naming, T: Seating, C>(
@@ -54,11 +54,14 @@ fn next_idle<N: Naming, T: Seating, C>(
     idles.pop()
 }
 
-/// Routes by turns of their own.
+/// Routes by turns of their own. They live as long as the turns, which are lent for that alone.
 pub(crate) fn by_turns<'s, N: Naming, T: Seating, C>(
     alloc: Global,
+    turns: &'s Turns<N, T>,
     count: usize,
 ) -> Result<Vec<Route<'s, N, T, C>>, AllocError> {
+    // For the borrow checker: the routes' lifetime is that of the turns.
+    recall!(turns);
     let mut routes = Vec::new(alloc);
     for _ in 0..count {
         routes.push(Route::ByTurn)?;
