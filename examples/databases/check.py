@@ -1,5 +1,5 @@
 #!/usr/bin/env python3
-"""Checks a database: clients ask it at the same time, and the program asks itself the same in serial order.
+"""Checks a database: clients ask it at the same time, and the program is asked the same in serial order.
 
 It ends with EQUAL and status 0, or with DIFFERENT and status 1.
 """
@@ -17,7 +17,7 @@ import time
 
 import computing
 import naive
-from compare import compare, parts_of
+from compare import compare
 from profiles import Undone, perform
 from tables import TABLES, columns_of, written
 
@@ -34,15 +34,16 @@ def options():
     asked.add_argument("--tpcc", required=True, help="the program")
     asked.add_argument("--clients", type=int, default=8, help="beside the one that delivers")
     asked.add_argument("--cards", type=int, default=250, help="requests of each client")
-    asked.add_argument("--isolation", help="immediate or deferred; serializable, repeatable read or read committed")
-    asked.add_argument("--naive", action="store_true", help="rows read, then written back")
+    asked.add_argument("--isolation", help="immediate or deferred of SQLite; of PostgreSQL"
+                       " serializable, repeatable read or read committed")
+    asked.add_argument("--naive", action="store_true", help="rows are read, then written back")
     asked.add_argument("--dsn", help="of a PostgreSQL server, in place of a private one")
     asked.add_argument("--seed", default="1")
     asked.add_argument("--warehouses", default="2")
     asked.add_argument("--customers", default="1500")
     asked.add_argument("--items", default="200")
-    asked.add_argument("--keep", metavar="FOLDER", help="where all that was sent and got is written")
-    asked.add_argument("--again", metavar="FOLDER", help="compares what --keep wrote, without the database")
+    asked.add_argument("--keep", metavar="FOLDER", help="gets all that was sent and answered")
+    asked.add_argument("--again", metavar="FOLDER", help="compare this, without the database")
     return asked.parse_args()
 
 
@@ -123,8 +124,16 @@ class Run:
         return time.monotonic() - began
 
 
-def told(tpcc, *words, script=""):
-    return subprocess.run([tpcc, *words], input=script, text=True, stdout=subprocess.PIPE, check=True).stdout
+def told(tpcc, *words):
+    """What the program writes."""
+    ran = subprocess.run([tpcc, *words], input="", text=True, stdout=subprocess.PIPE, check=True)
+    return ran.stdout
+
+
+def requests(asked, opening, terminal):
+    """What a client asks: each has its own moment, so that a wrong one is seen."""
+    words = ["--terminal", terminal, "--cards", str(asked.cards), "--moment", terminal]
+    return told(asked.tpcc, "requests", *opening, *words).splitlines()
 
 
 def broken_conditions(session):
@@ -145,17 +154,16 @@ def tables_of(session, dumps):
     found = {}
     for name, (table, key) in TABLES.items():
         columns = columns_of(dumps[name])
-        found[name] = written(columns, session.rows(f"SELECT {', '.join(columns)} FROM {table} ORDER BY {key}"))
+        rows = session.rows(f"SELECT {', '.join(columns)} FROM {table} ORDER BY {key}")
+        found[name] = written(columns, rows)
     return found
 
 
 def check(asked, opening, scratch):
     """Loads an opening, lets the clients ask, and gives all that is to be compared."""
     module = importlib.import_module(asked.database)
-    shows = [word for name in TABLES for word in ("--show", name)]
-    dumps = parts_of(told(asked.tpcc, "script", *opening, *shows))
-    scripts = [told(asked.tpcc, "requests", "--terminal", str(it), "--cards", str(asked.cards), *opening,
-                    "--moment", str(it)).splitlines() for it in range(1, asked.clients + 1)]
+    dumps = {name: told(asked.tpcc, "dump", name, *opening) for name in TABLES}
+    scripts = [requests(asked, opening, str(it)) for it in range(1, asked.clients + 1)]
     database = module.Database(scratch, asked, naive if asked.naive else computing)
     try:
         with open(os.path.join(HERE, "schema.sql"), encoding="utf-8") as it:

@@ -48,8 +48,9 @@ def compare(tpcc, opening, transcript, tables):
     ran = subprocess.run([tpcc, "script", *opening, *shows], input=script, text=True,
                          stdout=subprocess.PIPE, check=True)
     parts = parts_of(ran.stdout)
+    screens = screens_of(parts["screens"])
     differences = []
-    for place, ((request, found), expected) in enumerate(zip(transcript, screens_of(parts["screens"])), 1):
+    for place, ((request, found), expected) in enumerate(zip(transcript, screens), 1):
         if found != expected:
             differences.append((f"request {place}", request, *first_difference(expected, found)))
     for name in TABLES:

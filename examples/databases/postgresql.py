@@ -10,6 +10,7 @@ import os
 import pwd
 import shutil
 import subprocess
+import sys
 
 import psycopg2
 from psycopg2 import errors
@@ -57,12 +58,19 @@ class Session:
         return number, transaction, self.row("SELECT pg_current_snapshot()::text")[0]
 
 
+def is_in(snapshot, transaction):
+    """Whether a snapshot, `first:end:running`, has what that transaction wrote."""
+    _, end, running = snapshot.split(":")
+    return int(transaction) < int(end) and transaction not in running.split(",")
+
+
 class Server:
     """A private server on a socket in a folder; of root's as another user, which PostgreSQL wants."""
 
     def __init__(self, folder):
-        programs = glob.glob("/usr/lib/postgresql/*/bin") + [os.path.dirname(shutil.which("initdb") or "")]
-        self.folder, self.programs, self.user = os.path.join(folder, "server"), programs[0], []
+        installed = glob.glob("/usr/lib/postgresql/*/bin/initdb") + [shutil.which("initdb")]
+        self.programs = os.path.dirname(installed[0] or sys.exit("there is no initdb of PostgreSQL"))
+        self.folder, self.user = os.path.join(folder, "server"), []
         os.mkdir(self.folder)
         if os.geteuid() == 0:
             users = {it.pw_name for it in pwd.getpwall()}
@@ -72,7 +80,8 @@ class Server:
             self.user = ["runuser", "-u", name, "--"]
         self.data = os.path.join(self.folder, "data")
         self.run("initdb", "-A", "trust", "-U", "tpcc", "-E", "UTF8", "--locale=C", "--no-sync")
-        self.run("pg_ctl", "-w", "-l", f"{self.folder}/log", "-o", f"-k {self.folder} {SETTINGS}", "start")
+        settings = f"-k {self.folder} {SETTINGS}"
+        self.run("pg_ctl", "-w", "-l", f"{self.folder}/log", "-o", settings, "start")
         self.dsn = f"host={self.folder} user=tpcc dbname=postgres"
 
     def run(self, program, *words):
@@ -117,11 +126,7 @@ class Database:
         def key(it):
             number, _, snapshot = it["place"]
             if not it["writes"]:
-                _, end, running = snapshot.split(":")
-                unseen = set(running.split(","))
-                number = max((place for transaction, place in numbers.items()
-                              if transaction < int(end) and str(transaction) not in unseen), default=0)
-            return number, not it["writes"], it["ended"]
+    XX number, not it["writes"], it["ended"]
 
         return sorted(answers, key=key)
 

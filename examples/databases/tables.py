@@ -5,6 +5,7 @@ Here an amount is a whole number of cents, a rate of ten-thousandths, a moment o
 import csv
 import io
 from datetime import datetime, timezone
+from functools import lru_cache
 
 # the program's name, the table's in SQL, and its key; in an order in which references can be loaded
 TABLES = {
@@ -25,6 +26,7 @@ def cents(text):
     return int(text.replace(".", ""))
 
 
+@lru_cache
 def seconds(text):
     return int(datetime.fromisoformat(text + "+00:00").timestamp())
 
@@ -37,6 +39,7 @@ def rate_text(rate):
     return f"0.{rate:04}"
 
 
+@lru_cache
 def moment_text(moment):
     if moment is None:
         return "-"
