@@ -1,5 +1,5 @@
 #!/usr/bin/env python3
-"""Checks a database: clients ask it at the same time, and the program is asked the same in serial order.
+"""Checks a database: many clients ask it, and the program is asked the same in serial order.
 
 It ends with EQUAL and status 0, or with DIFFERENT and status 1.
 """
@@ -162,6 +162,8 @@ def tables_of(session, dumps):
 def check(asked, opening, scratch):
     """Loads an opening, lets the clients ask, and gives all that is to be compared."""
     module = importlib.import_module(asked.database)
+    if asked.isolation not in (None, *module.LEVELS):
+        sys.exit(f"the levels of {asked.database} are {', '.join(module.LEVELS)}")
     dumps = {name: told(asked.tpcc, "dump", name, *opening) for name in TABLES}
     scripts = [requests(asked, opening, str(it)) for it in range(1, asked.clients + 1)]
     database = module.Database(scratch, asked, naive if asked.naive else computing)
@@ -177,6 +179,25 @@ def check(asked, opening, scratch):
                 "tables": tables_of(session, dumps)}
     finally:
         database.stop()
+
+
+def keep(folder, run):
+    """Writes the run's answers in serial order, and each table as the database had it."""
+    os.makedirs(folder, exist_ok=True)
+    files = {f"{name}.csv": text for name, text in run["tables"].items()}
+    files["run.json"] = json.dumps({**run, "tables": None}, indent=1)
+    for name, text in files.items():
+        with open(os.path.join(folder, name), "w", encoding="utf-8") as it:
+            it.write(text)
+
+
+def kept(folder):
+    texts = {}
+    for name in ("run.json", *(f"{table}.csv" for table in TABLES)):
+        with open(os.path.join(folder, name), encoding="utf-8") as it:
+            texts[name] = it.read()
+    run = json.loads(texts["run.json"])
+    return {**run, "tables": {name: texts[f"{name}.csv"] for name in TABLES}}
 
 
 def report(tpcc, run):
@@ -206,14 +227,11 @@ def main():
     opening = ["--seeded", "--seed", asked.seed, "--warehouses", asked.warehouses,
                "--customers", asked.customers, "--items", asked.items]
     if asked.again:
-        with open(os.path.join(asked.again, "run.json"), encoding="utf-8") as it:
-            return report(asked.tpcc, json.load(it))
+        return report(asked.tpcc, kept(asked.again))
     with tempfile.TemporaryDirectory(prefix="tpcc-check-") as scratch:
         run = check(asked, opening, scratch)
     if asked.keep:
-        os.makedirs(asked.keep, exist_ok=True)
-        with open(os.path.join(asked.keep, "run.json"), "w", encoding="utf-8") as it:
-            json.dump(run, it, indent=1)
+        keep(asked.keep, run)
     return report(asked.tpcc, run)
 
 

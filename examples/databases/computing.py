@@ -7,12 +7,12 @@ So no change is lost even at READ COMMITTED; naive.py has the same seven otherwi
 def next_order(db, w, d):
     """2.4.2.2: D_NEXT_O_ID as it was, and D_TAX; it rises by one."""
     return db.row(
-        "UPDATE DISTRICT SET D_NEXT_O_ID = D_NEXT_O_ID + 1 WHERE D_W_ID = ? AND D_ID = ?"
-        " RETURNING D_NEXT_O_ID - 1, D_TAX", w, d)
+        "UPDATE DISTRICT SET D_NEXT_O_ID = D_NEXT_O_ID + 1"
+        " WHERE D_W_ID = ? AND D_ID = ? RETURNING D_NEXT_O_ID - 1, D_TAX", w, d)
 
 
 def take_stock(db, supply, item, quantity, remote):
-    """2.4.2.2: S_QUANTITY falls by the quantity, and rises by 91 where less than 10 would be left."""
+    """2.4.2.2: S_QUANTITY falls by the quantity, and 91 are added where under 10 are left."""
     return db.row(
         "UPDATE STOCK SET S_QUANTITY = S_QUANTITY - ?"
         " + CASE WHEN S_QUANTITY >= ? + 10 THEN 0 ELSE 91 END,"

@@ -1,13 +1,14 @@
--- The consistency conditions 1 to 10 and 12 of clause 3.3.2 (11 is of an opening alone). Each query gives the keys of the
--- rows that break the condition named above it, and no row where it holds.
+-- The consistency conditions 1 to 10 and 12 of clause 3.3.2 (11 is of an opening alone). Each
+-- query gives the keys of the rows that break the condition above it, and no row where it holds.
 
 -- condition 1 (3.3.2.1): W_YTD is the sum of D_YTD
 SELECT W_ID FROM WAREHOUSE
 WHERE W_YTD <> (SELECT SUM(D_YTD) FROM DISTRICT WHERE D_W_ID = W_ID);
 
--- condition 2 (3.3.2.2): D_NEXT_O_ID - 1 is the largest O_ID, and the largest NO_O_ID where there is one
+-- condition 2 (3.3.2.2): D_NEXT_O_ID - 1 is the largest O_ID, and the largest NO_O_ID if any
 SELECT D_W_ID, D_ID FROM DISTRICT
-WHERE D_NEXT_O_ID - 1 <> (SELECT COALESCE(MAX(O_ID), 0) FROM ORDERS WHERE O_W_ID = D_W_ID AND O_D_ID = D_ID)
+WHERE D_NEXT_O_ID - 1 <> (SELECT COALESCE(MAX(O_ID), 0) FROM ORDERS
+                          WHERE O_W_ID = D_W_ID AND O_D_ID = D_ID)
    OR D_NEXT_O_ID - 1 <> (SELECT COALESCE(MAX(NO_O_ID), D_NEXT_O_ID - 1) FROM NEW_ORDER
                           WHERE NO_W_ID = D_W_ID AND NO_D_ID = D_ID);
 
@@ -22,12 +23,13 @@ WHERE (SELECT COALESCE(SUM(O_OL_CNT), 0) FROM ORDERS WHERE O_W_ID = D_W_ID AND O
 
 -- condition 5 (3.3.2.5): O_CARRIER_ID is null exactly if there is a NEW-ORDER row
 SELECT O_W_ID, O_D_ID, O_ID FROM ORDERS
-WHERE (O_CARRIER_ID IS NULL) <> EXISTS (SELECT 1 FROM NEW_ORDER
-                                        WHERE NO_W_ID = O_W_ID AND NO_D_ID = O_D_ID AND NO_O_ID = O_ID);
+WHERE (O_CARRIER_ID IS NULL) <> EXISTS (
+    SELECT 1 FROM NEW_ORDER WHERE NO_W_ID = O_W_ID AND NO_D_ID = O_D_ID AND NO_O_ID = O_ID);
 
 -- condition 6 (3.3.2.6): O_OL_CNT is the number of the order's lines
 SELECT O_W_ID, O_D_ID, O_ID FROM ORDERS
-WHERE O_OL_CNT <> (SELECT COUNT(*) FROM ORDER_LINE WHERE OL_W_ID = O_W_ID AND OL_D_ID = O_D_ID AND OL_O_ID = O_ID);
+WHERE O_OL_CNT <> (SELECT COUNT(*) FROM ORDER_LINE
+                   WHERE OL_W_ID = O_W_ID AND OL_D_ID = O_D_ID AND OL_O_ID = O_ID);
 
 -- condition 7 (3.3.2.7): OL_DELIVERY_D is null exactly if O_CARRIER_ID is
 SELECT OL_W_ID, OL_D_ID, OL_O_ID, OL_NUMBER FROM ORDER_LINE
@@ -40,7 +42,8 @@ WHERE W_YTD <> (SELECT COALESCE(SUM(H_AMOUNT), 0) FROM HISTORY WHERE H_W_ID = W_
 
 -- condition 9 (3.3.2.9): D_YTD is the sum of H_AMOUNT
 SELECT D_W_ID, D_ID FROM DISTRICT
-WHERE D_YTD <> (SELECT COALESCE(SUM(H_AMOUNT), 0) FROM HISTORY WHERE H_W_ID = D_W_ID AND H_D_ID = D_ID);
+WHERE D_YTD <> (SELECT COALESCE(SUM(H_AMOUNT), 0) FROM HISTORY
+                WHERE H_W_ID = D_W_ID AND H_D_ID = D_ID);
 
 -- condition 10 (3.3.2.10): C_BALANCE is what was delivered less what was paid
 WITH DELIVERED AS (

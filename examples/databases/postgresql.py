@@ -49,7 +49,7 @@ class Session:
         self.connection.rollback()
 
     def place(self, writes):
-        """Of a writer its number and transaction; of each the snapshot, the last at read committed."""
+        """Of a writer its number and transaction; of each its snapshot, or its last one."""
         number, transaction = None, None
         if writes:
             self.rows("SELECT pg_advisory_xact_lock(1)")
@@ -65,11 +65,11 @@ def is_in(snapshot, transaction):
 
 
 class Server:
-    """A private server on a socket in a folder; of root's as another user, which PostgreSQL wants."""
+    """A private server on a socket in a folder; where root asks it runs as another user."""
 
     def __init__(self, folder):
         installed = glob.glob("/usr/lib/postgresql/*/bin/initdb") + [shutil.which("initdb")]
-        self.programs = os.path.dirname(installed[0] or sys.exit("there is no initdb of PostgreSQL"))
+        self.programs = os.path.dirname(installed[0] or sys.exit("there is no PostgreSQL here"))
         self.folder, self.user = os.path.join(folder, "server"), []
         os.mkdir(self.folder)
         if os.geteuid() == 0:
@@ -97,8 +97,6 @@ class Database:
 
     def __init__(self, folder, options, changes):
         self.level = "read committed" if options.naive else options.isolation or "serializable"
-        if self.level not in LEVELS:
-            raise KeyError(self.level)
         self.changes = changes
         self.server = None if options.dsn else Server(folder)
         self.dsn = options.dsn or self.server.dsn
@@ -121,12 +119,13 @@ class Database:
 
     def in_order(self, answers):
         """Writers by their numbers; all else behind the last writer that its snapshot has."""
-        numbers = {int(it["place"][1]): it["place"][0] for it in answers if it["writes"]}
+        writers = [it["place"][:2] for it in answers if it["writes"]]
 
         def key(it):
             number, _, snapshot = it["place"]
             if not it["writes"]:
-    XX number, not it["writes"], it["ended"]
+                number = max((place for place, name in writers if is_in(snapshot, name)), default=0)
+            return number, not it["writes"], it["ended"]
 
         return sorted(answers, key=key)
 

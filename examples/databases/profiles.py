@@ -1,8 +1,8 @@
-"""The five profiles of TPC-C in SQL, and what runs a queued delivery, each with the screen it answers.
+"""The five profiles of TPC-C in SQL, and what runs a queued delivery; each gives its screen.
 
 `db` is a session of sqlite.py or postgresql.py: `db.rows` performs a statement and gives its rows,
-`db.row` the first of them or None. `db.changes` is computing.py or naive.py. A profile neither begins
-nor commits; one that must be undone raises Undone with its screen.
+`db.row` the first of them or None. `db.changes` is computing.py or naive.py. A profile neither
+begins nor commits; one that must be undone raises Undone with its screen.
 """
 from tables import amount_text, cents, moment_text, rate_text
 
@@ -39,7 +39,8 @@ def find_customer(db, w, d, who):
     """2.5.2.2, 2.6.2.2: C_ID of a number or, of the customers of a name, of the middle one."""
     if who.isdigit():
         named = db.rows(
-            "SELECT C_ID FROM CUSTOMER WHERE C_W_ID = ? AND C_D_ID = ? AND C_ID = ?", w, d, int(who))
+            "SELECT C_ID FROM CUSTOMER WHERE C_W_ID = ? AND C_D_ID = ? AND C_ID = ?",
+            w, d, int(who))
     else:
         named = db.rows(
             "SELECT C_ID FROM CUSTOMER WHERE C_W_ID = ? AND C_D_ID = ? AND C_LAST = ?"
@@ -213,7 +214,7 @@ def deliver(db, moment):
 
 
 def deliver_order(db, w, d, number, carrier, moment):
-    """2.7.4.2: the order is no longer new, has its carrier and moment, and its customer is charged."""
+    """2.7.4.2: the order is new no longer, gets carrier and moment; its customer is charged."""
     db.rows("DELETE FROM NEW_ORDER WHERE NO_W_ID = ? AND NO_D_ID = ? AND NO_O_ID = ?", w, d, number)
     (c,) = db.row(
         "UPDATE ORDERS SET O_CARRIER_ID = ? WHERE O_W_ID = ? AND O_D_ID = ? AND O_ID = ?"

@@ -1,4 +1,4 @@
-"""SQLite: clients of one file. One writes at a time, so a row counts the writers in serial order."""
+"""SQLite: clients of one file. One writes at a time: a row counts the writers in serial order."""
 import os
 import sqlite3
 

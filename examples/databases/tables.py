@@ -1,6 +1,6 @@
 """The nine tables as the program writes them, and as the databases keep them.
 
-Here an amount is a whole number of cents, a rate of ten-thousandths, a moment of seconds since 1970.
+Here an amount is a whole number of cents, a rate of ten-thousandths, a moment of seconds.
 """
 import csv
 import io
@@ -49,7 +49,7 @@ def moment_text(moment):
 AMOUNT = (cents, amount_text)
 RATE = (cents, rate_text)
 MOMENT = (seconds, moment_text)
-# the columns that a table keeps otherwise than as their text: how each is read, and how it is written
+# the columns that are kept otherwise than as their text: how each is read, and how written
 KINDS = {
     "W_YTD": AMOUNT, "D_YTD": AMOUNT, "C_CREDIT_LIM": AMOUNT, "C_BALANCE": AMOUNT,
     "C_YTD_PAYMENT": AMOUNT, "H_AMOUNT": AMOUNT, "OL_AMOUNT": AMOUNT, "I_PRICE": AMOUNT,
