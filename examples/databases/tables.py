@@ -62,20 +62,30 @@ def columns_of(text):
     return text.partition("\n")[0].split(",")
 
 
+def kinds_of(columns):
+    return [(place, *KINDS[column]) for place, column in enumerate(columns) if column in KINDS]
+
+
 def read(text):
     """The rows of a table's CSV; an empty field is null."""
-    readers = [KINDS.get(column, (str, str))[0] for column in columns_of(text)]
+    kinds = kinds_of(columns_of(text))
     records = csv.reader(io.StringIO(text))
     next(records)
-    return [[reads(it) if it else None for reads, it in zip(readers, record)] for record in records]
+    for record in records:
+        for place, reads, _ in kinds:
+            record[place] = reads(record[place]) if record[place] else None
+        yield [None if it == "" else it for it in record]
 
 
 def written(columns, rows):
     """The CSV of a table's rows, as `tpcc dump` writes it."""
-    writers = [KINDS.get(column, (str, str))[1] for column in columns]
+    kinds = kinds_of(columns)
     out = io.StringIO()
     records = csv.writer(out, lineterminator="\n")
     records.writerow(columns)
     for row in rows:
-        records.writerow(["" if it is None else writes(it) for writes, it in zip(writers, row)])
+        row = list(row)
+        for place, _, writes in kinds:
+            row[place] = None if row[place] is None else writes(row[place])
+        records.writerow(row)
     return out.getvalue()
