@@ -22,7 +22,7 @@ from profiles import Undone, perform
 from tables import TABLES, columns_of, written
 
 HERE = os.path.dirname(os.path.abspath(__file__))
-TRIES = 10000
+TRIES = 1000
 # what changes no row but the queue's stands in the serial order as a reader does
 READERS = ("status", "stock")
 NOTHING_DELIVERED = ("skipped\n", "no delivery queued\n")
@@ -50,8 +50,8 @@ def options():
 class Run:
     """Clients at a database, and what each of them was answered."""
 
-    def __init__(self, database, conflicts):
-        self.database, self.conflicts = database, conflicts
+    def __init__(self, database, is_conflict):
+        self.database, self.is_conflict = database, is_conflict
         self.answers, self.again, self.failure = [], 0, None
         self.ends, self.lock, self.asking = itertools.count(), threading.Lock(), True
 
@@ -62,11 +62,11 @@ class Run:
                 session.begin()
                 screen, place, writes = self.attempt(session, request)
                 break
-            except self.conflicts:
+            except Exception as error:
                 session.rollback()
+                if not self.is_conflict(error) or tries == TRIES - 1:
+                    raise RuntimeError(f"{request}: tried {tries + 1} times") from error
                 time.sleep(random.uniform(0, 0.002 * min(tries + 1, 10)))
-        else:
-            raise RuntimeError(f"{request}: tried {TRIES} times")
         with self.lock:
             self.again += tries
             self.answers.append({"client": client, "request": request, "screen": screen,
@@ -170,7 +170,7 @@ def check(asked, opening, scratch):
     try:
         with open(os.path.join(HERE, "schema.sql"), encoding="utf-8") as it:
             database.load(it.read(), dumps)
-        run = Run(database, module.CONFLICTS)
+        run = Run(database, module.is_conflict)
         seconds = run.all(scripts)
         session = database.session()
         found = [it for it in run.answers if it["screen"] != "no delivery queued\n"]

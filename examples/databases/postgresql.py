@@ -18,9 +18,13 @@ from psycopg2 import errors
 from tables import TABLES, read
 
 LEVELS = ("serializable", "repeatable read", "read committed")
-# a transaction that meets one of these is tried again: another one has, or had, the row
-CONFLICTS = (errors.SerializationFailure, errors.DeadlockDetected, errors.UniqueViolation)
 SETTINGS = "-c listen_addresses= -c fsync=off -c synchronous_commit=off -c deadlock_timeout=20ms"
+CONFLICTS = (errors.SerializationFailure, errors.DeadlockDetected, errors.UniqueViolation)
+
+
+def is_conflict(error):
+    """Whether to try again: another has written, took the number, or each waits for the other."""
+    return isinstance(error, CONFLICTS)
 
 
 class Session:

@@ -5,8 +5,11 @@ import sqlite3
 from tables import TABLES, columns_of, read
 
 LEVELS = {"immediate": "BEGIN IMMEDIATE", "deferred": "BEGIN DEFERRED"}
-# a transaction that meets one of these is tried again: another one has, or had, the row
-CONFLICTS = (sqlite3.OperationalError, sqlite3.IntegrityError)
+
+
+def is_conflict(error):
+    """Whether to try again: another transaction is writing, has written, or took the number."""
+    return isinstance(error, sqlite3.IntegrityError) or "locked" in str(error)
 
 
 class Session:
