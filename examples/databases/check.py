@@ -210,8 +210,8 @@ def report(tpcc, run):
         print(line)
     screens = sum(where.startswith("request") for where, *_ in differences)
     tables = sum(where == "table" for where, *_ in differences)
-    print(f"{run['title']}: {screens} of {len(transcript)} screens and {tables} of 9 tables differ,"
-          f" {len(run['conditions'])} of 11 conditions are broken")
+    print(f"{run['title']}: {screens} of {len(transcript)} screens, {tables} of 9 tables,"
+          f" {len(run['conditions'])} of 11 conditions are wrong")
     pace = (f"{len(transcript)} requests, {len(transcript) / run['seconds']:.0f} a second,"
             f" {run['again']} tried again")
     if not differences and not run["conditions"]:

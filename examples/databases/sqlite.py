@@ -50,7 +50,7 @@ class Database:
     """A file in a scratch folder."""
 
     def __init__(self, folder, options, changes):
-        level = "none" if options.naive else options.isolation or "immediate"
+        level = "naive" if options.naive else options.isolation or "immediate"
         self.begins, self.changes = None if options.naive else LEVELS[level], changes
         self.path = os.path.join(folder, "sqlite.db")
         self.title = f"SQLite {sqlite3.sqlite_version}, {level}"
