@@ -88,7 +88,8 @@ def test_lines(db, lines):
     if not all(1 <= quantity <= 10 for _, _, quantity in lines):
         refuse("5 Quantity")
     for supply in {supply for _, supply, _ in lines}:
-        db.row("SELECT W_ID FROM WAREHOUSE WHERE W_ID = ?", supply) or refuse("6 NoSupply")
+        if not db.row("SELECT W_ID FROM WAREHOUSE WHERE W_ID = ?", supply):
+            refuse("6 NoSupply")
 
 
 def enter_line(db, w, d, number, place, item, supply, quantity):
