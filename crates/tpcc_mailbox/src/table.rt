@@ -69,7 +69,8 @@ pub(crate) fn step_word<J, A: Answers<J>, P: Play<Option<Mail<J, A>>, View<J>>>(
     requires own { seat.old.table_id ≡ shared.now.table_id }
     requires sized { IsSized shared.now.table_id }
     requires within { mailbox < shared.now.table_id.slots }
-    requires allowed { MayStep (λ j a. A.fits (A.label j) a) P.then shared.now.table_id.slots seat.old mailbox old new }
+    requires allowed { MayStep (λ j a. A.fits (A.label j) a) P.then
+        shared.now.table_id.slots seat.old mailbox old new }
     ensures seat { (seat.new.table_id ≡ seat.old.table_id) × (seat.new.id ≡ seat.old.id) }
     ensures told { P.then
         (step shared.now.table_id.slots (word_of mailbox) old new none)
